@@ -1,0 +1,3 @@
+pub mod Below
+pub mod Same_bytes
+pub mod Firsts

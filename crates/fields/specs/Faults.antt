@@ -1,0 +1,60 @@
+-- The numbers given back, and the first fault of several tests.
+use Prim.Native.Nat.{ℕ}
+use mathlib.Core.Bool.{Bool, true, false}
+use Rattle.fields.specs.declared.Fault.{Fault}
+use Rattle.fields.specs.declared.Fault.the-variants as named
+use Rattle.fields.specs.declared.Offset.{Offset}
+use Rattle.fields.specs.declared.Flaw.{Flaw}
+use Rattle.fields.specs.declared.Refusal.{Refusal}
+use Rattle.fields.specs.declared.Verdict.{Verdict}
+use Rattle.fields.specs.declared.Verdict.the-variants.{Sound, Flawed}
+
+abbrev pub numberOf : Fault → ℕ
+numberOf named.HiveShort = 1
+numberOf named.NoRegf = 2
+numberOf named.Checksum = 3
+numberOf named.Version = 4
+numberOf named.BinsSize = 5
+numberOf named.BinsCut = 6
+numberOf named.Sequences = 7
+numberOf named.MapSmall = 8
+numberOf named.BinHeader = 9
+numberOf named.CellSize = 10
+numberOf named.NoCell = 11
+numberOf named.Record = 12
+numberOf named.Order = 13
+numberOf named.Parent = 14
+numberOf named.Level = 15
+numberOf named.PathParts = 16
+numberOf named.NoKey = 17
+numberOf named.NoValue = 18
+numberOf named.Segmented = 19
+numberOf named.OutputShort = 20
+numberOf named.LogBase = 21
+numberOf named.LogShort = 22
+numberOf named.NoDirt = 23
+numberOf named.HiveCut = 24
+numberOf named.Stamps = 25
+numberOf named.NotDirty = 26
+numberOf named.NotIn = 27
+
+-- "Each refusal is a number and a place, here an offset in the bins data (0 unless stated)."
+abbrev pub flaw : Fault → Offset → Flaw
+flaw fault place = record { fault = fault; place = place }
+
+abbrev pub nowhere : Offset
+nowhere = record { 0 = 0 }
+
+abbrev pub refusalOf : Flaw → Refusal
+refusalOf f = record { fault = f .fault; place = f .place }
+
+-- a flaw where a test fails
+abbrev pub unless : Bool → Flaw → Verdict
+unless true f = Sound
+unless false f = Flawed f
+
+-- "The first fault in this order answers."
+infixr 60 _next_
+unfoldable pub _next_ : Verdict → Verdict → Verdict
+Sound next b = b
+(Flawed f) next b = Flawed f

@@ -1,0 +1,4 @@
+pub mod Number
+pub mod Bytes
+pub mod Position
+pub mod Faults
