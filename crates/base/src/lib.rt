@@ -1,0 +1,154 @@
+// The base block: tests 1 to 7, *usable*, *clean*, and the checksum.
+use fields::Fault;
+use fields::Offset;
+use fields::Verdict;
+ghost use mathlib.Core.Path.{_≡_};
+ghost use Prim.Native.Nat.{_+_, _≤_};
+ghost use lib.ListN.{length};
+ghost use Rattle.base.specs.Block.{isRegf, storedChecksum, isSummed, isVersion, isBinsSize, binsOf, usable as usableAs, isSettled, clean as cleanOf, blockFault, baseFault};
+
+// The most bytes that bins data may have.
+pub const BINS_LIMIT: u32 = 67108864;
+
+// Below, s is a file's first 512 bytes.
+
+fn is_regf(s: &[u8]) -> bool
+    requires { ⌜ 512 ≤ length (now s) ⌝ }
+    ensures { λ r. ⌜ r ≡ isRegf (now (s .entry)) ⌝ }
+{
+    fields::stands_at(s, 0, b"regf")
+}
+
+// The checksum that belongs at 508: the XOR of the 127 words before it.
+pub fn stored_checksum(s: &[u8]) -> u32
+    requires { ⌜ 512 ≤ length (now s) ⌝ }
+    ensures { λ r. ⌜ r ≡ storedChecksum (now (s .entry)) ⌝ }
+{
+    let mut sum: u32 = 0;
+    let mut k: usize = 0;
+    while k < 127 {
+        sum = sum ^ fields::u32_at(s, k * 4);
+        k += 1;
+    }
+    sum
+}
+
+fn is_summed(s: &[u8]) -> bool
+    requires { ⌜ 512 ≤ length (now s) ⌝ }
+    ensures { λ r. ⌜ r ≡ isSummed (now (s .entry)) ⌝ }
+{
+    fields::u32_at(s, 508) == stored_checksum(s)
+}
+
+fn is_version(s: &[u8], kind: u32) -> bool
+    requires { ⌜ 512 ≤ length (now s) ⌝ }
+    ensures { λ r. ⌜ r ≡ isVersion (now (s .entry)) kind ⌝ }
+{
+    if fields::u32_at(s, 20) != 1 {
+        return false;
+    }
+    let minor = fields::u32_at(s, 24);
+    if minor < 3 {
+        return false;
+    }
+    if 5 < minor {
+        return false;
+    }
+    if fields::u32_at(s, 28) != kind {
+        return false;
+    }
+    if fields::u32_at(s, 32) != 1 {
+        return false;
+    }
+    fields::u32_at(s, 44) == 1
+}
+
+fn is_bins_size(n: u32) -> bool
+    ensures { λ r. ⌜ r ≡ isBinsSize n ⌝ }
+{
+    if n == 0 {
+        return false;
+    }
+    if n % 4096 != 0 {
+        return false;
+    }
+    n <= BINS_LIMIT
+}
+
+// Whether the base block is usable, as a file of the given type: 0 for a hive, 1 or 2 for a log.
+pub fn usable(s: &[u8], kind: u32) -> bool
+    requires { ⌜ 512 ≤ length (now s) ⌝ }
+    ensures { λ r. ⌜ r ≡ usableAs (now (s .entry)) kind ⌝ }
+{
+    if !is_regf(s) {
+        return false;
+    }
+    if !is_summed(s) {
+        return false;
+    }
+    if !is_version(s, kind) {
+        return false;
+    }
+    is_bins_size(fields::u32_at(s, 40))
+}
+
+// Whether the two sequence numbers are equal.
+pub fn is_settled(s: &[u8]) -> bool
+    requires { ⌜ 512 ≤ length (now s) ⌝ }
+    ensures { λ r. ⌜ r ≡ isSettled (now (s .entry)) ⌝ }
+{
+    fields::u32_at(s, 4) == fields::u32_at(s, 8)
+}
+
+pub fn clean(s: &[u8]) -> bool
+    requires { ⌜ 512 ≤ length (now s) ⌝ }
+    ensures { λ r. ⌜ r ≡ cleanOf (now (s .entry)) ⌝ }
+{
+    if !usable(s, 0) {
+        return false;
+    }
+    is_settled(s)
+}
+
+// The tests 2 to 5 of a hive's first sector.
+fn block_flaw(s: &[u8]) -> Verdict
+    requires { ⌜ 512 ≤ length (now s) ⌝ }
+    ensures { λ r. ⌜ r ≡ blockFault (now (s .entry)) ⌝ }
+{
+    if !is_regf(s) {
+        return fields::flawed(Fault::NoRegf, Offset(0));
+    }
+    if !is_summed(s) {
+        return fields::flawed(Fault::Checksum, Offset(0));
+    }
+    if !is_version(s, 0) {
+        return fields::flawed(Fault::Version, Offset(0));
+    }
+    if !is_bins_size(fields::u32_at(s, 40)) {
+        return fields::flawed(Fault::BinsSize, Offset(0));
+    }
+    Verdict::Sound
+}
+
+// The reader's tests 1 to 7.
+pub fn base_flaw(hive: &[u8]) -> Verdict
+    ensures { λ r. ⌜ r ≡ baseFault (now (hive .entry)) ⌝ }
+{
+    if hive.len() < 4096 {
+        return fields::flawed(Fault::HiveShort, Offset(0));
+    }
+    let s = &hive[0..512];
+    match block_flaw(s) {
+        Verdict::Flawed(f) => Verdict::Flawed(f),
+        Verdict::Sound => {
+            let bins = fields::u32_at(s, 40) as usize;
+            if hive.len() - 4096 < bins {
+                return fields::flawed(Fault::BinsCut, Offset(0));
+            }
+            if !is_settled(s) {
+                return fields::flawed(Fault::Sequences, Offset(0));
+            }
+            Verdict::Sound
+        }
+    }
+}
