@@ -1,3 +1,4 @@
 pub mod Below
-pub mod Same_bytes
+pub mod Bools
 pub mod Firsts
+pub mod Same_bytes

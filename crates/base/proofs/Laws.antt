@@ -1,0 +1,95 @@
+-- What the crates above may know of a base block: what its soundness says, and that a file that is not clean is refused by the reader.
+use Prim.Native.Nat.{ℕ, _+_, _%_, _<_, _≤_}
+use native.Mathlib.Omega.{arith}
+use mathlib.Core.Path.{_≡_, refl, sym, ap, _∙_}
+use mathlib.Core.Bool.{Bool, true, false, not, _&&_}
+use mathlib.Core.Logic.{_↔_}
+use mathlib.Core.List.{List}
+use lib.Dec.{eqb, leb}
+use lib.ListN.{length}
+use borrow.Author.Tests.{le-leb, leb-true, eqb-true, eqb-false, not-true}
+use Rattle.fields.specs.declared.Flaw.{Flaw}
+use Rattle.fields.specs.declared.Verdict.{Verdict}
+use Rattle.fields.specs.declared.Fault.the-variants.{HiveShort, NoRegf, Checksum, Version, BinsSize, BinsCut, Sequences}
+use Rattle.fields.specs.declared.Verdict.the-variants.{Sound, Flawed}
+use Rattle.fields.specs.Faults.{flaw, nowhere, unless, _next_}
+use Rattle.fields.proofs.Firsts.{both, held, holds, sound}
+use Rattle.fields.proofs.Bools.{and-inv, and-both, never}
+use Rattle.base.specs.Block.{sector, isRegf, isSummed, isVersion, binsOf, binsLimit, isBinsSize, usable, isSettled, clean, blockFault, baseFault}
+
+-- a bins size field that passes
+pub record Sized (n : ℕ) : Type 0 where
+  pub some : 0 < n
+  pub pages : n % 4096 ≡ 0
+  pub limit : n ≤ binsLimit
+
+pub sized : (n : ℕ) → isBinsSize n ≡ true → Sized n
+unfolding isBinsSize
+sized n e =
+    let a = and-inv (not (eqb n 0)) _ e in
+    let b = and-inv (eqb (n % 4096) 0) _ (a .1) in
+    let z = eqb-false n 0 (not-true (eqb n 0) (a .0)) in
+    record { some = omega arith; pages = eqb-true (n % 4096) 0 (b .0); limit = leb-true n binsLimit (b .1) }
+
+module _ (s : List ℕ) where
+  pub usable-sized : (type : ℕ) → usable s type ≡ true → Sized (binsOf s)
+  unfolding usable
+  usable-sized type e =
+      let a = and-inv (isRegf s) _ e in
+      let b = and-inv (isSummed s) _ (a .1) in
+      sized (binsOf s) (and-inv (isVersion s type) _ (b .1) .1)
+
+  -- the tests 2 to 5 pass exactly when the block is usable
+  pub usable-block : usable s 0 ≡ true → blockFault s ≡ Sound
+  unfolding usable blockFault
+  usable-block e =
+      let a = and-inv (isRegf s) _ e in
+      let b = and-inv (isSummed s) _ (a .1) in
+      let d = and-inv (isVersion s 0) _ (b .1) in
+      sound _ _ (holds _ (a .0)) (sound _ _ (holds _ (b .0)) (sound _ _ (holds _ (d .0)) (holds _ (d .1))))
+
+  pub block-usable : blockFault s ≡ Sound → usable s 0 ≡ true
+  unfolding usable blockFault
+  block-usable e =
+      let a = both (unless (isRegf s) (flaw NoRegf nowhere)) _ e in
+      let b = both (unless (isSummed s) (flaw Checksum nowhere)) _ (a .1) in
+      let d = both (unless (isVersion s 0) (flaw Version nowhere)) _ (b .1) in
+      and-both (held (isRegf s) (flaw NoRegf nowhere) (a .0))
+      (and-both (held (isSummed s) (flaw Checksum nowhere) (b .0))
+      (and-both (held (isVersion s 0) (flaw Version nowhere) (d .0)) (held (isBinsSize (binsOf s)) (flaw BinsSize nowhere) (d .1))))
+
+-- a hive that passes the tests 1 to 7
+pub record Base (h : List ℕ) : Type 0 where
+  pub is-clean : clean (sector h) ≡ true
+  pub size : Sized (binsOf (sector h))
+  pub inside : 4096 + binsOf (sector h) ≤ length h
+
+module _ (h : List ℕ) where
+  pub base-facts : baseFault h ≡ Sound → Base h
+  unfolding baseFault clean
+  base-facts e =
+      let a = both (unless (leb 4096 (length h)) (flaw HiveShort nowhere)) _ e in
+      let b = both (blockFault (sector h)) _ (a .1) in
+      let d = both (unless (leb (4096 + binsOf (sector h)) (length h)) (flaw BinsCut nowhere)) _ (b .1) in
+      let u = block-usable (sector h) (b .0) in
+      record {
+        is-clean = and-both u (held (isSettled (sector h)) (flaw Sequences nowhere) (d .1));
+        size = usable-sized (sector h) 0 u;
+        inside = leb-true _ _ (held (leb (4096 + binsOf (sector h)) (length h)) (flaw BinsCut nowhere) (d .0));
+      }
+
+  -- and the converse: 1 to 7 are nothing else
+  pub facts-base : clean (sector h) ≡ true → 4096 + binsOf (sector h) ≤ length h → baseFault h ≡ Sound
+  unfolding baseFault clean
+  facts-base e p =
+      let a = and-inv (usable (sector h) 0) _ e in
+      sound _ _ (holds _ (le-leb 4096 (length h) (omega arith)))
+      (sound _ _ (usable-block (sector h) (a .0)) (sound _ _ (holds _ (le-leb _ _ p)) (holds _ (a .1))))
+
+  -- a file that is not clean is refused by the reader, with one of 1 to 7
+  pub unclean-refused : clean (sector h) ≡ false → (f : Flaw) × (baseFault h ≡ Flawed f)
+  unclean-refused e = by (baseFault h) refl
+    where
+      by : (v : Verdict) → baseFault h ≡ v → (f : Flaw) × (baseFault h ≡ Flawed f)
+      by Sound p = absurd (never _ (base-facts p .is-clean) e)
+      by (Flawed f) p = (f, p)
