@@ -1,0 +1,108 @@
+-- The map, bit by bit: bit k is set exactly when a cell in use starts at offset 8 k.
+use Prim.Native.Nat.{ℕ, zero, suc, _+_, _-_, _*_, _/_, _%_, _^_, _≤_, _<_, max}
+use native.Mathlib.Nat.{div-self, mod-lt, div-eq-of-lt, mul-comm, zero-mod, max-zero, div-div-eq-div-mul, div-one, pow-suc, mul-mod-left, mul-div-mul-right}
+use native.Mathlib.Omega.{arith}
+use mathlib.Core.Path.{_≡_, refl, sym, ap, _∙_}
+use mathlib.Core.Logic.{⊎-elim}
+use mathlib.Core.List.{List}
+use mathlib.Core.Bool.{Bool, true, false, cond, _&&_, _||_}
+use lib.Dec.{eqb, eqb·zero-suc, eqb·suc-zero, eqb·suc-suc, lit<}
+use lib.ListN.{length, getD, set}
+use lib.Seq.{getD-set-same, getD-set-other}
+use lib.Bits.{bitOr, or-step, or-shr}
+use lib.Arith.{digits-mod}
+use lib.Pow.{pow-pos, pow-lt, pow-add, shl-shr}
+use borrow.Author.Tests.{eq-eqb, ne-eqb, eqb-true, eqb-false, ltb-true}
+use lib.Dec.{ltb}
+use Rattle.fields.specs.Number.{sizeAt}
+use Rattle.cells.specs.Tiling.{tilingN, tiling, goodSize}
+use Rattle.cells.proofs.Steps.{Good, good, length-mark}
+use Rattle.fields.specs.declared.Size.{Size}
+use Rattle.cells.specs.Tiling.{Tiling, whole, bad, cell}
+use Rattle.cells.specs.Map.{markAt, marks, bitOf, starts}
+
+-- a bit of an or
+or-bit : (x y i : ℕ) → bitOr x y / 2 ^ i % 2 ≡ max (x / 2 ^ i % 2) (y / 2 ^ i % 2)
+or-bit x y i =
+    ap (λ (n : ℕ). n % 2) (or-shr x y i ∙ or-step (x / 2 ^ i) (y / 2 ^ i))
+    ∙ digits-mod _ {m = 2} (omega arith)
+
+abbrev pub flag : Bool → ℕ
+flag b = cond b 1 0
+
+-- a bit of a power
+pow-bit : (b i : ℕ) → 2 ^ b / 2 ^ i % 2 ≡ flag (eqb b i)
+pow-bit zero zero = refl
+pow-bit zero (suc i) = rw (div-eq-of-lt (pow-lt {i = 0} {j = suc i} (omega arith)), eqb·zero-suc i)
+pow-bit (suc b) zero = rw (div-one (2 ^ suc b), pow-suc 2 b, mul-mod-left (2 ^ b) 2, eqb·suc-zero b)
+pow-bit (suc b) (suc i) = rw (pow-suc 2 b, pow-suc 2 i, mul-div-mul-right (2 ^ b) (2 ^ i) (lit< tt), eqb·suc-suc b i) (pow-bit b i)
+
+eqb-cong : (a b c d : ℕ) → (a ≡ b → c ≡ d) → (c ≡ d → a ≡ b) → eqb a b ≡ eqb c d
+eqb-cong a b c d f g = by (eqb a b) refl
+  where
+    by : (t : Bool) → eqb a b ≡ t → eqb a b ≡ eqb c d
+    by true e = e ∙ sym (eq-eqb c d (f (eqb-true a b e)))
+    by false e = e ∙ sym (ne-eqb c d (λ q. eqb-false a b e (g q)))
+
+-- one mark: the bit of its offset is set, and every other is as it was
+mark-bit : (m : List ℕ) (at k : ℕ) → at % 8 ≡ 0 → at < length m * 64 → bitOf (markAt m at) k ≡ max (bitOf m k) (flag (eqb at (k * 8)))
+unfolding bitOf markAt
+mark-bit m at k e lt = by (eqb (at / 64) (k / 8)) refl
+  where
+    by : (t : Bool) → eqb (at / 64) (k / 8) ≡ t → bitOf (markAt m at) k ≡ max (bitOf m k) (flag (eqb at (k * 8)))
+    by true q =
+        let j : at / 64 ≡ k / 8 = eqb-true _ _ q in
+        let lt' : k / 8 < length m = omega arith in
+        rw (
+          j,
+          getD-set-same m (k / 8) (bitOr (getD m (k / 8) 0) (2 ^ (at / 8 % 8))) 0 lt',
+          or-bit,
+          pow-bit,
+          eqb-cong (at / 8 % 8) (k % 8) at (k * 8) (λ h. omega (arith, div-div-eq-div-mul at 8 8)) (λ h. omega (arith, div-div-eq-div-mul at 8 8)),
+        )
+    by false q =
+        let n = eqb-false (at / 64) (k / 8) q in
+        let o : eqb at (k * 8) ≡ false = ne-eqb at (k * 8) (λ h. n (omega arith)) in
+        rw (getD-set-other m (at / 64) (k / 8) (bitOr (getD m (at / 64) 0) (2 ^ (at / 8 % 8))) 0 (λ h. n (sym h)), o) (sym (max-zero _))
+
+-- each cell stands at a multiple of 8 below n
+unfoldable pub placed : Tiling → ℕ → Type 0
+placed whole n = Unit
+placed (bad at) n = Unit
+placed (cell at z t) n = (at % 8 ≡ 0) × (at < n) × placed t n
+
+flag-or : (a b : Bool) → flag (a || b) ≡ max (flag a) (flag b)
+flag-or true true = refl
+flag-or true false = refl
+flag-or false true = refl
+flag-or false false = refl
+
+pub marks-bit : (t : Tiling) (m : List ℕ) (k : ℕ) → placed t (length m * 64) → bitOf (marks t m) k ≡ max (bitOf m k) (flag (starts t (k * 8)))
+unfolding marks starts placed
+marks-bit whole m k p = sym (max-zero _)
+marks-bit (bad at) m k p = sym (max-zero _)
+marks-bit (cell at z t) m k p =
+    by (z .used) refl (λ m' e. marks-bit t m' k (rw e (p .2)))
+  where
+    by : (u : Bool) → z .used ≡ u
+        → ((m' : List ℕ) → length m' ≡ length m → bitOf (marks t m') k ≡ max (bitOf m' k) (flag (starts t (k * 8))))
+        → bitOf (marks (cell at z t) m) k ≡ max (bitOf m k) (flag (starts (cell at z t) (k * 8)))
+    by true u ih = rw u (ih (markAt m at) (length-mark m at) ∙ rw (mark-bit m at k (p .0) (p .1), flag-or) (omega arith))
+    by false u ih = rw u (ih m refl)
+
+module _ (h : List ℕ) (end : ℕ) (e8 : end % 8 ≡ 0) where
+  placedN : (f at : ℕ) → at % 8 ≡ 0 → placed (tilingN f h at end) end
+  unfolding placed tilingN
+  placedN zero at a8 = tt
+  placedN (suc f) at a8 = by (ltb at end) (goodSize (sizeAt h at .bytes) (end - at)) refl refl (λ g. placedN f _ (omega arith))
+    where
+      by : (t g : Bool) → ltb at end ≡ t → goodSize (sizeAt h at .bytes) (end - at) ≡ g
+          → (Good (sizeAt h at .bytes) (end - at) → placed (tilingN f h (at + sizeAt h at .bytes) end) end)
+          → placed (tilingN (suc f) h at end) end
+      by false g e q ih = rw e tt
+      by true false e q ih = rw (e, q) tt
+      by true true e q ih = rw (e, q) (a8, ltb-true at end e, ih (good _ _ q))
+
+pub tiling-placed : (h : List ℕ) (at end : ℕ) → at % 8 ≡ 0 → end % 8 ≡ 0 → placed (tiling h at end) end
+unfolding tiling
+tiling-placed h at end a8 e8 = placedN h end e8 (end - at) at a8

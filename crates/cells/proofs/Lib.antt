@@ -1,0 +1,9 @@
+pub mod Steps
+pub mod Total
+pub mod Bit
+pub mod Beyond
+pub mod Naming
+pub mod Marked
+pub mod Fronts
+pub mod Turns
+pub mod Cleared

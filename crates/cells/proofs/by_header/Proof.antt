@@ -1,0 +1,69 @@
+use Rattle.cells.proofs.Naming.{low, odd, past, unused, unsized, named}
+use Rattle.cells.proofs.Steps.{good}
+use borrow.Author.Tests.{not-true, not-false}
+use mathlib.Core.Path.{_≡_, sym, ap, _∙_}
+use native.Mathlib.Omega.{arith}
+use borrow.Author.Needs.{needs}
+use Rattle.cells.proofs.by_header.Statement.{statement}
+use Rattle.cells.proofs.by_header.Tie as tie
+
+cast-at : tie.Need-cast-at
+cast-at c = search needs
+
+returns : tie.Need-returns
+returns c = sym (low _ _ (c .if1 .taken))
+
+returns-2 : tie.Need-returns-2
+returns-2 c = sym (odd _ _ (c .before .if1 .left) (c .if2 .taken))
+
+add-if3 : tie.Need-add-if3
+add-if3 c = search needs
+
+returns-3 : tie.Need-returns-3
+returns-3 c = sym (past _ _ (c .before .before .if1 .left) (c .before .if2 .left) (c .if3 .taken))
+
+size-at-requires : tie.Need-size-at-requires
+size-at-requires c κs = search needs
+
+cast-n : tie.Need-cast-n
+cast-n c = search needs
+
+returns-4 : tie.Need-returns-4
+returns-4 c = sym (unused _ _ (c .before .before .before .before .before .before .if1 .left) (c .before .before .before .before .before .if2 .left) (c .before .before .before .before .if3 .left) _ (c .before .before .before .size-at .ensures) (not-true _ (c .if4 .taken)))
+
+sub-good-size : tie.Need-sub-good-size
+sub-good-size c = search needs
+
+good-size-requires : tie.Need-good-size-requires
+good-size-requires c κs = search needs
+
+returns-5 : tie.Need-returns-5
+returns-5 c = sym (unsized _ _ (c .before .before .before .before .before .before .before .before .if1 .left) (c .before .before .before .before .before .before .before .if2 .left) (c .before .before .before .before .before .before .if3 .left) _ (c .before .before .before .before .before .size-at .ensures) (not-false _ (c .before .before .if4 .left)) (sym (c .before .good-size .ensures) ∙ not-true _ (c .if5 .taken)))
+
+add-t12 : tie.Need-add-t12
+add-t12 c = search needs
+
+sub-t9 : tie.Need-sub-t9
+sub-t9 c = let g = good _ _ (sym (c .before .before .good-size .ensures) ∙ not-false _ (c .before .if5 .left)) in omega arith
+
+returns-6 : tie.Need-returns-6
+returns-6 c = sym (named _ _ (c .before .before .before .before .before .before .before .before .before .if1 .left) (c .before .before .before .before .before .before .before .before .if2 .left) (c .before .before .before .before .before .before .before .if3 .left) _ (c .before .before .before .before .before .before .size-at .ensures) (not-false _ (c .before .before .before .if4 .left)) (sym (c .before .before .good-size .ensures) ∙ not-false _ (c .before .if5 .left)))
+
+pub by-header-spec : {M : Type 1} → statement M
+by-header-spec =
+    tie.close
+    (tie.spec
+    cast-at
+    returns
+    returns-2
+    add-if3
+    returns-3
+    size-at-requires
+    cast-n
+    returns-4
+    sub-good-size
+    good-size-requires
+    returns-5
+    add-t12
+    sub-t9
+    returns-6)

@@ -1,0 +1,28 @@
+use Rattle.cells.specs.Named.{dataOf}
+use native.Mathlib.Nat.{add-sub-cancel-left}
+use borrow.Author.Needs.{needs}
+use Rattle.cells.proofs.cell_data.Statement.{statement}
+use Rattle.cells.proofs.cell_data.Tie as tie
+
+cast-at : tie.Need-cast-at
+cast-at c = search needs
+
+add-end : tie.Need-add-end
+add-end c = search needs
+
+sub-result : tie.Need-sub-result
+sub-result c = search needs
+
+part-result-start : tie.Need-part-result-start
+part-result-start c = search needs
+
+part-result-end : tie.Need-part-result-end
+part-result-end c = search needs
+
+returns : tie.Need-returns
+unfolding dataOf
+returns c = let k = c .before .before .before .args .c in rw (add-sub-cancel-left (k .at .0) (k .len))
+
+pub cell-data-spec : {M : Type 1} → statement M
+cell-data-spec =
+    tie.close (tie.spec cast-at add-end sub-result part-result-start part-result-end returns)

@@ -1,0 +1,30 @@
+use Prim.Native.Nat.{_/_, _%_}
+use native.Mathlib.Omega.{arith}
+use Rattle.cells.specs.Map.{markAt}
+use Rattle.cells.proofs.Steps.{shifted}
+use borrow.Author.Needs.{needs}
+use Rattle.cells.proofs.mark.Statement.{statement}
+use Rattle.cells.proofs.mark.Tie as tie
+
+slice-read-map : tie.Need-slice-read-map
+slice-read-map c = search needs
+
+cast-map : tie.Need-cast-map
+cast-map c = search needs
+
+shl-map : tie.Need-shl-map
+shl-map c = search needs
+
+slice-write-map : tie.Need-slice-write-map
+slice-write-map c = search needs
+
+same-length : tie.Need-same-length
+same-length c = search needs
+
+returns : tie.Need-returns
+unfolding markAt
+returns c = rw (shifted (c .before .args .at / 8 % 8) (omega arith))
+
+pub mark-spec : {M : Type 1} → statement M
+mark-spec =
+    tie.close (tie.spec slice-read-map cast-map shl-map slice-write-map same-length returns)

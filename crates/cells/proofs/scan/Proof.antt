@@ -1,0 +1,61 @@
+use Rattle.cells.proofs.Cleared.{cleared}
+use Rattle.cells.specs.Map.{marksAll, zeros, mapAfter}
+use mathlib.Core.Path.{_≡_, ap, _∙_}
+use lib.ListN.{length}
+use denote.Ref.{now}
+use Prim.Native.Nat.{_/_}
+use native.Mathlib.Omega.{arith}
+use borrow.Author.Needs.{needs}
+use Rattle.cells.proofs.scan.Statement.{statement}
+use Rattle.cells.proofs.scan.Tie as tie
+
+clear-requires : tie.Need-clear-requires
+clear-requires c κs = search needs
+
+walk-requires : tie.Need-walk-requires
+walk-requires c κs = search needs
+
+enum-told : tie.Need-enum-told
+enum-told c = search needs
+
+enum-told-2 : tie.Need-enum-told-2
+enum-told-2 c = search needs
+
+clear-requires-2 : tie.Need-clear-requires-2
+clear-requires-2 c κs = search needs
+
+same-length : tie.Need-same-length
+same-length c = search needs
+
+returns : tie.Need-returns
+unfolding mapAfter
+returns c = let w = c .before .before .before .before .walk .ensures in
+    (w .0, rw (c .enum-told .given .1) (w .1 ∙ ap (marksAll _) (c .before .before .before .before .before .before .before .before .clear .ensures)))
+
+same-length-2 : tie.Need-same-length-2
+same-length-2 c = search needs
+
+returns-2 : tie.Need-returns-2
+unfolding mapAfter
+returns-2 c = let s = c .before .before .before .before .before .before .before .before .before .before .before .before .before .before .before .before in
+    let d = now (s .args .bins) in
+    let w = c .before .before .before .before .before .before .before .before .walk .ensures in (
+      w .0,
+      rw (c .before .before .before .before .enum-told2 .given .1)
+          (c .before .before .clear2 .ensures ∙ ap (zeros (length d / 64)) (w .1 ∙ ap (marksAll _) (c .before .before .before .before .before .before .before .before .before .before .before .before .clear .ensures))
+          ∙ cleared (length d / 64) d (now (s .args .map)) (omega (arith, s .pre .pages))),
+    )
+
+pub scan-spec : {M : Type 1} → statement M
+scan-spec =
+    tie.close
+    (tie.spec
+    clear-requires
+    walk-requires
+    enum-told
+    enum-told-2
+    clear-requires-2
+    same-length
+    returns
+    same-length-2
+    returns-2)

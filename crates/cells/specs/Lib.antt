@@ -1,0 +1,4 @@
+pub mod Tiling
+pub mod Map
+pub mod Survey
+pub mod Named

@@ -1,0 +1,300 @@
+// Bins, cells and the work map. What the crates above may cite: `survey`, and the bounded cell that an offset names.
+//
+// Everything below the survey speaks of the bins data, the part of the hive from 4096 on, at offsets in it.
+use fields::Fault;
+use fields::Flaw;
+use fields::Offset;
+use fields::Verdict;
+ghost use mathlib.Core.Path.{_≡_};
+ghost use Prim.Native.Nat.{_+_, _-_, _*_, _/_, _%_, _≤_, _<_};
+ghost use lib.ListN.{length, take, drop};
+ghost use Rattle.cells.specs.Tiling.{goodSize, tiling, rowOf, binSize, layout, surveyOf, Bin, Data};
+ghost use Rattle.cells.specs.Map.{markAt, marks, marksAll, zeros, isMarked, mapAfter};
+ghost use Rattle.cells.specs.Named.{byHeader, cellOf, dataOf};
+ghost use Rattle.cells.specs.Survey.{frontFault, surveyAnswer, mapLeft};
+
+// "the absolute value is a nonzero multiple of 8 and stays inside the bin", of which room bytes are left.
+fn good_size(n: usize, room: usize) -> bool
+    ensures { λ r. ⌜ r ≡ goodSize n room ⌝ }
+{
+    if n == 0 {
+        return false;
+    }
+    if n % 8 != 0 {
+        return false;
+    }
+    n <= room
+}
+
+// Sets the bit of the cell in use at an offset.
+fn mark(map: &mut [u8], at: usize)
+    requires { ⌜ at < length (now map) * 64 ⌝ }
+    ensures { λ _. ⌜ now (map .exit) ≡ markAt (now (map .entry)) at ⌝ }
+{
+    let j = at / 64;
+    let b = at / 8 % 8;
+    map[j] = map[j] | 1u8 << b;
+}
+
+// The cells of one bin: the bytes in use and the free bytes, or the fault.
+enum Row {
+    Counted { used: usize, free: usize },
+    Bad(Flaw),
+}
+
+// Walks the cells from one offset to another, and sets the bit of each cell in use.
+fn tile(bins: &[u8], start: usize, end: usize, map: &mut [u8]) -> Row
+    requires { ⌜ Bin (now bins) (now map) start end ⌝ }
+    ensures { λ r. ⌜ r ≡ rowOf (tiling (now (bins .entry)) start end) 0 0 ⌝ }
+    ensures { λ _. ⌜ now (map .exit) ≡ marks (tiling (now (bins .entry)) start end) (now (map .entry)) ⌝ }
+{
+    let mut at = start;
+    let mut used: usize = 0;
+    let mut free: usize = 0;
+    while at < end {
+        let c = fields::size_at(bins, at);
+        let n = c.bytes as usize;
+        if !good_size(n, end - at) {
+            return Row::Bad(Flaw {
+                fault: Fault::CellSize,
+                place: Offset(at as u32),
+            });
+        }
+        let next = at + n;
+        if c.used {
+            mark(map, at);
+            used += n;
+        } else {
+            free += n;
+        }
+        at = next;
+    }
+    Row::Counted { used, free }
+}
+
+// The size of the bin at an offset, or 0 where its header is bad.
+fn bin_size(bins: &[u8], at: usize) -> usize
+    requires { ⌜ at + 32 ≤ length (now bins) ⌝ }
+    ensures { λ r. ⌜ r ≡ binSize (now (bins .entry)) at ⌝ }
+{
+    if !fields::stands_at(bins, at, b"hbin") {
+        return 0;
+    }
+    if fields::u32_at(bins, at + 4) as usize != at {
+        return 0;
+    }
+    let n = fields::u32_at(bins, at + 8) as usize;
+    if n % 4096 != 0 {
+        return 0;
+    }
+    if bins.len() - at < n {
+        return 0;
+    }
+    n
+}
+
+// What the tiling counts.
+pub struct Tally {
+    pub bins: usize,
+    pub used: usize,
+    pub free: usize,
+}
+
+pub enum Surveyed {
+    Tiled(Tally),
+    Refused(Flaw),
+}
+
+// Walks the bins, header before cells, and sets the bit of each cell in use up to the first fault.
+fn walk(bins: &[u8], map: &mut [u8]) -> Surveyed
+    requires { ⌜ Data (now bins) (now map) ⌝ }
+    ensures { λ r. ⌜ r ≡ surveyOf (layout (now (bins .entry)) 0) 0 0 0 ⌝ }
+    ensures { λ _. ⌜ now (map .exit) ≡ marksAll (layout (now (bins .entry)) 0) (now (map .entry)) ⌝ }
+{
+    let mut at: usize = 0;
+    let mut count: usize = 0;
+    let mut used: usize = 0;
+    let mut free: usize = 0;
+    while at < bins.len() {
+        let n = bin_size(bins, at);
+        if n == 0 {
+            return Surveyed::Refused(Flaw {
+                fault: Fault::BinHeader,
+                place: Offset(at as u32),
+            });
+        }
+        let next = at + n;
+        match tile(bins, at + 32, next, map) {
+            Row::Bad(f) => {
+                return Surveyed::Refused(f);
+            }
+            Row::Counted { used: u, free: f } => {
+                used += u;
+                free += f;
+            }
+        }
+        count += 1;
+        at = next;
+    }
+    Surveyed::Tiled(Tally {
+        bins: count,
+        used,
+        free,
+    })
+}
+
+// Clears the first n bytes of the map.
+fn clear(map: &mut [u8], n: usize)
+    requires { ⌜ n ≤ length (now map) ⌝ }
+    ensures { λ _. ⌜ now (map .exit) ≡ zeros n (now (map .entry)) ⌝ }
+{
+    let mut i: usize = 0;
+    while i < n {
+        map[i] = 0;
+        i += 1;
+    }
+}
+
+// The tests 9 and 10: one pass, with the map complete where the bins are good, else cleared.
+fn scan(bins: &[u8], map: &mut [u8]) -> Surveyed
+    requires { ⌜ Data (now bins) (now map) ⌝ }
+    ensures { λ r. ⌜ r ≡ surveyOf (layout (now (bins .entry)) 0) 0 0 0 ⌝ }
+    ensures { λ r. ⌜ now (map .exit) ≡ mapAfter (now (bins .entry)) r (now (map .entry)) ⌝ }
+{
+    let n = bins.len() / 64;
+    clear(map, n);
+    let r = walk(bins, map);
+    match r {
+        Surveyed::Tiled(_) => {}
+        Surveyed::Refused(_) => {
+            clear(map, n);
+        }
+    }
+    r
+}
+
+// The tests 1 to 8.
+fn front_flaw(hive: &[u8], room: usize) -> Verdict
+    ensures { λ r. ⌜ r ≡ frontFault (now (hive .entry)) room ⌝ }
+{
+    match base::base_flaw(hive) {
+        Verdict::Flawed(f) => Verdict::Flawed(f),
+        Verdict::Sound => {
+            let s = &hive[0..512];
+            let n = fields::u32_at(s, 40) as usize;
+            if room < n / 64 {
+                return fields::flawed(Fault::MapSmall, Offset(0));
+            }
+            Verdict::Sound
+        }
+    }
+}
+
+// The tests 1 to 10, with the work map.
+pub fn survey(hive: &[u8], map: &mut [u8]) -> Surveyed
+    ensures { λ r. ⌜ r ≡ surveyAnswer (now (hive .entry)) (length (now (map .entry))) ⌝ }
+    ensures { λ _. ⌜ now (map .exit) ≡ mapLeft (now (hive .entry)) (now (map .entry)) ⌝ }
+{
+    match front_flaw(hive, map.len()) {
+        Verdict::Flawed(f) => Surveyed::Refused(f),
+        Verdict::Sound => {
+            let s = &hive[0..512];
+            let end = 4096 + fields::u32_at(s, 40) as usize;
+            scan(&hive[4096..end], map)
+        }
+    }
+}
+
+// A cell's data: so many bytes from an offset.
+pub struct Cell {
+    pub at: Offset,
+    pub len: usize,
+}
+
+pub enum Found {
+    Named(Cell),
+    Missing(Flaw),
+}
+
+// The cell that an offset names, by its own header.
+fn by_header(bins: &[u8], o: Offset) -> Found
+    ensures { λ r. ⌜ r ≡ byHeader (now (bins .entry)) o ⌝ }
+{
+    let at = o.0 as usize;
+    let none = Flaw {
+        fault: Fault::NoCell,
+        place: o,
+    };
+    if at < 32 {
+        return Found::Missing(none);
+    }
+    if at % 8 != 0 {
+        return Found::Missing(none);
+    }
+    if bins.len() < at + 4 {
+        return Found::Missing(none);
+    }
+    let c = fields::size_at(bins, at);
+    let n = c.bytes as usize;
+    if !c.used {
+        return Found::Missing(none);
+    }
+    if !good_size(n, bins.len() - at) {
+        return Found::Missing(none);
+    }
+    Found::Named(Cell {
+        at: Offset(o.0 + 4),
+        len: n - 4,
+    })
+}
+
+// Whether the map has the bit of an offset set.
+fn is_marked(map: &[u8], o: Offset) -> bool
+    ensures { λ r. ⌜ r ≡ isMarked (now (map .entry)) (o .0) ⌝ }
+{
+    let at = o.0 as usize;
+    if at % 8 != 0 {
+        return false;
+    }
+    let j = at / 64;
+    if map.len() <= j {
+        return false;
+    }
+    let b = at / 8 % 8;
+    (map[j] >> b) % 2 == 1
+}
+
+// By which rule an offset names a cell: the check has a map, and lookup goes by the cell's own header.
+pub enum Rule {
+    Map,
+    Header,
+}
+
+// The data of the cell in use that an offset names, or 11 at that offset.
+pub fn find_cell(bins: &[u8], map: &[u8], rule: Rule, o: Offset) -> Found
+    ensures { λ r. ⌜ r ≡ cellOf rule (now (bins .entry)) (now (map .entry)) o ⌝ }
+{
+    match rule {
+        Rule::Header => by_header(bins, o),
+        Rule::Map => {
+            if is_marked(map, o) {
+                by_header(bins, o)
+            } else {
+                Found::Missing(Flaw {
+                    fault: Fault::NoCell,
+                    place: o,
+                })
+            }
+        }
+    }
+}
+
+// A cell's data, as a part of the bins data.
+pub fn cell_data(bins: &[u8], c: Cell) -> &[u8]
+    requires { ⌜ c .at .0 + c .len ≤ length (now bins) ⌝ }
+    ensures { λ r. ⌜ now r ≡ dataOf (now (bins .entry)) c ⌝ }
+{
+    let at = c.at.0 as usize;
+    let end = at + c.len;
+    &bins[at..end]
+}
