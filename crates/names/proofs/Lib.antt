@@ -1,0 +1,4 @@
+pub mod LawsCodes
+pub mod LawsUpper
+pub mod LawsOrder
+pub mod LawsHash
