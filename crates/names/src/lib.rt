@@ -80,9 +80,10 @@ pub fn compare_stored(a: &[u8], a_narrow: bool, b: &[u8], b_narrow: bool) -> Ord
         i += 1;
     }
     if i < b_count {
-        return Order::Before;
+        Order::Before
+    } else {
+        Order::Same
     }
-    Order::Same
 }
 
 // Whether a stored name is the given one, by the same comparison.

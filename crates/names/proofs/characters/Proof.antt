@@ -1,4 +1,3 @@
-use mathlib.Core.Path.{refl}
 use Rattle.names.specs.Codes.{charactersIn}
 use Rattle.names.proofs.characters.Statement.{statement}
 use Rattle.names.proofs.characters.Tie as tie

@@ -14,7 +14,7 @@ mul-u16-at : tie.Need-mul-u16-at
 mul-u16-at c = let r = two-room _ _ _ (c .before .before .pre) (c .if1 .left) in omega arith
 
 u16-at-requires : tie.Need-u16-at-requires
-u16-at-requires c κs = two-room _ _ _ (c .before .before .pre) (c .if1 .left)
+u16-at-requires c κs = let r = two-room _ _ _ (c .before .before .pre) (c .if1 .left) in omega arith
 
 returns : tie.Need-returns
 returns c = sym (one-code _ _ _ (c .before .before .before .pre) (c .before .if1 .taken))

@@ -1,10 +1,10 @@
 use borrow.Author.Needs.{needs}
 use native.Mathlib.Omega.{arith}
 use Prim.Native.Nat.{_-_}
-use mathlib.Core.Path.{_≡_, refl, sym, ap, _∙_}
+use mathlib.Core.Path.{_≡_, refl, sym, _∙_}
 use Rattle.names.specs.Codes.{codes}
 use Rattle.names.specs.Comparison.{compare}
-use Rattle.names.proofs.LawsOrder.{left, turn-below, turn-above, turn-level, turn-shorter, turn-longer, turn-ended}
+use Rattle.names.proofs.Turns.{left, turn-below, turn-above, turn-level, turn-shorter, turn-longer, turn-ended}
 use Rattle.names.proofs.compare_stored.Statement.{statement}
 use Rattle.names.proofs.compare_stored.Tie as tie
 

@@ -27,7 +27,7 @@ code-at-requires c κs = omega arith
 returns : tie.Need-returns Inv-loop μ-loop
 returns c =
     let l = c .before .before .before .loop in
-    sym (l .inv ∙ found _ _ (l .i) (omega arith) (sym (c .before .code-at .ensures) ∙ c .if1 .taken))
+    sym (l .inv ∙ found _ _ (l .i) (omega arith) (omega arith))
 
 add-i : tie.Need-add-i Inv-loop μ-loop
 add-i c = search needs

@@ -5,7 +5,8 @@ use mathlib.Core.Path.{_≡_, refl, sym, ap, _∙_}
 use lib.ListN.{length}
 use Rattle.names.specs.Codes.{codes}
 use Rattle.names.specs.Comparison.{isSame, sameName}
-use Rattle.names.proofs.LawsOrder.{left, unequal-length, turn-apart, turn-level, turn-ended}
+use Rattle.names.proofs.LawsOrder.{unequal-length}
+use Rattle.names.proofs.Turns.{left, turn-apart, turn-level, turn-ended}
 use Rattle.names.proofs.is_named.Statement.{statement}
 use Rattle.names.proofs.is_named.Tie as tie
 
