@@ -1,0 +1,17 @@
+use borrow.Author.Needs.{needs}
+use mathlib.Core.Path.{ap, _∙_}
+use Rattle.names.specs.Upper_case.{upper}
+use Rattle.names.proofs.capital_at.Statement.{statement}
+use Rattle.names.proofs.capital_at.Tie as tie
+
+code-at-requires : tie.Need-code-at-requires
+code-at-requires c κs = search needs
+
+upper-requires : tie.Need-upper-requires
+upper-requires c κs = search needs
+
+returns : tie.Need-returns
+returns c = c .upper .ensures ∙ ap upper (c .before .code-at .ensures)
+
+pub capital-at-spec : {M : Type 1} → statement M
+capital-at-spec = tie.close (tie.spec code-at-requires upper-requires returns)

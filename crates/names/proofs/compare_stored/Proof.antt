@@ -1,0 +1,82 @@
+use borrow.Author.Needs.{needs}
+use native.Mathlib.Omega.{arith}
+use Prim.Native.Nat.{_-_}
+use mathlib.Core.Path.{_≡_, refl, sym, _∙_}
+use Rattle.names.specs.Codes.{codes}
+use Rattle.names.specs.Comparison.{compare}
+use Rattle.names.proofs.Turns.{left, turn-below, turn-above, turn-level, turn-shorter, turn-longer, turn-ended}
+use Rattle.names.proofs.compare_stored.Statement.{statement}
+use Rattle.names.proofs.compare_stored.Tie as tie
+
+-- what is left decides
+abbrev Inv-loop : tie.InvT-loop
+Inv-loop a a-narrow b b-narrow a-count b-count i₀ i =
+    compare (codes a-narrow a) (codes b-narrow b) ≡ left (codes a-narrow a) (codes b-narrow b) i
+
+abbrev μ-loop : tie.MeasureT-loop
+μ-loop a a-narrow b b-narrow a-count b-count i₀ i = a-count - i
+
+count-requires : tie.Need-count-requires Inv-loop μ-loop
+count-requires c κs = search needs
+
+count-requires-2 : tie.Need-count-requires-2 Inv-loop μ-loop
+count-requires-2 c κs = search needs
+
+loop-holds : tie.Need-loop-holds Inv-loop μ-loop
+loop-holds c = refl
+
+returns : tie.Need-returns Inv-loop μ-loop
+returns c = let l = c .before .before .loop in sym (l .inv ∙ turn-longer _ _ (l .i) (omega arith) (omega arith))
+
+capital-at-requires : tie.Need-capital-at-requires Inv-loop μ-loop
+capital-at-requires c κs = omega arith
+
+capital-at-requires-2 : tie.Need-capital-at-requires-2 Inv-loop μ-loop
+capital-at-requires-2 c κs = omega arith
+
+returns-2 : tie.Need-returns-2 Inv-loop μ-loop
+returns-2 c =
+    let l = c .before .before .before .before .before .loop in
+    sym (l .inv ∙ turn-below _ _ (l .i) (omega arith) (omega arith) (omega arith))
+
+returns-3 : tie.Need-returns-3 Inv-loop μ-loop
+returns-3 c =
+    let l = c .before .before .before .before .before .before .loop in
+    sym (l .inv ∙ turn-above _ _ (l .i) (omega arith) (omega arith) (omega arith))
+
+add-i : tie.Need-add-i Inv-loop μ-loop
+add-i c = search needs
+
+loop-less : tie.Need-loop-less Inv-loop μ-loop
+loop-less c = search needs
+
+loop-again : tie.Need-loop-again Inv-loop μ-loop
+loop-again c =
+    let l = c .before .before .before .before .before .before .loop in
+    l .inv ∙ turn-level _ _ (l .i) (omega arith) (omega arith) (omega arith)
+
+returns-4 : tie.Need-returns-4 Inv-loop μ-loop
+returns-4 c = let l = c .before .before .loop in sym (l .inv ∙ turn-shorter _ _ (l .i) (omega arith) (omega arith))
+
+returns-5 : tie.Need-returns-5 Inv-loop μ-loop
+returns-5 c = let l = c .before .before .loop in sym (l .inv ∙ turn-ended _ _ (l .i) (omega arith) (omega arith))
+
+pub compare-stored-spec : {M : Type 1} → statement M
+compare-stored-spec =
+    tie.close
+    (tie.spec
+    Inv-loop
+    μ-loop
+    count-requires
+    count-requires-2
+    loop-holds
+    returns
+    capital-at-requires
+    capital-at-requires-2
+    returns-2
+    returns-3
+    add-i
+    loop-less
+    loop-again
+    returns-4
+    returns-5)

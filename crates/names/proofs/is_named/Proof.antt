@@ -1,0 +1,80 @@
+use borrow.Author.Needs.{needs}
+use native.Mathlib.Omega.{arith}
+use Prim.Native.Nat.{_-_}
+use mathlib.Core.Path.{_≡_, refl, sym, ap, _∙_}
+use lib.ListN.{length}
+use Rattle.names.specs.Codes.{codes}
+use Rattle.names.specs.Comparison.{isSame, sameName}
+use Rattle.names.proofs.LawsOrder.{unequal-length}
+use Rattle.names.proofs.Turns.{left, turn-apart, turn-level, turn-ended}
+use Rattle.names.proofs.is_named.Statement.{statement}
+use Rattle.names.proofs.is_named.Tie as tie
+
+-- what is left decides
+abbrev Inv-loop : tie.InvT-loop
+Inv-loop s narrow name i₀ i = sameName (codes narrow s) name ≡ isSame (left (codes narrow s) name i)
+
+abbrev μ-loop : tie.MeasureT-loop
+μ-loop s narrow name i₀ i = length name - i
+
+count-requires : tie.Need-count-requires Inv-loop μ-loop
+count-requires c κs = search needs
+
+returns : tie.Need-returns Inv-loop μ-loop
+returns c = sym (unequal-length _ _ (λ e. c .if1 .taken (c .before .count .ensures ∙ e)))
+
+loop-holds : tie.Need-loop-holds Inv-loop μ-loop
+unfolding sameName
+loop-holds c = refl
+
+capital-at-requires : tie.Need-capital-at-requires Inv-loop μ-loop
+capital-at-requires c κs = omega arith
+
+mul-upper : tie.Need-mul-upper Inv-loop μ-loop
+mul-upper c = search needs
+
+shared-slice-read-upper : tie.Need-shared-slice-read-upper Inv-loop μ-loop
+shared-slice-read-upper c = search needs
+
+upper-requires : tie.Need-upper-requires Inv-loop μ-loop
+upper-requires c κs = search needs
+
+returns-2 : tie.Need-returns-2 Inv-loop μ-loop
+returns-2 c =
+    let l = c .before .before .before .before .before .loop in
+    sym (l .inv ∙ turn-apart _ _ (l .i) (omega arith) (omega arith)
+    (λ e. c .if2 .taken (c .before .before .before .capital-at .ensures ∙ e ∙ sym (c .before .upper .ensures))))
+
+add-i : tie.Need-add-i Inv-loop μ-loop
+add-i c = search needs
+
+loop-less : tie.Need-loop-less Inv-loop μ-loop
+loop-less c = search needs
+
+loop-again : tie.Need-loop-again Inv-loop μ-loop
+loop-again c =
+    let l = c .before .before .before .before .before .loop in
+    l .inv ∙ ap isSame (turn-level _ _ (l .i) (omega arith) (omega arith)
+    (sym (c .before .before .before .capital-at .ensures) ∙ c .if2 .left ∙ c .before .upper .ensures))
+
+returns-3 : tie.Need-returns-3 Inv-loop μ-loop
+returns-3 c = let l = c .before .loop in sym (l .inv ∙ ap isSame (turn-ended _ _ (l .i) (omega arith) (omega arith)))
+
+pub is-named-spec : {M : Type 1} → statement M
+is-named-spec =
+    tie.close
+    (tie.spec
+    Inv-loop
+    μ-loop
+    count-requires
+    returns
+    loop-holds
+    capital-at-requires
+    mul-upper
+    shared-slice-read-upper
+    upper-requires
+    returns-2
+    add-i
+    loop-less
+    loop-again
+    returns-3)

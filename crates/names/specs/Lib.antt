@@ -1,0 +1,4 @@
+pub mod Codes
+pub mod Upper_case
+pub mod Comparison
+pub mod Hashing

@@ -1,0 +1,140 @@
+// Names: the codes of a stored name, upper case, order and hash. Names are read in place and never copied.
+ghost use mathlib.Core.Path.{_≡_};
+ghost use Prim.Native.Nat.{_<_};
+ghost use lib.ListN.{length, getD};
+ghost use Rattle.names.specs.Codes.{codes, charactersIn, hasCode, backslash};
+ghost use Rattle.names.specs.Upper_case.{upper};
+ghost use Rattle.names.specs.Comparison.{compare, sameName};
+ghost use Rattle.names.specs.Hashing.{mixed, hashOf};
+
+// How many characters a name of so many bytes has.
+pub fn characters(len: usize, narrow: bool) -> usize
+    ensures { λ r. ⌜ r ≡ charactersIn len narrow ⌝ }
+{
+    if narrow { len } else { len / 2 }
+}
+
+fn count(s: &[u8], narrow: bool) -> usize
+    ensures { λ r. ⌜ r ≡ length (codes narrow (now (s .entry))) ⌝ }
+{
+    characters(s.len(), narrow)
+}
+
+// "One byte means its own code", else a character is two bytes, little-endian.
+fn code_at(s: &[u8], narrow: bool, i: usize) -> u16
+    requires { ⌜ i < length (codes narrow (now s)) ⌝ }
+    ensures { λ r. ⌜ r ≡ getD (codes narrow (now (s .entry))) i 0 ⌝ }
+{
+    if narrow {
+        s[i] as u16
+    } else {
+        fields::u16_at(s, i * 2)
+    }
+}
+
+// "upper-casing a to z only"
+pub fn upper(c: u16) -> u16
+    ensures { λ r. ⌜ r ≡ upper c ⌝ }
+{
+    if c < 97 {
+        return c;
+    }
+    if 122 < c {
+        return c;
+    }
+    c - 32
+}
+
+fn capital_at(s: &[u8], narrow: bool, i: usize) -> u16
+    requires { ⌜ i < length (codes narrow (now s)) ⌝ }
+    ensures { λ r. ⌜ r ≡ upper (getD (codes narrow (now (s .entry))) i 0) ⌝ }
+{
+    upper(code_at(s, narrow, i))
+}
+
+pub enum Order {
+    Before,
+    Same,
+    After,
+}
+
+// "Names, also of values, are compared by code after upper-casing a to z only, a prefix before the longer name"
+pub fn compare_stored(a: &[u8], a_narrow: bool, b: &[u8], b_narrow: bool) -> Order
+    ensures { λ r. ⌜ r ≡ compare (codes «a_narrow» (now (a .entry))) (codes «b_narrow» (now (b .entry))) ⌝ }
+{
+    let a_count = count(a, a_narrow);
+    let b_count = count(b, b_narrow);
+    let mut i = 0;
+    while i < a_count {
+        if b_count <= i {
+            return Order::After;
+        }
+        let x = capital_at(a, a_narrow, i);
+        let y = capital_at(b, b_narrow, i);
+        if x < y {
+            return Order::Before;
+        }
+        if y < x {
+            return Order::After;
+        }
+        i += 1;
+    }
+    if i < b_count {
+        Order::Before
+    } else {
+        Order::Same
+    }
+}
+
+// Whether a stored name is the given one, by the same comparison.
+pub fn is_named(s: &[u8], narrow: bool, name: &[u16]) -> bool
+    ensures { λ r. ⌜ r ≡ sameName (codes narrow (now (s .entry))) (now (name .entry)) ⌝ }
+{
+    if count(s, narrow) != name.len() {
+        return false;
+    }
+    let mut i = 0;
+    while i < name.len() {
+        if capital_at(s, narrow, i) != upper(name[i]) {
+            return false;
+        }
+        i += 1;
+    }
+    true
+}
+
+// "A name has .. no backslash"
+pub fn has_backslash(s: &[u8], narrow: bool) -> bool
+    ensures { λ r. ⌜ r ≡ hasCode backslash (codes narrow (now (s .entry))) ⌝ }
+{
+    let end = count(s, narrow);
+    let mut i = 0;
+    while i < end {
+        if code_at(s, narrow, i) == 92 {
+            return true;
+        }
+        i += 1;
+    }
+    false
+}
+
+// "H = 37H + code, wrapping at 32 bits": the product is whole in 64 bits, and its remainder is the wrapped one.
+fn mix(h: u32, code: u16) -> u32
+    ensures { λ r. ⌜ r ≡ mixed h code ⌝ }
+{
+    ((37 * h as u64 + code as u64) % 4294967296) as u32
+}
+
+// "The hash starts at 0; for each upper-cased code, H = 37H + code, wrapping at 32 bits."
+pub fn hash(s: &[u8], narrow: bool) -> u32
+    ensures { λ r. ⌜ r ≡ hashOf (codes narrow (now (s .entry))) ⌝ }
+{
+    let end = count(s, narrow);
+    let mut h: u32 = 0;
+    let mut i = 0;
+    while i < end {
+        h = mix(h, capital_at(s, narrow, i));
+        i += 1;
+    }
+    h
+}
