@@ -10,6 +10,7 @@ use borrow.Author.Tests.{le-leb, lt-leb, eq-eqb, ne-eqb, leb-true, eqb-true}
 use Rattle.fields.specs.declared.Offset.{Offset}
 use Rattle.fields.specs.declared.Flaw.{Flaw}
 use Rattle.fields.specs.declared.Size.{Size}
+use Rattle.fields.specs.declared.Verdict.the-variants.{Sound, Flawed}
 use Rattle.fields.specs.declared.Fault.the-variants.{NoCell}
 use Rattle.fields.specs.Number.{sizeAt}
 use Rattle.fields.specs.Faults.{flaw}
@@ -21,7 +22,7 @@ use Rattle.cells.specs.declared.Rule.{Rule}
 use Rattle.cells.specs.declared.Rule.the-variants.{Map, Header}
 use Rattle.cells.specs.Tiling.{goodSize}
 use Rattle.cells.specs.Map.{isMarked}
-use Rattle.cells.specs.Named.{isNamed, cellAt, byHeader, cellOf, dataOf}
+use Rattle.cells.specs.Named.{isNamed, cellAt, byHeader, cellOf, verdictOf, cellFault, dataOf, dataAt}
 use Rattle.cells.proofs.Steps.{Good, good}
 
 module _ (d : List ℕ) (o : Offset) where
@@ -131,3 +132,38 @@ module _ (d : List ℕ) (o : Offset) where
 pub data-length : (d : List ℕ) (c : Cell) → c .at .0 + c .len ≤ length d → length (dataOf d c) ≡ c .len
 unfolding dataOf
 data-length d c p = simp (length-take, length-drop) (omega arith)
+
+-- What the upper crates' proofs use where `find_cell` answered: a cell that is found passes the test, and its data are those at the offset.
+module _ (r : Rule) (d m : List ℕ) (o : Offset) where
+  pub cell-sound : {c : Cell} → cellOf r d m o ≡ Named c → cellFault r d m o ≡ Sound
+  unfolding cellFault
+  cell-sound e = rw e
+
+  pub cell-flawed : {f : Flaw} → cellOf r d m o ≡ Missing f → cellFault r d m o ≡ Flawed f
+  unfolding cellFault
+  cell-flawed e = rw e
+
+  pub cell-data-at : {c : Cell} → cellOf r d m o ≡ Named c → dataOf d c ≡ dataAt d o
+  unfolding dataAt
+  cell-data-at e = ap (dataOf d) (found d o (by-either d o r m e) .1)
+
+  pub sound-names : cellFault r d m o ≡ Sound → Names d (o .0)
+  unfolding cellFault
+  sound-names e = by (cellOf r d m o) refl
+    where
+      by : (f : Found) → cellOf r d m o ≡ f → Names d (o .0)
+      by (Named c) p = names d (o .0) (found d o (by-either d o r m p) .0)
+      by (Missing f) p = let z : _≡_ {A = ℕ} 0 1 = cc in absurd (omega arith)
+
+  -- a fault of the cell is 11 at the offset itself
+  pub cell-fault-is : {f : Flaw} → cellFault r d m o ≡ Flawed f → f ≡ flaw NoCell o
+  unfolding cellFault
+  cell-fault-is {f} e = by (cellOf r d m o) refl
+    where
+      by : (x : Found) → cellOf r d m o ≡ x → f ≡ flaw NoCell o
+      by (Named c) p = let z : _≡_ {A = ℕ} 0 1 = cc in absurd (omega arith)
+      by (Missing g) p = let q : g ≡ f = cc in sym q ∙ missing d o r m p
+
+pub data-at-length : (d : List ℕ) (o : Offset) → Names d (o .0) → length (dataAt d o) ≡ sizeAt d (o .0) .bytes - 4
+unfolding dataAt
+data-at-length d o n = let s = n .sized in data-length d (cellAt d o) (omega arith)

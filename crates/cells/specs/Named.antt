@@ -7,6 +7,8 @@ use lib.ListN.{length, take, drop}
 use Rattle.fields.specs.declared.Offset.{Offset}
 use Rattle.fields.specs.declared.Size.{Size}
 use Rattle.fields.specs.declared.Fault.the-variants.{NoCell}
+use Rattle.fields.specs.declared.Verdict.{Verdict}
+use Rattle.fields.specs.declared.Verdict.the-variants.{Sound, Flawed}
 use Rattle.fields.specs.Number.{sizeAt}
 use Rattle.fields.specs.Faults.{flaw}
 use Rattle.cells.specs.declared.Cell.{Cell}
@@ -35,6 +37,18 @@ unfoldable pub cellOf : Rule → List ℕ → List ℕ → Offset → Found
 cellOf Header d m o = byHeader d o
 cellOf Map d m o = cond (isMarked m (o .0)) (byHeader d o) (Missing (flaw NoCell o))
 
+-- the test alone: sound where the offset names a cell
+abbrev pub verdictOf : Found → Verdict
+verdictOf (Named c) = Sound
+verdictOf (Missing f) = Flawed f
+
+unfoldable pub cellFault : Rule → List ℕ → List ℕ → Offset → Verdict
+cellFault r d m o = verdictOf (cellOf r d m o)
+
 -- the bytes of a cell's data
 unfoldable pub dataOf : List ℕ → Cell → List ℕ
 dataOf d c = take (c .len) (drop (c .at .0) d)
+
+-- the data of the cell at an offset, which upper definitions read
+unfoldable pub dataAt : List ℕ → Offset → List ℕ
+dataAt d o = dataOf d (cellAt d o)

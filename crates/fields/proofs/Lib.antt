@@ -1,4 +1,5 @@
 pub mod Below
 pub mod Bools
 pub mod Firsts
+pub mod Loops
 pub mod Same_bytes

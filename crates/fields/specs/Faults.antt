@@ -1,6 +1,7 @@
 -- The numbers given back, and the first fault of several tests.
 use Prim.Native.Nat.{ℕ}
 use mathlib.Core.Bool.{Bool, true, false}
+use mathlib.Core.List.{List, [], _∷_}
 use Rattle.fields.specs.declared.Fault.{Fault}
 use Rattle.fields.specs.declared.Fault.the-variants as named
 use Rattle.fields.specs.declared.Offset.{Offset}
@@ -58,3 +59,8 @@ infixr 60 _next_
 unfoldable pub _next_ : Verdict → Verdict → Verdict
 Sound next b = b
 (Flawed f) next b = Flawed f
+
+-- the first fault of some things, one after the other
+unfoldable pub faultOver : {A : Type 0} → (A → Verdict) → List A → Verdict
+faultOver each [] = Sound
+faultOver each (x ∷ xs) = each x next faultOver each xs
