@@ -16,7 +16,8 @@ use borrow.Author.Tests.{eq-eqb, ne-eqb, eqb-true, eqb-false, ltb-true}
 use lib.Dec.{ltb}
 use Rattle.fields.specs.Number.{sizeAt}
 use Rattle.cells.specs.Tiling.{tilingN, tiling, goodSize}
-use Rattle.cells.proofs.Steps.{Good, good, length-mark}
+use Rattle.cells.specs.Tiled.{Good}
+use Rattle.cells.proofs.Steps.{good, length-mark}
 use Rattle.fields.specs.declared.Size.{Size}
 use Rattle.cells.specs.Tiling.{Tiling, whole, bad, cell}
 use Rattle.cells.specs.Map.{markAt, marks, bitOf, starts}

@@ -7,3 +7,4 @@ pub mod Marked
 pub mod Fronts
 pub mod Turns
 pub mod Cleared
+pub mod Tiles

@@ -23,7 +23,8 @@ use Rattle.cells.specs.declared.Rule.the-variants.{Map, Header}
 use Rattle.cells.specs.Tiling.{goodSize}
 use Rattle.cells.specs.Map.{isMarked}
 use Rattle.cells.specs.Named.{isNamed, cellAt, byHeader, cellOf, verdictOf, cellFault, dataOf, dataAt}
-use Rattle.cells.proofs.Steps.{Good, good}
+use Rattle.cells.specs.Tiled.{Good}
+use Rattle.cells.proofs.Steps.{good}
 
 module _ (d : List ℕ) (o : Offset) where
   pub low : o .0 < 32 → byHeader d o ≡ Missing (flaw NoCell o)

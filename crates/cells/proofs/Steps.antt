@@ -7,22 +7,18 @@ use mathlib.Core.List.{List}
 use mathlib.Core.Bool.{Bool, true, false, not, _&&_}
 use lib.Dec.{eqb, leb, ltb}
 use lib.Pow.{shl-exact}
-use borrow.Author.Tests.{lt-ltb, le-ltb, ltb-true, ltb-false, leb-true, eqb-true, eqb-false, not-true}
+use borrow.Author.Tests.{lt-ltb, le-ltb, ltb-true, ltb-false, leb-true, eqb-true, eqb-false, not-true, ne-eqb, eq-eqb, le-leb}
 use Rattle.fields.specs.declared.Size.{Size}
 use Rattle.fields.proofs.Bools.{and-inv}
 use Rattle.fields.specs.Number.{sizeAt}
 use Rattle.cells.specs.Tiling.{goodSize, Tiling, whole, bad, cell, tilingN, tiling, rowOf}
 use Rattle.cells.specs.Map.{markAt, marks}
+use Rattle.cells.specs.Tiled.{Good}
 use lib.ListN.{length, length-set}
 
 -- the code's 1 << b
 pub shifted : (b : ℕ) → b < 8 → 1 * 2 ^ b % 256 ≡ 2 ^ b
 shifted b h = shl-exact {a = 1} 1 b 8 (omega arith) (omega arith) ∙ one-mul (2 ^ b)
-
-pub record Good (n room : ℕ) : Type 0 where
-  pub some : 0 < n
-  pub eights : n % 8 ≡ 0
-  pub inside : n ≤ room
 
 pub good : (n room : ℕ) → goodSize n room ≡ true → Good n room
 unfolding goodSize
@@ -33,6 +29,12 @@ good n room e =
     let e8 = eqb-true (n % 8) 0 (b .0) in
     let le = leb-true n room (b .1) in
     record { some = omega arith; eights = e8; inside = le }
+
+pub of-good : {n room : ℕ} → Good n room → goodSize n room ≡ true
+unfolding goodSize
+of-good {n} {room} g =
+    let z : n ≡ 0 → ⊥ = λ e. let s = g .some in omega arith in
+    rw (ne-eqb n 0 z, eq-eqb (n % 8) 0 (g .eights), le-leb n room (g .inside))
 
 -- one step, by the two tests
 pub atN : (k : ℕ) (h : List ℕ) (at end : ℕ) → end ≤ at → tilingN k h at end ≡ whole

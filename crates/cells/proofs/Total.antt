@@ -13,7 +13,8 @@ use Rattle.cells.specs.declared.Row.the-variants.{Counted, Bad}
 use Rattle.fields.specs.Number.{sizeAt}
 use Rattle.cells.specs.Tiling.{goodSize, Tiling, whole, bad, cell, tilingN, tiling, rowOf}
 use Rattle.cells.specs.Map.{marks, markAt}
-use Rattle.cells.proofs.Steps.{Good, good, atN, faultN, stepN, length-mark}
+use Rattle.cells.specs.Tiled.{Good}
+use Rattle.cells.proofs.Steps.{good, atN, faultN, stepN, length-mark}
 
 split : (b : Bool) (u f n : ℕ) → cond b (u + n) u + cond b f (f + n) ≡ u + f + n
 split true u f n = omega arith

@@ -2,3 +2,4 @@ pub mod Tiling
 pub mod Map
 pub mod Survey
 pub mod Named
+pub mod Tiled

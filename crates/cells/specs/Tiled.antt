@@ -1,0 +1,57 @@
+-- What it means that cells tile the bins, said without an order of tests. d is the bins data.
+use Prim.Native.Nat.{ℕ, _+_, _-_, _*_, _%_, _≤_, _<_}
+use mathlib.Core.Path.{_≡_}
+use mathlib.Core.Bool.{Bool, true}
+use mathlib.Core.List.{List, [], _∷_}
+use lib.ListN.{length}
+use Rattle.fields.specs.declared.Offset.{Offset}
+use Rattle.fields.specs.declared.Size.{Size}
+use Rattle.fields.specs.Number.{u32At, sizeAt}
+use Rattle.fields.specs.Bytes.{standsAt}
+use Rattle.cells.specs.Tiling.{layout}
+use Rattle.cells.specs.Map.{startsIn}
+
+-- "the absolute value is a nonzero multiple of 8 and stays inside the bin"
+pub record Good (n room : ℕ) : Type 0 where
+  pub some : 0 < n
+  pub eights : n % 8 ≡ 0
+  pub inside : n ≤ room
+
+-- "Cells tile the rest of each bin": from an offset to the bin's end
+pub data CellsTile (d : List ℕ) (end : ℕ) : ℕ → Type 0 where
+  cells-end : CellsTile d end end
+  cell-on : {at : ℕ} → at < end → Good (sizeAt d at .bytes) (end - at) → CellsTile d end (at + sizeAt d at .bytes) → CellsTile d end at
+
+-- "Header, 32 bytes: `hbin`, own offset at 4, size at 8 (nonzero multiple of 4096, ending inside the bins data)"
+pub record Header (d : List ℕ) (at n : ℕ) : Type 0 where
+  pub hbin : standsAt d at (104 ∷ 98 ∷ 105 ∷ 110 ∷ []) ≡ true
+  pub own : u32At d (at + 4) ≡ at
+  pub size : u32At d (at + 8) ≡ n
+  pub some : 0 < n
+  pub pages : n % 4096 ≡ 0
+  pub inside : at + n ≤ length d
+
+-- "Bins tile the bins data from offset 0": from an offset on
+pub data BinsTile (d : List ℕ) : ℕ → Type 0 where
+  bins-end : {at : ℕ} → at ≡ length d → BinsTile d at
+  bin-on : {at : ℕ} (n : ℕ) → Header d at n → CellsTile d (at + n) (at + 32) → BinsTile d (at + n) → BinsTile d at
+
+-- a cell in use starts at an offset
+abbrev pub InUse : List ℕ → Offset → Type 0
+InUse d o = startsIn (layout d 0) (o .0) ≡ true
+
+-- a cell that stands in the part from one offset to another, and is in use
+pub record CellIn (d : List ℕ) (low high o : ℕ) : Type 0 where
+  pub after : low ≤ o
+  pub before : o + sizeAt d o .bytes ≤ high
+  pub some : 0 < sizeAt d o .bytes
+  pub whole : sizeAt d o .bytes % 8 ≡ 0
+  pub eights : o % 8 ≡ 0
+  pub used : sizeAt d o .used ≡ true
+
+-- a cell in use lies wholly inside one bin, past its header
+pub record InBin (d : List ℕ) (o : ℕ) : Type 0 where
+  pub bin : ℕ
+  pub size : ℕ
+  pub header : Header d bin size
+  pub inside : CellIn d (bin + 32) (bin + size) o
