@@ -72,7 +72,7 @@ placed whole n = Unit
 placed (bad at) n = Unit
 placed (cell at z t) n = (at % 8 ≡ 0) × (at < n) × placed t n
 
-flag-or : (a b : Bool) → flag (a || b) ≡ max (flag a) (flag b)
+pub flag-or : (a b : Bool) → flag (a || b) ≡ max (flag a) (flag b)
 flag-or true true = refl
 flag-or true false = refl
 flag-or false true = refl
@@ -103,6 +103,12 @@ module _ (h : List ℕ) (end : ℕ) (e8 : end % 8 ≡ 0) where
       by false g e q ih = rw e tt
       by true false e q ih = rw (e, q) tt
       by true true e q ih = rw (e, q) (a8, ltb-true at end e, ih (good _ _ q))
+
+pub placed-more : (n o : ℕ) → n ≤ o → (t : Tiling) → placed t n → placed t o
+unfolding placed
+placed-more n o le whole p = tt
+placed-more n o le (bad at) p = tt
+placed-more n o le (cell at z t) p = let q = p .1 in (p .0, omega arith, placed-more n o le t (p .2))
 
 pub tiling-placed : (h : List ℕ) (at end : ℕ) → at % 8 ≡ 0 → end % 8 ≡ 0 → placed (tiling h at end) end
 unfolding tiling

@@ -8,3 +8,4 @@ pub mod Fronts
 pub mod Turns
 pub mod Cleared
 pub mod Tiles
+pub mod Mapped

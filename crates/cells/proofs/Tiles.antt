@@ -59,7 +59,7 @@ module _ (d : List ℕ) where
           cell-on lt g (ih lt g (rw (step d at end lt y) at e))
 
   -- and cells that tile a bin are counted
-  tile-counted : {at end : ℕ} → CellsTile d end at → (u f : ℕ) → (u' : ℕ) × (f' : ℕ) × (rowOf (tiling d at end) u f ≡ Counted u' f')
+  pub tile-counted : {at end : ℕ} → CellsTile d end at → (u f : ℕ) → (u' : ℕ) × (f' : ℕ) × (rowOf (tiling d at end) u f ≡ Counted u' f')
   unfolding rowOf
   tile-counted {at} {end} cells-end u f = (u, f, rw (done d end end (omega arith)))
   tile-counted {at} {end} (cell-on lt g t) u f =
@@ -91,13 +91,13 @@ module _ (d : List ℕ) where
           let l = leb-true s (length d - at) e₄ in
           record { hbin = e₁; own = eqb-true _ _ e₂; size = refl; some = omega arith; pages = eqb-true _ _ e₃; inside = omega arith }
 
-  of-header : {at n : ℕ} → Header d at n → binSize d at ≡ n
+  pub of-header : {at n : ℕ} → Header d at n → binSize d at ≡ n
   unfolding binSize
   of-header {at} {n} h =
       let i = h .inside in
       rw (h .hbin, eq-eqb (u32At d (at + 4)) at (h .own), h .size, eq-eqb (n % 4096) 0 (h .pages), le-leb n (length d - at) (omega arith))
 
-  of-header-some : {at n : ℕ} → Header d at n → binSize d at ≡ 0 → ⊥
+  pub of-header-some : {at n : ℕ} → Header d at n → binSize d at ≡ 0 → ⊥
   of-header-some h e = let s = h .some in let z = of-header h in omega arith
 
   bins-by : (k at c u f : ℕ) {t : Tally} → length d - at ≤ k → at ≤ length d → at % 4096 ≡ 0 → length d % 4096 ≡ 0

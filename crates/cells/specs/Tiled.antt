@@ -9,7 +9,7 @@ use Rattle.fields.specs.declared.Size.{Size}
 use Rattle.fields.specs.Number.{u32At, sizeAt}
 use Rattle.fields.specs.Bytes.{standsAt}
 use Rattle.cells.specs.Tiling.{layout}
-use Rattle.cells.specs.Map.{startsIn}
+use Rattle.cells.specs.Map.{isMarked, startsIn}
 
 -- "the absolute value is a nonzero multiple of 8 and stays inside the bin"
 pub record Good (n room : ℕ) : Type 0 where
@@ -55,3 +55,7 @@ pub record InBin (d : List ℕ) (o : ℕ) : Type 0 where
   pub size : ℕ
   pub header : Header d bin size
   pub inside : CellIn d (bin + 32) (bin + size) o
+
+-- "bit b of byte j (lowest bit first) is set exactly when a cell in use starts at offset 64j + 8b", of every offset in the bins data
+abbrev pub Mapped : List ℕ → List ℕ → Type 0
+Mapped d m = (o : ℕ) → o < length d → isMarked m o ≡ startsIn (layout d 0) o
