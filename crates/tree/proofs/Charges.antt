@@ -1,0 +1,92 @@
+-- The algebra of charges, and the parts of a key's charge.
+use Prim.Native.Nat.{ℕ, zero, suc, _≤_}
+use native.Mathlib.Omega.{arith}
+use mathlib.Core.Path.{_≡_, refl, sym, ap, _∙_}
+use mathlib.Core.List.{List, [], _∷_, _++_}
+use Rattle.fields.specs.declared.Offset.{Offset}
+use Rattle.fields.specs.declared.Refusal.{Refusal}
+use Rattle.fields.specs.declared.Verdict.{Verdict}
+use Rattle.fields.specs.declared.Verdict.the-variants.{Sound, Flawed}
+use Rattle.fields.specs.declared.Fault.the-variants.{Level}
+use Rattle.fields.specs.Faults.{flaw, _next_}
+use Rattle.fields.proofs.Firsts.{both}
+use Rattle.cells.specs.declared.Rule.the-variants.{Map}
+use Rattle.records.specs.declared.Child.{Child}
+use Rattle.records.specs.declared.Key.{Key}
+use Rattle.records.specs.Keys.{keyFault, keyOf}
+use Rattle.records.specs.Lists.{children, listsFault}
+use Rattle.values.specs.Lists.{valuesFault}
+use Rattle.tree.specs.declared.Charge.{Charge}
+use Rattle.tree.specs.declared.Charge.the-variants.{Free, Of}
+use Rattle.tree.specs.declared.Hive.{Hive}
+use Rattle.tree.specs.declared.Listed.{Listed}
+use Rattle.tree.specs.declared.Listed.the-variants.{Start, First, After}
+use Rattle.tree.specs.Tree.{_after_, chargeOf, placeFault, hashFault, levelFault, totalFault, ownFault, keyCharge, listCharge, treeCharge}
+
+pub both-free : (a b : Charge) → a after b ≡ Free → (a ≡ Free) × (b ≡ Free)
+unfolding _after_
+both-free Free b e = (refl, e)
+both-free (Of f) b e = absurd (let z : _≡_ {A = ℕ} 0 1 = cc in omega arith)
+
+pub free : (a b : Charge) → a ≡ Free → b ≡ Free → a after b ≡ Free
+unfolding _after_
+free a b p q = rw (p, q)
+
+pub after-assoc : (a b c : Charge) → (a after b) after c ≡ a after b after c
+unfolding _after_
+after-assoc Free b c = refl
+after-assoc (Of f) b c = refl
+
+pub clear-of : (v : Verdict) → chargeOf v ≡ Free → v ≡ Sound
+clear-of Sound e = refl
+clear-of (Flawed f) e = absurd (let z : _≡_ {A = ℕ} 0 1 = cc in omega arith)
+
+-- what a key's own tests say, part by part
+pub record Own (d m : List ℕ) (hive : Hive) (n : ℕ) (k : Key) (c : Child) (l : Listed) : Type 0 where
+  pub place : placeFault d (hive .root) k (c .at) l ≡ Sound
+  pub hash : hashFault d k c ≡ Sound
+  pub level : levelFault n (c .at) ≡ Sound
+  pub values : valuesFault Map d m (hive .minor) k ≡ Sound
+  pub lists : listsFault Map d m k ≡ Sound
+  pub total : totalFault d k (c .at) ≡ Sound
+
+module _ (d m : List ℕ) (hive : Hive) where
+  pub own-parts : (n : ℕ) (k : Key) (c : Child) (l : Listed) → ownFault d m hive n k c l ≡ Sound → Own d m hive n k c l
+  unfolding ownFault
+  own-parts n k c l e =
+      let p = both (placeFault d (hive .root) k (c .at) l) _ e in
+      let h = both (hashFault d k c) _ (p .1) in
+      let v = both (levelFault n (c .at)) _ (h .1) in
+      let x = both (valuesFault Map d m (hive .minor) k) _ (v .1) in
+      let y = both (listsFault Map d m k) _ (x .1) in
+      record { place = p .0; hash = h .0; level = v .0; values = x .0; lists = y .0; total = y .1 }
+
+  -- with no level left some charge stands
+  pub level-zero : (c : Child) → levelFault 0 (c .at) ≡ Sound → ⊥
+  unfolding levelFault
+  level-zero c e = let z : _≡_ {A = ℕ} 0 1 = cc in omega arith
+
+  pub key-parts : (n : ℕ) (c : Child) (l : Listed) → keyCharge d m hive n c l ≡ Free
+      → (keyFault Map d m (c .at) ≡ Sound) × Own d m hive n (keyOf d (c .at)) c l
+  unfolding keyCharge
+  key-parts n c l e =
+      let x = both-free (chargeOf (keyFault Map d m (c .at))) _ e in
+      (clear-of _ (x .0), own-parts n (keyOf d (c .at)) c l (clear-of _ (x .1)))
+
+  pub key-zero : (c : Child) (l : Listed) → keyCharge d m hive 0 c l ≡ Free → ⊥
+  key-zero c l e = level-zero c (key-parts 0 c l e .1 .level)
+
+  pub key-free : (n : ℕ) (c : Child) (l : Listed) → treeCharge d m hive n c l ≡ Free → keyCharge d m hive n c l ≡ Free
+  unfolding treeCharge
+  key-free zero c l e = e
+  key-free (suc n) c l e = both-free _ _ e .0
+
+  pub lists-free : (n : ℕ) (c : Child) (l : Listed) → treeCharge d m hive (suc n) c l ≡ Free
+      → listCharge (treeCharge d m hive n) (c .at) (First (c .at)) (children d (c .at)) ≡ Free
+  unfolding treeCharge
+  lists-free n c l e = both-free (keyCharge d m hive (suc n) c l) _ e .1
+
+  pub tree-free : (n : ℕ) (c : Child) (l : Listed) → keyCharge d m hive (suc n) c l ≡ Free
+      → listCharge (treeCharge d m hive n) (c .at) (First (c .at)) (children d (c .at)) ≡ Free → treeCharge d m hive (suc n) c l ≡ Free
+  unfolding treeCharge
+  tree-free n c l p q = free _ _ p q
