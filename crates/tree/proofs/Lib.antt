@@ -1,3 +1,5 @@
 pub mod Stands
 pub mod Charges
 pub mod Accepted
+pub mod Once
+
