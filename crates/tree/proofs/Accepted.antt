@@ -53,9 +53,10 @@ module _ (d m : List ℕ) (hive : Hive) (tiles : BinsTile d 0) (mapped : Mapped 
   parent-of : (k : Key) (at p : Offset) → parentFault (hive .root) k at p ≡ Sound → (k .parent .0 ≡ p .0) × (at .0 ≡ hive .root .0 → ⊥)
   unfolding parentFault
   parent-of k at p e =
-      let x = both (unless (eqb (k .parent .0) (p .0)) (flaw Parent at)) _ e in
-      (eqb-true _ _ (held (eqb (k .parent .0) (p .0)) (flaw Parent at) (x .0)),
-      eqb-false _ _ (not-true _ (held (not (eqb (at .0) (hive .root .0))) (flaw Parent at) (x .1))))
+      let x = both (unless (eqb (k .parent .0) (p .0)) (flaw Parent at)) _ e in (
+        eqb-true _ _ (held (eqb (k .parent .0) (p .0)) (flaw Parent at) (x .0)),
+        eqb-false _ _ (not-true _ (held (not (eqb (at .0) (hive .root .0))) (flaw Parent at) (x .1))),
+      )
 
   of-parent : (k : Key) (at p : Offset) → k .parent .0 ≡ p .0 → (at .0 ≡ hive .root .0 → ⊥) → parentFault (hive .root) k at p ≡ Sound
   unfolding parentFault

@@ -1,0 +1,93 @@
+-- "With a large enough work map, a hive is accepted exactly when it is clean and well formed."
+use Prim.Native.Nat.{ℕ, _+_, _*_, _/_, _%_, _≤_}
+use native.Mathlib.Omega.{arith}
+use mathlib.Core.Path.{_≡_, refl, sym, ap, _∙_}
+use mathlib.Core.Logic.{_↔_}
+use mathlib.Core.List.{List}
+use lib.ListN.{length, length-take, length-drop}
+use Rattle.fields.specs.declared.Verdict.the-variants.{Sound}
+use Rattle.base.specs.Block.{sector, binsOf, binsData, baseFault}
+use Rattle.base.proofs.Laws.{base-facts, facts-base}
+use Rattle.cells.specs.declared.Tally.{Tally}
+use Rattle.cells.specs.declared.Surveyed.{Surveyed}
+use Rattle.cells.specs.declared.Surveyed.the-variants.{Tiled, Refused as Untiled}
+use Rattle.cells.specs.Tiling.{layout, surveyOf}
+use Rattle.cells.specs.Survey.{frontFault, surveyAnswer, mapLeft}
+use Rattle.cells.proofs.Fronts.{front-facts, front-good, survey-on}
+use Rattle.cells.proofs.Tiles.{tiled-exactly}
+use Rattle.cells.proofs.Mapped.{After, surveyed}
+use Rattle.tree.specs.declared.Charge.{Charge}
+use Rattle.tree.specs.declared.Charge.the-variants.{Free, Of}
+use Rattle.tree.specs.declared.Checked.the-variants.{Accepted, Refused}
+use Rattle.tree.specs.declared.Listed.the-variants.{Start}
+use Rattle.tree.specs.declared.Report.{Report}
+use Rattle.tree.specs.Tree.{treeCharge, answer, onTiled, levels, hiveOf, rootChild, keysOf, valuesIn, reportOf, checkAnswer}
+use Rattle.tree.specs.WellFormed.{WellFormed, CleanAndWellFormed}
+use Rattle.tree.proofs.Accepted.{root-stands, root-free}
+
+accepted-free : (c : Charge) (r : Report) {s : Report} → answer c r ≡ Accepted s → (c ≡ Free) × (r ≡ s)
+accepted-free Free r e = (refl, cc)
+accepted-free (Of f) r e = absurd (let z : _≡_ {A = ℕ} 0 1 = cc in omega arith)
+
+-- what an accepted hive is
+pub record AcceptedAs (h m : List ℕ) (r : Report) : Type 0 where
+  pub tally : Tally
+  pub surveys : surveyAnswer h (length m) ≡ Tiled tally
+  pub free : treeCharge (binsData h) (mapLeft h m) (hiveOf h) levels (rootChild (hiveOf h)) Start ≡ Free
+  pub report : r ≡ reportOf h tally
+
+module _ (h m : List ℕ) where
+  pub accepted-as : {r : Report} → checkAnswer h m ≡ Accepted r → AcceptedAs h m r
+  unfolding checkAnswer
+  accepted-as {r} e = by (surveyAnswer h (length m)) refl
+    where
+      by : (s : Surveyed) → surveyAnswer h (length m) ≡ s → AcceptedAs h m r
+      by (Untiled f) p = absurd (let q = rw p at e in let z : _≡_ {A = ℕ} 0 1 = cc in omega arith)
+      by (Tiled t) p =
+          let q = rw p at e in
+          let x = accepted-free (treeCharge (binsData h) (mapLeft h m) (hiveOf h) levels (rootChild (hiveOf h)) Start) (reportOf h t) q in
+          record { tally = t; surveys = p; free = x .0; report = sym (x .1) }
+
+  pub accepted-formed : {r : Report} → checkAnswer h m ≡ Accepted r → CleanAndWellFormed h
+  accepted-formed e =
+      let a = accepted-as e in
+      let s = surveyed h m (a .tally) (a .surveys) in
+      let b = base-facts h (front-facts h (length m) (s .0) .0) in
+      let x = s .1 in
+      record {
+        is-clean = b .is-clean;
+        inside = b .inside;
+        formed = record { tiled = x .tiles; tree = root-stands (binsData h) (mapLeft h m) (hiveOf h) (x .tiles) (x .mapped) (a .free) };
+      }
+
+  bins-length : 4096 + binsOf (sector h) ≤ length h → length (binsData h) ≡ binsOf (sector h)
+  bins-length p = simp (length-take, length-drop) (omega arith)
+
+  pub formed-accepted : CleanAndWellFormed h → binsOf (sector h) / 64 ≤ length m → (r : Report) × (checkAnswer h m ≡ Accepted r)
+  unfolding checkAnswer
+  formed-accepted w room =
+      let base = facts-base h (w .is-clean) (w .inside) in
+      let b = base-facts h base in
+      let n = bins-length (w .inside) in
+      let t = tiled-exactly (binsData h) (omega (arith, b .size .pages)) .1 (w .formed .tiled) in
+      let s = survey-on h m (binsData h) (surveyOf (layout (binsData h) 0) 0 0 0) (front-good h (length m) base room) refl refl in
+      let q : surveyAnswer h (length m) ≡ Tiled (t .0) = s .0 ∙ t .1 in
+      let x = surveyed h m (t .0) q .1 in
+      let f = root-free (binsData h) (mapLeft h m) (hiveOf h) (x .tiles) (x .mapped) (w .formed .tree) in
+      (reportOf h (t .0), rw (q, f))
+
+  -- the theorem
+  pub accepted-exactly : binsOf (sector h) / 64 ≤ length m → ((r : Report) × (checkAnswer h m ≡ Accepted r)) ↔ CleanAndWellFormed h
+  accepted-exactly room = (λ x. accepted-formed (x .1), λ w. formed-accepted w room)
+
+  -- "32 x bins + used + free = bins size", in every accepted report
+  pub report-adds : {r : Report} → checkAnswer h m ≡ Accepted r → 32 * r .bins + r .used + r .free ≡ binsOf (sector h)
+  report-adds e =
+      let a = accepted-as e in
+      let s = surveyed h m (a .tally) (a .surveys) .1 in
+      let w = accepted-formed e in
+      rw (a .report) (s .adds ∙ bins-length (w .inside))
+
+  -- the report's keys and values are those of the pre-order listing
+  pub report-counts : {r : Report} → checkAnswer h m ≡ Accepted r → (r .keys ≡ length (keysOf h)) × (r .values ≡ valuesIn (binsData h) (keysOf h))
+  report-counts e = let a = accepted-as e in rw (a .report) (refl, refl)
