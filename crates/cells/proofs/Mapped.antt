@@ -107,6 +107,15 @@ module _ (d : List ℕ) where
           set-read : (x : List ℕ) → eqb (o % 8) 0 ≡ true → isMarked x o ≡ eqb (bitOf x (o / 8)) 1
           set-read x e = rw e
 
+  -- the header's rule names them too, with the same bounds
+  pub header-names : BinsTile d 0 → (m : List ℕ) (o : Offset) → InUse d o → cellOf Header d m o ≡ Named (cellAt d o)
+  unfolding cellOf byHeader
+  header-names b m o e = rw (in-use b o e)
+
+  pub header-sound : BinsTile d 0 → (m : List ℕ) (o : Offset) → InUse d o → cellFault Header d m o ≡ Sound
+  unfolding cellFault
+  header-sound b m o e = rw (header-names b m o e)
+
   -- the map names exactly the cells in use
   module _ (b : BinsTile d 0) (m : List ℕ) (mapped : Mapped d m) (o : Offset) where
     pub map-names : InUse d o → cellOf Map d m o ≡ Named (cellAt d o)

@@ -16,6 +16,7 @@ use Rattle.fields.specs.Faults.{flaw, unless, _next_}
 use Rattle.fields.proofs.Firsts.{on, both, sound, held, holds}
 use Rattle.cells.specs.declared.Rule.the-variants.{Map}
 use Rattle.cells.specs.Tiled.{BinsTile, Mapped}
+use Rattle.cells.proofs.Mapped.{in-use-sound}
 use Rattle.names.specs.declared.Order.{Order as Ordering}
 use Rattle.names.specs.declared.Order.the-variants.{Before, Same, After as Behind}
 use Rattle.names.specs.Comparison.{compare}
@@ -176,13 +177,13 @@ module _ (d m : List ℕ) (hive : Hive) (tiles : BinsTile d 0) (mapped : Mapped 
       → hashFault d (keyOf d (c .at)) c ≡ Sound → keyCharge d m hive (suc n) c l ≡ Free
   unfolding keyCharge ownFault levelFault
   of-stands n c l s p h =
-      free _ _ (ap chargeOf (of-key d m tiles mapped (c .at) (s .in-use) (s .record-good)))
+      free _ _ (ap chargeOf (of-key Map d m (in-use-sound d tiles m mapped) (c .at) (s .in-use) (s .record-good)))
       (ap chargeOf
       (sound _ _ p
       (sound _ _ h
       (sound Sound _ refl
-      (sound _ _ (of-values d m tiles mapped (hive .minor) (keyOf d (c .at)) (s .values))
-      (sound _ _ (of-lists d m tiles mapped (keyOf d (c .at)) (s .lists)) (of-total (keyOf d (c .at)) (c .at) (s .total))))))))
+      (sound _ _ (of-values Map d m (in-use-sound d tiles m mapped) (hive .minor) (keyOf d (c .at)) (s .values))
+      (sound _ _ (of-lists Map d m (in-use-sound d tiles m mapped) (keyOf d (c .at)) (s .lists)) (of-total (keyOf d (c .at)) (c .at) (s .total))))))))
 
   first-of : (p : Offset) (c : Child) → ChildStands d (hive .root) p c → placeFault d (hive .root) (keyOf d (c .at)) (c .at) (First p) ≡ Sound
   unfolding placeFault

@@ -15,10 +15,11 @@ use Rattle.fields.specs.declared.Fault.the-variants.{Record, Parent}
 use Rattle.fields.specs.Faults.{flaw, unless, _next_, faultOver}
 use Rattle.fields.proofs.Firsts.{both, sound, held, holds}
 use Rattle.fields.proofs.Loops.{over-each, each-over}
+use Rattle.cells.specs.declared.Rule.{Rule}
 use Rattle.cells.specs.declared.Rule.the-variants.{Map}
 use Rattle.cells.specs.Named.{cellFault, dataAt}
 use Rattle.cells.specs.Tiled.{BinsTile, InUse, Mapped}
-use Rattle.cells.proofs.Mapped.{sound-in-use, in-use-sound}
+use Rattle.cells.proofs.Mapped.{sound-in-use}
 use Rattle.records.specs.declared.Key.{Key}
 use Rattle.records.specs.Keys.{isKey, keyFault, keyOf}
 use Rattle.records.specs.Lists.{isRi, isLeaf, isList, leavesOf, leafFault, headFault, listFault, listsFault}
@@ -41,23 +42,72 @@ zero-or n {v} f = by (eqb n 0) refl
     by true e = rw e
     by false e = rw e (f (eqb-false n 0 e))
 
+-- what stands passes its tests, by either rule that names the cells in use
+module _ (r : Rule) (d m : List ℕ) (named : (o : Offset) → InUse d o → cellFault r d m o ≡ Sound) where
+  -- a cell, then a test of its data
+  pub of-cell : (o : Offset) (t : Bool) (f : Flaw) → InUse d o → t ≡ true → cellFault r d m o next unless t f ≡ Sound
+  of-cell o t f u e = sound _ _ (named o u) (holds {t = t} f e)
+
+  pub of-room : (o : Offset) (n : ℕ) → Room d o n → roomFault r d m o n ≡ Sound
+  unfolding roomFault
+  of-room o n r = of-cell o (leb n (length (dataAt d o))) (flaw Record o) (r .in-use) (le-leb _ _ (r .room))
+
+  pub of-segments : (o : Offset) (n : ℕ) → Segmented d o n → segmentsFault r d m o n ≡ Sound
+  unfolding segmentsFault dbFault segmentFault
+  of-segments o n s =
+      sound _ _ (of-cell o (isDb (dataAt d o) n) (flaw Record o) (s .in-use) (s .db))
+      (sound _ _ (of-room _ _ (s .list))
+      (each-over (segmentFault r d m) (segmentsOf d o n) (λ x i. of-room (x .at) (x .len) (s .each x i))))
+
+  pub of-data : (x : ValueData) → DataStands d x → dataFault r d m x ≡ Sound
+  unfolding dataFault
+  of-data (Inline at len) s = refl
+  of-data (OneCell o len) s = zero-or len (λ ne. of-room o len (s ne))
+  of-data (Segments o len) s = of-segments o len s
+
+  module _ (minor : ℕ) where
+    pub of-value : (v : Offset) → ValueStands d minor v → wholeValueFault r d m minor v ≡ Sound
+    unfolding wholeValueFault valueFault
+    of-value v s =
+        sound _ _ (of-cell v (isValue (dataAt d v)) (flaw Record v) (s .in-use) (s .record-good)) (of-data (dataIn d minor v) (s .held))
+
+    pub of-values : (k : Key) → ValuesStand d minor k → valuesFault r d m minor k ≡ Sound
+    unfolding valuesFault valueListFault
+    of-values k s =
+        sound _ _ (zero-or (k .values) (λ ne. of-room _ _ (s .list ne)))
+        (each-over (wholeValueFault r d m minor) (valuesOf d k) (λ v i. of-value v (s .each v i)))
+
+  pub of-leaf : (o : Offset) → LeafStands d o → leafFault r d m o ≡ Sound
+  unfolding leafFault
+  of-leaf o s = of-cell o (isLeaf (dataAt d o)) (flaw Record o) (s .in-use) (s .record-good)
+
+  pub of-list : (o : Offset) → ListStands d o → listFault r d m o ≡ Sound
+  unfolding listFault headFault
+  of-list o s =
+      sound _ _ (of-cell o (isList (dataAt d o)) (flaw Record o) (s .in-use) (s .record-good)) (by (isRi (dataAt d o)) refl)
+    where
+      by : (t : Bool) → isRi (dataAt d o) ≡ t → cond (isRi (dataAt d o)) (faultOver (leafFault r d m) (leavesOf d o)) Sound ≡ Sound
+      by true e = rw e (each-over (leafFault r d m) (leavesOf d o) (λ l i. of-leaf l (s .leaves e l i)))
+      by false e = rw e
+
+  pub of-lists : (k : Key) → ((k .subkeys ≡ 0 → ⊥) → ListStands d (k .list)) → listsFault r d m k ≡ Sound
+  unfolding listsFault
+  of-lists k s = zero-or (k .subkeys) (λ ne. of-list (k .list) (s ne))
+
+  pub of-key : (o : Offset) → InUse d o → isKey (dataAt d o) ≡ true → keyFault r d m o ≡ Sound
+  unfolding keyFault
+  of-key o u e = of-cell o (isKey (dataAt d o)) (flaw Record o) u e
+
+-- what passes its tests by the map stands, on bins data that are tiled
 module _ (d m : List ℕ) (tiles : BinsTile d 0) (mapped : Mapped d m) where
   -- a cell, then a test of its data: 11, or 12 there
   cell-of : (o : Offset) (t : Bool) (f : Flaw) → cellFault Map d m o next unless t f ≡ Sound → InUse d o × (t ≡ true)
   cell-of o t f e = let x = both (cellFault Map d m o) _ e in (sound-in-use d tiles m mapped o (x .0), held t f (x .1))
 
-  of-cell : (o : Offset) (t : Bool) (f : Flaw) → InUse d o → t ≡ true → cellFault Map d m o next unless t f ≡ Sound
-  of-cell o t f u e = sound _ _ (in-use-sound d tiles m mapped o u) (holds {t = t} f e)
-
   room-of : (o : Offset) (n : ℕ) → roomFault Map d m o n ≡ Sound → Room d o n
   unfolding roomFault
   room-of o n e = let x = cell-of o (leb n (length (dataAt d o))) (flaw Record o) e in record { in-use = x .0; room = leb-true _ _ (x .1) }
 
-  of-room : (o : Offset) (n : ℕ) → Room d o n → roomFault Map d m o n ≡ Sound
-  unfolding roomFault
-  of-room o n r = of-cell o (leb n (length (dataAt d o))) (flaw Record o) (r .in-use) (le-leb _ _ (r .room))
-
-  -- values and their data
   segments-of : (o : Offset) (n : ℕ) → segmentsFault Map d m o n ≡ Sound → Segmented d o n
   unfolding segmentsFault dbFault segmentFault
   segments-of o n e =
@@ -71,24 +121,11 @@ module _ (d m : List ℕ) (tiles : BinsTile d 0) (mapped : Mapped d m) where
         each = λ s i. room-of (s .at) (s .len) (over-each (segmentFault Map d m) (segmentsOf d o n) (y .1) s i);
       }
 
-  of-segments : (o : Offset) (n : ℕ) → Segmented d o n → segmentsFault Map d m o n ≡ Sound
-  unfolding segmentsFault dbFault segmentFault
-  of-segments o n s =
-      sound _ _ (of-cell o (isDb (dataAt d o) n) (flaw Record o) (s .in-use) (s .db))
-      (sound _ _ (of-room _ _ (s .list))
-      (each-over (segmentFault Map d m) (segmentsOf d o n) (λ x i. of-room (x .at) (x .len) (s .each x i))))
-
   data-of : (x : ValueData) → dataFault Map d m x ≡ Sound → DataStands d x
   unfolding dataFault
   data-of (Inline at len) e = tt
   data-of (OneCell o len) e = λ ne. room-of o len (unless-zero len e ne)
   data-of (Segments o len) e = segments-of o len e
-
-  of-data : (x : ValueData) → DataStands d x → dataFault Map d m x ≡ Sound
-  unfolding dataFault
-  of-data (Inline at len) s = refl
-  of-data (OneCell o len) s = zero-or len (λ ne. of-room o len (s ne))
-  of-data (Segments o len) s = of-segments o len s
 
   module _ (minor : ℕ) where
     value-of : (v : Offset) → wholeValueFault Map d m minor v ≡ Sound → ValueStands d minor v
@@ -97,11 +134,6 @@ module _ (d m : List ℕ) (tiles : BinsTile d 0) (mapped : Mapped d m) where
         let x = both (valueFault Map d m v) _ e in
         let y = cell-of v (isValue (dataAt d v)) (flaw Record v) (x .0) in
         record { in-use = y .0; record-good = y .1; held = data-of (dataIn d minor v) (x .1) }
-
-    of-value : (v : Offset) → ValueStands d minor v → wholeValueFault Map d m minor v ≡ Sound
-    unfolding wholeValueFault valueFault
-    of-value v s =
-        sound _ _ (of-cell v (isValue (dataAt d v)) (flaw Record v) (s .in-use) (s .record-good)) (of-data (dataIn d minor v) (s .held))
 
     pub values-of : (k : Key) → valuesFault Map d m minor k ≡ Sound → ValuesStand d minor k
     unfolding valuesFault valueListFault
@@ -112,20 +144,9 @@ module _ (d m : List ℕ) (tiles : BinsTile d 0) (mapped : Mapped d m) where
           each = λ v i. value-of v (over-each (wholeValueFault Map d m minor) (valuesOf d k) (x .1) v i);
         }
 
-    pub of-values : (k : Key) → ValuesStand d minor k → valuesFault Map d m minor k ≡ Sound
-    unfolding valuesFault valueListFault
-    of-values k s =
-        sound _ _ (zero-or (k .values) (λ ne. of-room _ _ (s .list ne)))
-        (each-over (wholeValueFault Map d m minor) (valuesOf d k) (λ v i. of-value v (s .each v i)))
-
-  -- lists
   leaf-of : (o : Offset) → leafFault Map d m o ≡ Sound → LeafStands d o
   unfolding leafFault
   leaf-of o e = let x = cell-of o (isLeaf (dataAt d o)) (flaw Record o) e in record { in-use = x .0; record-good = x .1 }
-
-  of-leaf : (o : Offset) → LeafStands d o → leafFault Map d m o ≡ Sound
-  unfolding leafFault
-  of-leaf o s = of-cell o (isLeaf (dataAt d o)) (flaw Record o) (s .in-use) (s .record-good)
 
   list-of : (o : Offset) → listFault Map d m o ≡ Sound → ListStands d o
   unfolding listFault headFault
@@ -138,28 +159,10 @@ module _ (d m : List ℕ) (tiles : BinsTile d 0) (mapped : Mapped d m) where
         leaves = λ r l i. leaf-of l (over-each (leafFault Map d m) (leavesOf d o) (rw r at (x .1)) l i);
       }
 
-  of-list : (o : Offset) → ListStands d o → listFault Map d m o ≡ Sound
-  unfolding listFault headFault
-  of-list o s =
-      sound _ _ (of-cell o (isList (dataAt d o)) (flaw Record o) (s .in-use) (s .record-good)) (by (isRi (dataAt d o)) refl)
-    where
-      by : (t : Bool) → isRi (dataAt d o) ≡ t → cond (isRi (dataAt d o)) (faultOver (leafFault Map d m) (leavesOf d o)) Sound ≡ Sound
-      by true e = rw e (each-over (leafFault Map d m) (leavesOf d o) (λ l i. of-leaf l (s .leaves e l i)))
-      by false e = rw e
-
   pub lists-of : (k : Key) → listsFault Map d m k ≡ Sound → (k .subkeys ≡ 0 → ⊥) → ListStands d (k .list)
   unfolding listsFault
   lists-of k e ne = list-of (k .list) (unless-zero (k .subkeys) e ne)
 
-  pub of-lists : (k : Key) → ((k .subkeys ≡ 0 → ⊥) → ListStands d (k .list)) → listsFault Map d m k ≡ Sound
-  unfolding listsFault
-  of-lists k s = zero-or (k .subkeys) (λ ne. of-list (k .list) (s ne))
-
-  -- a key's record
   pub key-of : (o : Offset) → keyFault Map d m o ≡ Sound → InUse d o × (isKey (dataAt d o) ≡ true)
   unfolding keyFault
   key-of o e = cell-of o (isKey (dataAt d o)) (flaw Record o) e
-
-  pub of-key : (o : Offset) → InUse d o → isKey (dataAt d o) ≡ true → keyFault Map d m o ≡ Sound
-  unfolding keyFault
-  of-key o u e = of-cell o (isKey (dataAt d o)) (flaw Record o) u e

@@ -1,0 +1,134 @@
+-- The answers of the calls: "Order: 1 to 7; 16; then the records in list order up to the first match [..]; 17; 18; for a view 19 before any data cell
+-- is read; then the data's own 11 or 12." h is the hive, us the path, x the value's name.
+use Prim.Native.Nat.{ℕ, _+_}
+use mathlib.Core.Bool.{Bool, true, false, cond}
+use mathlib.Core.List.{List, [], _++_}
+use lib.Dec.{eqb, leb}
+use lib.ListN.{length, take, drop}
+use Rattle.fields.specs.declared.Flaw.{Flaw}
+use Rattle.fields.specs.declared.Offset.{Offset}
+use Rattle.fields.specs.declared.Place.{Place}
+use Rattle.fields.specs.declared.Refusal.{Refusal}
+use Rattle.fields.specs.declared.Verdict.{Verdict}
+use Rattle.fields.specs.declared.Verdict.the-variants.{Sound, Flawed}
+use Rattle.fields.specs.declared.Fault.the-variants.{NoKey, NoValue, Segmented, OutputShort}
+use Rattle.fields.specs.Faults.{flaw, nowhere, unless, _next_, refusalOf}
+use Rattle.fields.specs.Position.{placeOf}
+use Rattle.base.specs.Block.{sector, minorOf, binsData, baseFault}
+use Rattle.cells.specs.declared.Rule.the-variants.{Header}
+use Rattle.records.specs.Keys.{keyOf}
+use Rattle.values.specs.declared.Value.{Value}
+use Rattle.values.specs.declared.ValueData.{ValueData}
+use Rattle.values.specs.declared.ValueData.the-variants.{Inline, OneCell, Segments}
+use Rattle.values.specs.Records.{dataIn, valueOf}
+use Rattle.values.specs.Segments.{dataFault, bytesOf, lengthOf}
+use Rattle.tree.specs.Tree.{hiveOf}
+use Rattle.lookup.specs.declared.Copied.{Copied}
+use Rattle.lookup.specs.declared.Copied.the-variants.{Done, Refused as Uncopied}
+use Rattle.lookup.specs.declared.Info.{Info}
+use Rattle.lookup.specs.declared.KeyFound.{KeyFound}
+use Rattle.lookup.specs.declared.KeyFound.the-variants.{At, Refused}
+use Rattle.lookup.specs.declared.Look.{Look}
+use Rattle.lookup.specs.declared.Look.the-variants.{Found, Missing, Faulty}
+use Rattle.lookup.specs.declared.ValueFound.{ValueFound}
+use Rattle.lookup.specs.declared.ValueFound.the-variants.{At as ValueAt, Refused as Unvalued}
+use Rattle.lookup.specs.Paths.{partsOf, pathFault}
+use Rattle.lookup.specs.Search.{onSound, onFound, lookupKey, lookupValue}
+
+-- 1 to 7, then 16
+unfoldable pub openFault : List ℕ → List ℕ → Verdict
+openFault h us = baseFault h next pathFault us
+
+-- what is missing gives a number: 17 for a key, 18 for a value
+abbrev pub orMissing : Look → Flaw → Look
+orMissing (Found o) f = Found o
+orMissing Missing f = Faulty f
+orMissing (Faulty g) f = Faulty g
+
+unfoldable pub keyLook : List ℕ → List ℕ → Look
+keyLook h us =
+    onSound (openFault h us) (orMissing (lookupKey (binsData h) (hiveOf h .root) (partsOf us)) (flaw NoKey nowhere))
+
+abbrev pub keyFound : Look → KeyFound
+keyFound (Found o) = At o
+keyFound Missing = Refused (refusalOf (flaw NoKey nowhere))
+keyFound (Faulty f) = Refused (refusalOf f)
+
+-- find_key
+unfoldable pub findAnswer : List ℕ → List ℕ → KeyFound
+findAnswer h us = keyFound (keyLook h us)
+
+-- the value of that name below the key of that path
+unfoldable pub valueLook : List ℕ → List ℕ → List ℕ → Look
+valueLook h us x =
+    onFound (keyLook h us)
+    (λ o. orMissing (lookupValue (binsData h) (minorOf (sector h)) x (keyOf (binsData h) o)) (flaw NoValue nowhere))
+
+-- where in the file the data lie: inline data inside the record, else what follows the size field of their cell; no data lie at 0
+unfoldable pub placeIn : ValueData → Place
+placeIn (Inline at len) = placeOf at
+placeIn (OneCell o len) = cond (eqb len 0) (record { 0 = 0 }) (record { 0 = o .0 + 4 + 4096 })
+placeIn (Segments o len) = record { 0 = o .0 + 4 + 4096 }
+
+unfoldable pub infoOf : List ℕ → ℕ → Offset → Info
+infoOf d minor v =
+    record {
+      kind = valueOf d minor v .kind;
+      content = dataIn d minor v;
+      at = placeIn (dataIn d minor v);
+      len = lengthOf (dataIn d minor v);
+    }
+
+-- "19: view asked of segmented data", at the value
+unfoldable pub viewFault : Offset → ValueData → Verdict
+viewFault v (Inline at len) = Sound
+viewFault v (OneCell o len) = Sound
+viewFault v (Segments o len) = Flawed (flaw Segmented v)
+
+abbrev pub infoWhere : Verdict → Info → ValueFound
+infoWhere Sound i = ValueAt i
+infoWhere (Flawed f) i = Unvalued (refusalOf f)
+
+abbrev pub valueFound : Look → (Offset → ValueFound) → ValueFound
+valueFound (Found v) go = go v
+valueFound Missing go = Unvalued (refusalOf (flaw NoValue nowhere))
+valueFound (Faulty f) go = Unvalued (refusalOf f)
+
+-- value_info: the value found, then its data's own 11 or 12
+unfoldable pub infoAnswer : List ℕ → List ℕ → List ℕ → ValueFound
+infoAnswer h us x =
+    let d = binsData h in
+    let minor = minorOf (sector h) in
+    valueFound (valueLook h us x) (λ v. infoWhere (dataFault Header d [] (dataIn d minor v)) (infoOf d minor v))
+
+-- view_info, the view's sister: the same with 19 "before any data cell is read"
+unfoldable pub viewAnswer : List ℕ → List ℕ → List ℕ → ValueFound
+viewAnswer h us x =
+    let d = binsData h in
+    let minor = minorOf (sector h) in
+    valueFound (valueLook h us x)
+    (λ v. infoWhere (viewFault v (dataIn d minor v) next dataFault Header d [] (dataIn d minor v)) (infoOf d minor v))
+
+-- "A view is the very part of the lent hive that holds the data, empty on refusal"
+abbrev pub partOf : List ℕ → ValueFound → List ℕ
+partOf h (ValueAt i) = take (i .len) (drop (i .at .0) h)
+partOf h (Unvalued f) = []
+
+unfoldable pub viewBytes : List ℕ → List ℕ → List ℕ → List ℕ
+viewBytes h us x = partOf h (viewAnswer h us x)
+
+-- "a copy checks all segments, then 20, and writes only the data's length"
+abbrev pub copiedTo : ℕ → ValueFound → Copied
+copiedTo n (ValueAt i) = cond (leb (i .len) n) (Done (i .len)) (Uncopied (refusalOf (flaw OutputShort nowhere)))
+copiedTo n (Unvalued f) = Uncopied f
+
+unfoldable pub copyAnswer : List ℕ → List ℕ → List ℕ → ℕ → Copied
+copyAnswer h us x n = copiedTo n (infoAnswer h us x)
+
+abbrev pub written : List ℕ → List ℕ → ValueFound → List ℕ
+written d out (ValueAt i) = cond (leb (i .len) (length out)) (bytesOf d (i .content) ++ drop (i .len) out) out
+written d out (Unvalued f) = out
+
+-- the output afterwards
+unfoldable pub copyOut : List ℕ → List ℕ → List ℕ → List ℕ → List ℕ
+copyOut h us x out = written (binsData h) out (infoAnswer h us x)

@@ -1,0 +1,4 @@
+pub mod Paths
+pub mod Search
+pub mod Answers
+pub mod Reach

@@ -1,0 +1,36 @@
+-- What the tree holds, said without a search: a key under a path, and a value under a name. d is the bins data.
+use Prim.Native.Nat.{ℕ}
+use mathlib.Core.Path.{_≡_}
+use mathlib.Core.List.{List, [], _∷_, _++_, List·Memᴰ}
+use Rattle.fields.specs.declared.Offset.{Offset}
+use Rattle.names.specs.declared.Order.the-variants.{Same}
+use Rattle.names.specs.Codes.{backslash}
+use Rattle.names.specs.Comparison.{compare}
+use Rattle.records.specs.declared.Child.{Child}
+use Rattle.records.specs.declared.Key.{Key}
+use Rattle.records.specs.Keys.{codesOf}
+use Rattle.records.specs.Lists.{children}
+use Rattle.values.specs.declared.Value.{Value}
+use Rattle.values.specs.Records.{valueOf}
+use Rattle.values.specs.Lists.{valuesOf}
+use Rattle.tree.specs.Tree.{nameAt}
+
+-- the tree holds a key under a path of names, from a key on: each name compared as the paper says
+pub data Holds (d : List ℕ) : Offset → List (List ℕ) → Offset → Type 0 where
+  here : {o : Offset} → Holds d o [] o
+  below : {o e : Offset} {c : Child} {x : List ℕ} {xs : List (List ℕ)} → List·Memᴰ c (children d o) → compare (nameAt d (c .at)) x ≡ Same
+      → Holds d (c .at) xs e → Holds d o (x ∷ xs) e
+
+abbrev pub HasName : List ℕ → ℕ → List ℕ → Offset → Type 0
+HasName d minor x v = compare (codesOf d (valueOf d minor v .name)) x ≡ Same
+
+-- the first of some values that has a name
+pub data FirstNamed (d : List ℕ) (minor : ℕ) (x : List ℕ) : List Offset → Offset → Type 0 where
+  first : {v : Offset} {vs : List Offset} → HasName d minor x v → FirstNamed d minor x (v ∷ vs) v
+  later : {u v : Offset} {vs : List Offset} → (HasName d minor x u → ⊥) → FirstNamed d minor x vs v → FirstNamed d minor x (u ∷ vs) v
+
+-- the names of a path, joined by backslashes: the units that a caller gives
+unfoldable pub joinedBy : List (List ℕ) → List ℕ
+joinedBy [] = []
+joinedBy (x ∷ []) = x
+joinedBy (x ∷ y ∷ xs) = x ++ (backslash ∷ joinedBy (y ∷ xs))

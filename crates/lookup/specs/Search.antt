@@ -1,0 +1,81 @@
+-- "then the records in list order up to the first match, each only for 11 and 12 (not order, hash, parent or total)". d is the bins data; there is no
+-- map, and a cell is named by its own header.
+use Prim.Native.Nat.{ℕ}
+use mathlib.Core.Bool.{Bool, true, false, cond}
+use mathlib.Core.List.{List, [], _∷_}
+use lib.Dec.{eqb}
+use Rattle.fields.specs.declared.Offset.{Offset}
+use Rattle.fields.specs.declared.Verdict.{Verdict}
+use Rattle.fields.specs.declared.Verdict.the-variants.{Sound, Flawed}
+use Rattle.cells.specs.declared.Rule.the-variants.{Header}
+use Rattle.cells.specs.Named.{dataAt}
+use Rattle.names.specs.Comparison.{sameName}
+use Rattle.records.specs.declared.Child.{Child}
+use Rattle.records.specs.declared.Key.{Key}
+use Rattle.records.specs.Keys.{keyFault, keyOf, codesOf}
+use Rattle.records.specs.Lists.{leafFault, headFault, leafChildren, leavesOf}
+use Rattle.values.specs.declared.Value.{Value}
+use Rattle.values.specs.Records.{valueFault, valueOf}
+use Rattle.values.specs.Lists.{valuesOf, valueListFault}
+use Rattle.tree.specs.Tree.{nameAt}
+use Rattle.lookup.specs.declared.Look.{Look}
+use Rattle.lookup.specs.declared.Look.the-variants.{Found, Missing, Faulty}
+
+-- a test, then what follows it
+abbrev pub onSound : Verdict → Look → Look
+onSound Sound a = a
+onSound (Flawed f) a = Faulty f
+
+-- what is found, or else what follows
+unfoldable pub orElse : Look → Look → Look
+orElse Missing a = a
+orElse (Found o) a = Found o
+orElse (Faulty f) a = Faulty f
+
+unfoldable pub onFound : Look → (Offset → Look) → Look
+onFound (Found o) go = go o
+onFound Missing go = Missing
+onFound (Faulty f) go = Faulty f
+
+-- the first of some keys that has the name: each record is tested when it is reached
+unfoldable pub keyNamed : List ℕ → List ℕ → Child → Look
+keyNamed d x c = onSound (keyFault Header d [] (c .at)) (cond (sameName (nameAt d (c .at)) x) (Found (c .at)) Missing)
+
+unfoldable pub searchKeys : List ℕ → List ℕ → List Child → Look
+searchKeys d x [] = Missing
+searchKeys d x (c ∷ cs) = orElse (keyNamed d x c) (searchKeys d x cs)
+
+-- "One leaf of an `ri` at a time: leaf 1, its keys, leaf 2, its keys."
+unfoldable pub searchLeaf : List ℕ → List ℕ → Offset → Look
+searchLeaf d x l = onSound (leafFault Header d [] l) (searchKeys d x (leafChildren (dataAt d l)))
+
+unfoldable pub searchLeaves : List ℕ → List ℕ → List Offset → Look
+searchLeaves d x [] = Missing
+searchLeaves d x (l ∷ ls) = orElse (searchLeaf d x l) (searchLeaves d x ls)
+
+-- below a key: "The subkey count is only asked whether it is 0; all elements of the lists are searched."
+unfoldable pub searchBelow : List ℕ → List ℕ → Key → Look
+searchBelow d x k =
+    cond (eqb (k .subkeys) 0) Missing (onSound (headFault Header d [] (k .list)) (searchLeaves d x (leavesOf d (k .list))))
+
+-- along the parts of a path, from a key
+unfoldable pub descend : List ℕ → Offset → List (List ℕ) → Look
+descend d o [] = Found o
+descend d o (x ∷ xs) = onFound (searchBelow d x (keyOf d o)) (λ c. descend d c xs)
+
+-- "The root's own record is read (11, 12) for every path."
+unfoldable pub lookupKey : List ℕ → Offset → List (List ℕ) → Look
+lookupKey d root xs = onSound (keyFault Header d [] root) (descend d root xs)
+
+-- the first value of a key that has the name: "Names of values compare as names of keys do; the first match counts"
+unfoldable pub valueNamed : List ℕ → ℕ → List ℕ → Offset → Look
+valueNamed d minor x v =
+    onSound (valueFault Header d [] v) (cond (sameName (codesOf d (valueOf d minor v .name)) x) (Found v) Missing)
+
+unfoldable pub searchValues : List ℕ → ℕ → List ℕ → List Offset → Look
+searchValues d minor x [] = Missing
+searchValues d minor x (v ∷ vs) = orElse (valueNamed d minor x v) (searchValues d minor x vs)
+
+-- "18 comes after the value list's 11 and 12 and those of all its values. Value count 0 gives 18 and reads nothing."
+unfoldable pub lookupValue : List ℕ → ℕ → List ℕ → Key → Look
+lookupValue d minor x k = onSound (valueListFault Header d [] k) (searchValues d minor x (valuesOf d k))
