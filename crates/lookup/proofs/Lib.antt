@@ -1,1 +1,4 @@
 pub mod Finds
+pub mod Splits
+pub mod Exact
+pub mod ValueFinds
