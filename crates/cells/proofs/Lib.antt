@@ -9,3 +9,4 @@ pub mod Turns
 pub mod Cleared
 pub mod Tiles
 pub mod Mapped
+pub mod Figures
