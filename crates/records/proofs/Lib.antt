@@ -1,0 +1,4 @@
+pub mod Parts
+pub mod LawsRecord
+pub mod KeyTests
+pub mod LawsKey
