@@ -8,6 +8,7 @@ use lib.ListN.{length, take, drop}
 use Rattle.fields.specs.declared.Fault.the-variants.{Record}
 use Rattle.fields.specs.declared.Offset.{Offset}
 use Rattle.fields.specs.declared.Verdict.{Verdict}
+use Rattle.fields.specs.declared.Verdict.the-variants.{Sound, Flawed}
 use Rattle.fields.specs.Number.{u16At, u32At}
 use Rattle.fields.specs.Bytes.{standsAt}
 use Rattle.fields.specs.Faults.{flaw, unless, _next_}
@@ -15,6 +16,8 @@ use Rattle.cells.specs.declared.Rule.{Rule}
 use Rattle.cells.specs.Named.{cellFault, dataAt}
 use Rattle.names.specs.Codes.{codes, charactersIn, hasCode, backslash}
 use Rattle.records.specs.declared.Key.{Key}
+use Rattle.records.specs.declared.Keyed.{Keyed}
+use Rattle.records.specs.declared.Keyed.the-variants as answer
 use Rattle.records.specs.declared.Name.{Name}
 use Rattle.records.specs.Offsets.{offsetAt}
 
@@ -48,10 +51,9 @@ isKey r =
 unfoldable pub keyFault : Rule → List ℕ → List ℕ → Offset → Verdict
 keyFault rule d m o = cellFault rule d m o next unless (isKey (dataAt d o)) (flaw Record o)
 
--- the fields of the key at an offset; its name as a part of the bins data
-unfoldable pub keyOf : List ℕ → Offset → Key
-keyOf d o =
-    let r = dataAt d o in
+-- the fields of the key record r at an offset; its name as a part of the bins data
+unfoldable pub keyIn : List ℕ → Offset → Key
+keyIn r o =
     record {
       parent = offsetAt r 16;
       subkeys = u32At r 20;
@@ -60,6 +62,15 @@ keyOf d o =
       «value_list» = offsetAt r 40;
       name = record { at = o .0 + 80; len = u16At r 72; narrow = keyNarrow r };
     }
+
+-- the fields of the key at an offset
+unfoldable pub keyOf : List ℕ → Offset → Key
+keyOf d o = keyIn (dataAt d o) o
+
+-- the answer: the flaw, or the key
+abbrev pub keyed : Verdict → Key → Keyed
+keyed Sound k = answer.Whole k
+keyed (Flawed f) k = answer.Flawed f
 
 -- the codes of a name that lies in the bins data
 unfoldable pub codesOf : List ℕ → Name → List ℕ

@@ -42,8 +42,11 @@ hasElements r width = leb 4 (length r) && (leb 1 (countOf r) && leb (4 + countOf
 unfoldable pub widthOf : List ℕ → ℕ
 widthOf r = cond (isLi r) 4 8
 
+unfoldable pub hasLeafSignature : List ℕ → Bool
+hasLeafSignature r = isLi r || (isLf r || isLh r)
+
 unfoldable pub isLeaf : List ℕ → Bool
-isLeaf r = (isLi r || (isLf r || isLh r)) && hasElements r (widthOf r)
+isLeaf r = hasLeafSignature r && hasElements r (widthOf r)
 
 -- element i of a leaf; of an `lh` with its hash
 unfoldable pub childAt : List ℕ → ℕ → Child

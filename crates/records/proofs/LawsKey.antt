@@ -1,0 +1,99 @@
+-- What a key that passes its test says.
+use Prim.Native.Nat.{ℕ, _+_, _-_, _<_, _≤_}
+use native.Mathlib.Omega.{arith}
+use mathlib.Core.Path.{_≡_, refl, sym, ap, _∙_}
+use mathlib.Core.Bool.{Bool, true, false, not, _&&_}
+use mathlib.Core.List.{List, [], _∷_}
+use lib.ListN.{length, take, drop}
+use lib.Dec.{leb}
+use borrow.Author.Tests.{leb-true, not-true}
+use Rattle.fields.specs.declared.Offset.{Offset}
+use Rattle.fields.specs.declared.Flaw.{Flaw}
+use Rattle.fields.specs.declared.Verdict.the-variants.{Sound, Flawed}
+use Rattle.fields.specs.Number.{u16At}
+use Rattle.fields.specs.Bytes.{standsAt}
+use Rattle.fields.proofs.Bools.{and-inv}
+use Rattle.cells.specs.declared.Rule.{Rule}
+use Rattle.cells.specs.declared.Rule.the-variants.{Header}
+use Rattle.cells.specs.Named.{dataAt, dataOf, cellAt}
+use Rattle.cells.proofs.Naming.{Names, data-at-length}
+use Rattle.names.specs.Codes.{codes, charactersIn, hasCode, backslash}
+use Rattle.names.proofs.LawsCodes.{counted}
+use Rattle.records.specs.Keys.{isWhole, isKeyName, keyNarrow, keyName, isKey, keyFault, keyIn, keyOf, codesOf}
+use Rattle.records.proofs.Parts.{part-length, data-room, data-part}
+use Rattle.records.proofs.LawsRecord.{Found-at, record-cell, record-tested, record-header, record-flaw}
+
+-- the codes of the name of a key record
+abbrev pub nameCodes : List ℕ → List ℕ
+nameCodes r = codes (keyNarrow r) (keyName r)
+
+-- "room for 76 bytes and the name", the signature, "1 to 255 characters and no backslash; UTF-16 lengths are even"
+pub record IsKey (r : List ℕ) : Type 0 where
+  pub room : 76 + u16At r 72 ≤ length r
+  pub signature : standsAt r 0 (110 ∷ 107 ∷ []) ≡ true
+  pub whole : isWhole (u16At r 72) (keyNarrow r) ≡ true
+  pub some : 1 ≤ length (nameCodes r)
+  pub few : length (nameCodes r) ≤ 255
+  pub no-backslash : hasCode backslash (nameCodes r) ≡ false
+
+pub is-key-facts : (r : List ℕ) → isKey r ≡ true → IsKey r
+unfolding isKey isKeyName
+is-key-facts r e =
+    let a = and-inv (leb 76 (length r)) _ e in
+    let b = and-inv (standsAt r 0 (110 ∷ 107 ∷ [])) _ (a .1) in
+    let n = and-inv (leb (76 + u16At r 72) (length r)) _ (b .1) in
+    let w = and-inv (isWhole (length (keyName r)) (keyNarrow r)) _ (n .1) in
+    let s = and-inv (leb 1 (charactersIn (length (keyName r)) (keyNarrow r))) _ (w .1) in
+    let f = and-inv (leb (charactersIn (length (keyName r)) (keyNarrow r)) 255) _ (s .1) in
+    let fits = leb-true (76 + u16At r 72) (length r) (n .0) in
+    let least = leb-true 1 (charactersIn (length (keyName r)) (keyNarrow r)) (s .0) in
+    let most = leb-true (charactersIn (length (keyName r)) (keyNarrow r)) 255 (f .0) in
+    let many = counted (keyNarrow r) (keyName r) in
+    record {
+      room = fits;
+      signature = b .0;
+      whole = rw (part-length r 76 (u16At r 72) fits) at (w .0);
+      some = omega arith;
+      few = omega arith;
+      no-backslash = not-true (hasCode backslash (nameCodes r)) (f .1);
+    }
+
+module _ (rule : Rule) (d m : List ℕ) (o : Offset) where
+  -- a flaw of a key is 11 or 12 at its offset
+  pub key-flaw : {f : Flaw} → keyFault rule d m o ≡ Flawed f → Found-at o f
+  unfolding keyFault
+  key-flaw e = record-flaw isKey rule d m o e
+
+  module _ (e : keyFault rule d m o ≡ Sound) where
+    pub key-cell : Names d (o .0)
+    unfolding keyFault
+    key-cell = record-cell isKey rule d m o e
+
+    pub key-facts : IsKey (dataAt d o)
+    unfolding keyFault
+    key-facts = is-key-facts (dataAt d o) (record-tested isKey rule d m o e)
+
+    -- what the map's rule finds sound is sound by the header's rule, whatever the map
+    pub key-header : (m′ : List ℕ) → keyFault Header d m′ o ≡ Sound
+    unfolding keyFault
+    key-header = record-header isKey rule d m o e
+
+    -- what `key_fields` requires
+    pub key-room : 76 ≤ length (dataAt d o)
+    key-room = let k = key-facts in omega arith
+
+    -- the name lies in the bins data, and its codes are those of the record
+    pub name-room : keyOf d o .name .at + keyOf d o .name .len ≤ length d
+    unfolding keyOf keyIn
+    name-room =
+        let k = key-facts in
+        let h = data-room d o (76 + u16At (dataAt d o) 72) (omega arith) (k .room) in
+        omega arith
+
+    pub name-codes : codesOf d (keyOf d o .name) ≡ nameCodes (dataAt d o)
+    unfolding keyOf keyIn codesOf
+    name-codes =
+        let k = key-facts in
+        let e : o .0 + 4 + 76 ≡ o .0 + 80 = omega arith in
+        ap (codes (keyNarrow (dataAt d o)))
+        (sym (data-part d o 76 (u16At (dataAt d o) 72) (k .room) ∙ ap (λ (i : ℕ). take (u16At (dataAt d o) 72) (drop i d)) e))

@@ -1,0 +1,11 @@
+pub mod Parts
+pub mod LawsRecord
+pub mod KeyTests
+pub mod LawsKey
+pub mod ListTests
+pub mod LawsList
+pub mod LawsAnswer
+pub mod LawsSequence
+pub mod LawsPlaces
+pub mod Totals
+pub mod LawsLists

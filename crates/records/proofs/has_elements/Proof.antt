@@ -1,0 +1,31 @@
+use native.Mathlib.Omega.{arith}
+use mathlib.Core.Path.{_≡_, sym, ap, _∙_}
+use Rattle.records.proofs.ListTests.{product-fits, short-elements, no-elements, by-room}
+use borrow.Author.Needs.{needs}
+use Rattle.records.proofs.has_elements.Statement.{statement}
+use Rattle.records.proofs.has_elements.Tie as tie
+
+returns : tie.Need-returns
+returns c = sym (short-elements _ _ (omega arith))
+
+u16-at-requires : tie.Need-u16-at-requires
+u16-at-requires c κs = search needs
+
+cast-n : tie.Need-cast-n
+cast-n c = search needs
+
+returns-2 : tie.Need-returns-2
+returns-2 c = sym (no-elements _ _ (omega arith) (omega arith))
+
+mul-result : tie.Need-mul-result
+mul-result c = let p = product-fits (c .before .u16-at .result) (c .before .before .before .before .args .width) (omega arith) (omega arith) in omega arith
+
+add-result : tie.Need-add-result
+add-result c = let p = product-fits (c .before .u16-at .result) (c .before .before .before .before .args .width) (omega arith) (omega arith) in omega arith
+
+returns-3 : tie.Need-returns-3
+returns-3 c = rw (c .before .u16-at .ensures) (sym (by-room _ _ (omega arith) (omega arith)))
+
+pub has-elements-spec : {M : Type 1} → statement M
+has-elements-spec =
+    tie.close (tie.spec returns u16-at-requires cast-n returns-2 mul-result add-result returns-3)

@@ -1,0 +1,36 @@
+use native.Mathlib.Omega.{arith}
+use borrow.Author.Tests.{not-true, not-false}
+use mathlib.Core.Path.{_≡_, sym, ap, _∙_}
+use Rattle.records.proofs.ListTests.{width-small, short-leaf, no-leaf, by-elements}
+use borrow.Author.Needs.{needs}
+use Rattle.records.proofs.is_leaf.Statement.{statement}
+use Rattle.records.proofs.is_leaf.Tie as tie
+
+returns : tie.Need-returns
+returns c = sym (short-leaf _ (omega arith))
+
+has-leaf-signature-requires : tie.Need-has-leaf-signature-requires
+has-leaf-signature-requires c κs = search needs
+
+returns-2 : tie.Need-returns-2
+returns-2 c = sym (no-leaf _ (sym (c .before .has-leaf-signature .ensures) ∙ not-true _ (c .if2 .taken)))
+
+width-of-requires : tie.Need-width-of-requires
+width-of-requires c κs = search needs
+
+has-elements-requires : tie.Need-has-elements-requires
+has-elements-requires c κs = rw (c .width-of .ensures) (width-small _)
+
+returns-3 : tie.Need-returns-3
+returns-3 c = (rw (c .before .width-of .ensures) at (c .has-elements .ensures)) ∙ sym (by-elements _ (sym (c .before .before .before .has-leaf-signature .ensures) ∙ not-false _ (c .before .before .if2 .left)))
+
+pub is-leaf-spec : {M : Type 1} → statement M
+is-leaf-spec =
+    tie.close
+    (tie.spec
+    returns
+    has-leaf-signature-requires
+    returns-2
+    width-of-requires
+    has-elements-requires
+    returns-3)

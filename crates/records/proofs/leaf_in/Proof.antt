@@ -1,0 +1,42 @@
+use Rattle.records.specs.Places.{leafIn}
+use borrow.Author.Needs.{needs}
+use Rattle.records.proofs.leaf_in.Statement.{statement}
+use Rattle.records.proofs.leaf_in.Tie as tie
+
+cast-t4 : tie.Need-cast-t4
+cast-t4 c = search needs
+
+add-t5 : tie.Need-add-t5
+add-t5 c = search needs
+
+u16-at-requires : tie.Need-u16-at-requires
+u16-at-requires c κs = search needs
+
+cast-t7 : tie.Need-cast-t7
+cast-t7 c = search needs
+
+width-of-requires : tie.Need-width-of-requires
+width-of-requires c κs = search needs
+
+slice-aggregate-stands-at : tie.Need-slice-aggregate-stands-at
+slice-aggregate-stands-at c = search needs
+
+stands-at-requires : tie.Need-stands-at-requires
+stands-at-requires c κs = search needs
+
+returns : tie.Need-returns
+unfolding leafIn
+returns c = rw (c .before .before .before .u16-at .ensures, c .before .before .width-of .ensures, c .stands-at .ensures)
+
+pub leaf-in-spec : {M : Type 1} → statement M
+leaf-in-spec =
+    tie.close
+    (tie.spec
+    cast-t4
+    add-t5
+    u16-at-requires
+    cast-t7
+    width-of-requires
+    slice-aggregate-stands-at
+    stands-at-requires
+    returns)

@@ -1,0 +1,73 @@
+-- Where the leaves of a list and the elements of a leaf stand in the bins data, so that a loop over them reads each list's head once.
+use Prim.Native.Nat.{ℕ, zero, suc, _+_, _*_, _≤_}
+use mathlib.Core.Path.{_≡_}
+use mathlib.Core.Bool.{Bool, true, false, cond}
+use mathlib.Core.List.{List, [], _∷_}
+use lib.ListN.{length}
+use Rattle.fields.specs.declared.Offset.{Offset}
+use Rattle.fields.specs.declared.Verdict.{Verdict}
+use Rattle.fields.specs.declared.Verdict.the-variants.{Sound, Flawed}
+use Rattle.fields.specs.Number.{u32At}
+use Rattle.cells.specs.Named.{dataAt}
+use Rattle.records.specs.declared.Child.{Child}
+use Rattle.records.specs.declared.Leaf.{Leaf}
+use Rattle.records.specs.declared.Leaves.{Leaves}
+use Rattle.records.specs.declared.Headed.{Headed}
+use Rattle.records.specs.declared.Headed.the-variants as head
+use Rattle.records.specs.declared.Leafed.{Leafed}
+use Rattle.records.specs.declared.Leafed.the-variants as leaf
+use Rattle.records.specs.declared.Totalled.{Totalled}
+use Rattle.records.specs.declared.Totalled.the-variants as total
+use Rattle.records.specs.Offsets.{offsetAt, offsetsAt}
+use Rattle.records.specs.Lists.{isRi, isLh, countOf, widthOf}
+
+-- the leaves of the list r at an offset; its elements start 8 bytes past the offset, after the cell's size and the list's first 4 bytes
+unfoldable pub leavesIn : List ℕ → Offset → Leaves
+leavesIn r o = record { at = o .0 + 8; count = cond (isRi r) (countOf r) 1; index = isRi r; list = o }
+
+unfoldable pub leavesAt : List ℕ → Offset → Leaves
+leavesAt d o = leavesIn (dataAt d o) o
+
+-- leaf j, and all of them
+unfoldable pub leafNamed : List ℕ → Leaves → ℕ → Offset
+leafNamed d ls j = cond (ls .index) (offsetAt d (ls .at + 4 * j)) (ls .list)
+
+unfoldable pub leavesNamed : List ℕ → Leaves → List Offset
+leavesNamed d ls = cond (ls .index) (offsetsAt d (ls .at) (ls .count)) (ls .list ∷ [])
+
+-- the offsets of an `ri` lie in the bins data
+pub record LeavesLie (d : List ℕ) (ls : Leaves) : Type 0 where
+  pub inside : ls .index ≡ true → ls .at + 4 * ls .count ≤ length d
+  pub single : ls .index ≡ false → ls .count ≡ 1
+
+-- the elements of the leaf r at an offset
+unfoldable pub leafIn : List ℕ → Offset → Leaf
+leafIn r o = record { at = o .0 + 8; count = countOf r; width = widthOf r; hashed = isLh r }
+
+unfoldable pub leafOf : List ℕ → Offset → Leaf
+leafOf d o = leafIn (dataAt d o) o
+
+-- element i of a leaf
+unfoldable pub childNamed : List ℕ → Leaf → ℕ → Child
+childNamed d l i =
+    let p = l .at + i * l .width in
+    record { at = offsetAt d p; hashed = l .hashed; hash = cond (l .hashed) (u32At d (p + 4)) 0 }
+
+-- the elements of a leaf lie in the bins data, with their hashes where they have them
+pub record ElementsLie (d : List ℕ) (l : Leaf) : Type 0 where
+  pub inside : l .at + l .count * l .width ≤ length d
+  pub offset-fits : 4 ≤ l .width
+  pub hash-fits : l .hashed ≡ true → 8 ≤ l .width
+
+-- the answers: the flaw, or what was found
+abbrev pub headed : Verdict → Leaves → Headed
+headed Sound ls = head.Whole ls
+headed (Flawed f) ls = head.Flawed f
+
+abbrev pub leafed : Verdict → Leaf → Leafed
+leafed Sound l = leaf.Whole l
+leafed (Flawed f) l = leaf.Flawed f
+
+abbrev pub totalled : Verdict → ℕ → Totalled
+totalled Sound n = total.Total n
+totalled (Flawed f) n = total.Flawed f
