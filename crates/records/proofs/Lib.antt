@@ -9,3 +9,4 @@ pub mod LawsSequence
 pub mod LawsPlaces
 pub mod Totals
 pub mod LawsLists
+pub mod ListFronts

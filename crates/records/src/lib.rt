@@ -307,6 +307,15 @@ pub fn leaf_offset(bins: &[u8], ls: Leaves, j: usize) -> Offset
     }
 }
 
+// The leaves of a list that was tested before.
+pub fn leaves_fields(bins: &[u8], o: Offset) -> Leaves
+    requires { ⌜ 4 ≤ length (dataAt (now bins) o) ⌝ }
+    ensures { λ ls. ⌜ ls ≡ leavesAt (now (bins .entry)) o ⌝ }
+{
+    let at = o.0 as usize + 4;
+    leaves_in(&bins[at..at + 4], o)
+}
+
 // Where the elements of a leaf stand: from a position of the bins data on, of so many bytes each.
 pub struct Leaf {
     pub at: usize,
@@ -350,6 +359,15 @@ pub fn leaf_at(bins: &[u8], map: &[u8], rule: Rule, o: Offset) -> Leafed
             Leafed::Whole(leaf_in(r, o))
         }
     }
+}
+
+// The elements of a leaf that was tested before.
+pub fn leaf_fields(bins: &[u8], o: Offset) -> Leaf
+    requires { ⌜ 4 ≤ length (dataAt (now bins) o) ⌝ }
+    ensures { λ l. ⌜ l ≡ leafOf (now (bins .entry)) o ⌝ }
+{
+    let at = o.0 as usize + 4;
+    leaf_in(&bins[at..at + 4], o)
 }
 
 // Element i of a leaf.
