@@ -1,3 +1,4 @@
 pub mod Records
+pub mod Entries
 pub mod Segments
 pub mod Lists
