@@ -5,4 +5,8 @@ pub mod Valued_at
 pub mod Rooms
 pub mod Segment_turns
 pub mod Segment_faults
+pub mod Copying
 pub mod LawsLists
+pub mod LawsSegments
+pub mod LawsData
+pub mod LawsValues

@@ -7,13 +7,17 @@ use fields::Offset;
 use fields::Verdict;
 ghost use mathlib.Core.Path.{_≡_};
 ghost use Prim.Native.Nat.{_+_, _*_, _<_, _≤_};
-ghost use lib.ListN.{length, getD};
+ghost use mathlib.Core.List.{_++_};
+ghost use lib.ListN.{length, getD, drop};
+ghost use lib.Seq.{paste};
 ghost use Rattle.fields.specs.Faults.{nowhere, faultOver};
 ghost use Rattle.base.specs.Block.{binsLimit};
 ghost use Rattle.records.specs.Keys.{isWhole};
+ghost use Rattle.records.specs.Offsets.{offsetAt};
 ghost use Rattle.values.specs.Records.{isValueName, isDataSize, valueNarrow, isValue, valueFault, isSegmented, contentOf, fieldsOf, valueOf, valued};
 ghost use Rattle.values.specs.Entries.{entriesAt, Room, entriesOf, listing};
-ghost use Rattle.values.specs.Segments.{roomFault, segmentsFor, isDb, segmentLength, segmentList, segmentsIn, segmentFault, segmentListFault, segmentsFault, dataFault};
+ghost use Rattle.values.specs.Segments.{roomFault, segmentsFor, isDb, segmentLength, segmentList, segmentsIn, segmentFault, segmentListFault, segmentsFault, dataFault, joinedBytes, bytesOf, lengthOf};
+ghost use Rattle.values.specs.Parts.{partOf, Lies, SegmentsLie};
 ghost use Rattle.values.specs.Lists.{valueListFault, valueEntries, wholeValueFault, valuesFault};
 
 // "even bytes if UTF-16"
@@ -371,5 +375,102 @@ pub fn values_flaw(bins: &[u8], map: &[u8], rule: Rule, minor: u32, k: records::
     match value_list(bins, map, rule, k) {
         Listing::Flawed(f) => Verdict::Flawed(f),
         Listing::Whole(e) => each_value_flaw(bins, map, rule, minor, e),
+    }
+}
+
+// A part of the bins data.
+pub struct Part {
+    pub at: usize,
+    pub len: usize,
+}
+
+// The one part that holds inline data or data in one cell: what a view shows.
+pub fn part_of(x: ValueData) -> Part
+    ensures { λ p. ⌜ p ≡ partOf x ⌝ }
+{
+    match x {
+        ValueData::Inline { at, len } => Part {
+            at: at.0 as usize,
+            len: len as usize,
+        },
+        ValueData::OneCell { cell, len } => {
+            if len == 0 {
+                return Part { at: 0, len: 0 };
+            }
+            Part {
+                at: cell.0 as usize + 4,
+                len: len as usize,
+            }
+        }
+        ValueData::Segments { cell: _, len: _ } => Part { at: 0, len: 0 },
+    }
+}
+
+fn copy_all(src: &[u8], dst: &mut [u8])
+    requires { ⌜ length (now dst) ≡ length (now src) ⌝ }
+    ensures { λ _. ⌜ now (dst .exit) ≡ now (src .entry) ⌝ }
+{
+    bytes::copy(src, dst);
+}
+
+// Copies a part of the bins data into the middle part of `out` that starts at `to`.
+fn copy_part(bins: &[u8], p: Part, out: &mut [u8], to: usize)
+    requires { ⌜ p .at + p .len ≤ length (now bins) ⌝ }
+    requires { ⌜ to + p .len ≤ length (now out) ⌝ }
+    ensures { λ _. ⌜ now (out .exit) ≡ paste (now (out .entry)) to (drop (p .at) (now (bins .entry))) (p .len) ⌝ }
+{
+    let at = p.at;
+    let end = at + p.len;
+    let stop = to + p.len;
+    copy_all(&bins[at..end], &mut out[to..stop]);
+}
+
+// The segments' bytes, one after the other.
+fn copy_segments(bins: &[u8], e: Entries, size: usize, out: &mut [u8])
+    requires { ⌜ SegmentsLie (now bins) e size ⌝ }
+    requires { ⌜ size ≤ length (now out) ⌝ }
+    ensures { λ _. ⌜ now (out .exit) ≡ joinedBytes (now (bins .entry)) (segmentsIn (now (bins .entry)) e size) ++ drop size (now (out .entry)) ⌝ }
+{
+    let count = e.count;
+    let mut left = size;
+    let mut i: usize = 0;
+    while i < count {
+        let n = segment_length(left);
+        let s = entry(bins, e, i);
+        let p = Part {
+            at: s.0 as usize + 4,
+            len: n,
+        };
+        copy_part(bins, p, out, size - left);
+        left -= n;
+        i += 1;
+    }
+}
+
+// The segment list of a `db` that was tested.
+fn segments_at(bins: &[u8], o: Offset, size: u32) -> Entries
+    requires { ⌜ o .0 + 12 ≤ length (now bins) ⌝ }
+    ensures { λ e. ⌜ e ≡ entriesAt (offsetAt (now (bins .entry)) (o .0 + 8)) (segmentsFor size) ⌝ }
+{
+    let list = fields::u32_at(bins, o.0 as usize + 8);
+    Entries {
+        at: list as usize + 4,
+        count: segments_for(size) as usize,
+    }
+}
+
+// Writes the data's bytes to the start of `out`, and no other byte.
+pub fn copy_data(bins: &[u8], x: ValueData, out: &mut [u8])
+    requires { ⌜ Lies (now bins) x ⌝ }
+    requires { ⌜ lengthOf x ≤ length (now out) ⌝ }
+    ensures { λ _. ⌜ now (out .exit) ≡ bytesOf (now (bins .entry)) x ++ drop (lengthOf x) (now (out .entry)) ⌝ }
+{
+    match x {
+        ValueData::Inline { at: _, len: _ } => copy_part(bins, part_of(x), out, 0),
+        ValueData::OneCell { cell: _, len: _ } => copy_part(bins, part_of(x), out, 0),
+        ValueData::Segments { cell, len } => {
+            let e = segments_at(bins, cell, len);
+            copy_segments(bins, e, len as usize, out);
+        }
     }
 }
