@@ -1,3 +1,5 @@
 pub mod Records
+pub mod Entries
 pub mod Segments
+pub mod Parts
 pub mod Lists

@@ -11,6 +11,8 @@ use Rattle.cells.specs.declared.Rule.{Rule}
 use Rattle.cells.specs.Named.{dataAt}
 use Rattle.records.specs.declared.Key.{Key}
 use Rattle.records.specs.Offsets.{offsetsAt}
+use Rattle.values.specs.declared.Entries.{Entries}
+use Rattle.values.specs.Entries.{entriesAt}
 use Rattle.values.specs.Records.{valueFault, dataIn}
 use Rattle.values.specs.Segments.{roomFault, dataFault}
 
@@ -21,6 +23,10 @@ valuesOf d k = cond (eqb (k .values) 0) [] (offsetsAt (dataAt d (k .«value_list
 -- the list's cell, and its room for all elements: 12 at the list's cell
 unfoldable pub valueListFault : Rule → List ℕ → List ℕ → Key → Verdict
 valueListFault rule d m k = cond (eqb (k .values) 0) Sound (roomFault rule d m (k .«value_list») (4 * k .values))
+
+-- where the elements of a value list stand; value count 0 has none
+unfoldable pub valueEntries : Key → Entries
+valueEntries k = cond (eqb (k .values) 0) (record { at = 0; count = 0 }) (entriesAt (k .«value_list») (k .values))
 
 -- "A value's record, then its data, then the next value."
 unfoldable pub wholeValueFault : Rule → List ℕ → List ℕ → ℕ → Offset → Verdict

@@ -8,6 +8,7 @@ use lib.ListN.{length, take, drop}
 use Rattle.fields.specs.declared.Fault.the-variants.{Record}
 use Rattle.fields.specs.declared.Offset.{Offset}
 use Rattle.fields.specs.declared.Verdict.{Verdict}
+use Rattle.fields.specs.declared.Verdict.the-variants.{Sound, Flawed}
 use Rattle.fields.specs.Number.{u16At, u32At}
 use Rattle.fields.specs.Bytes.{standsAt}
 use Rattle.fields.specs.Faults.{flaw, unless, _next_}
@@ -17,6 +18,8 @@ use Rattle.names.specs.Codes.{charactersIn}
 use Rattle.records.specs.Keys.{isFlagged, isWhole}
 use Rattle.records.specs.Offsets.{offsetAt}
 use Rattle.values.specs.declared.Value.{Value}
+use Rattle.values.specs.declared.Valued.{Valued}
+use Rattle.values.specs.declared.Valued.the-variants as valuedAs
 use Rattle.values.specs.declared.ValueData.{ValueData}
 use Rattle.values.specs.declared.ValueData.the-variants.{Inline, OneCell, Segments}
 
@@ -56,21 +59,30 @@ valueFault rule d m v = cellFault rule d m v next unless (isValue (dataAt d v)) 
 unfoldable pub isSegmented : ℕ → ℕ → Bool
 isSegmented minor size = ltb segmentSize size && leb 4 minor
 
--- where the data of the value at an offset lie, in a hive of a minor version
-unfoldable pub dataIn : List ℕ → ℕ → Offset → ValueData
-dataIn d minor v =
-    let r = dataAt d v in
+-- where the data lie, by the record r of the value at an offset, in a hive of a minor version
+unfoldable pub contentOf : List ℕ → ℕ → Offset → ValueData
+contentOf r minor v =
     let size = u32At r 4 in
     cond (leb topBit size)
     (Inline (record { 0 = v .0 + 12 }) (size - topBit))
     (cond (isSegmented minor size) (Segments (offsetAt r 8) size) (OneCell (offsetAt r 8) size))
 
--- the fields of the value at an offset; its name as a part of the bins data
-unfoldable pub valueOf : List ℕ → ℕ → Offset → Value
-valueOf d minor v =
-    let r = dataAt d v in
+unfoldable pub dataIn : List ℕ → ℕ → Offset → ValueData
+dataIn d minor v = contentOf (dataAt d v) minor v
+
+-- the fields of the record r of the value at an offset; its name as a part of the bins data
+unfoldable pub fieldsOf : List ℕ → ℕ → Offset → Value
+fieldsOf r minor v =
     record {
       kind = u32At r 12;
-      content = dataIn d minor v;
+      content = contentOf r minor v;
       name = record { at = v .0 + 24; len = u16At r 2; narrow = valueNarrow r };
     }
+
+unfoldable pub valueOf : List ℕ → ℕ → Offset → Value
+valueOf d minor v = fieldsOf (dataAt d v) minor v
+
+-- the value, where its tests are sound
+abbrev pub valued : Verdict → Value → Valued
+valued Sound x = valuedAs.Whole x
+valued (Flawed f) x = valuedAs.Flawed f

@@ -14,6 +14,7 @@ use Rattle.fields.specs.Faults.{flaw, unless, _next_, faultOver}
 use Rattle.cells.specs.declared.Rule.{Rule}
 use Rattle.cells.specs.Named.{cellFault, dataAt}
 use Rattle.records.specs.Offsets.{offsetAt}
+use Rattle.values.specs.declared.Entries.{Entries}
 use Rattle.values.specs.declared.Segment.{Segment}
 use Rattle.values.specs.declared.ValueData.{ValueData}
 use Rattle.values.specs.declared.ValueData.the-variants.{Inline, OneCell, Segments}
@@ -50,14 +51,20 @@ segmentList d o = offsetAt (dataAt d o) 4
 unfoldable pub segmentsOf : List ℕ → Offset → ℕ → List Segment
 segmentsOf d o size = segmentsFrom (dataAt d (segmentList d o)) 0 size (segmentsFor size)
 
+-- the same, for a segment list that stands in the bins data
+abbrev pub segmentsIn : List ℕ → Entries → ℕ → List Segment
+segmentsIn d e size = segmentsFrom (drop (e .at) d) 0 size (e .count)
+
 unfoldable pub segmentFault : Rule → List ℕ → List ℕ → Segment → Verdict
 segmentFault rule d m s = roomFault rule d m (s .at) (s .len)
 
 -- "`db` cell and record, segment list's cell and room, then the segments in order, each 11 then 12"
+unfoldable pub segmentListFault : Rule → List ℕ → List ℕ → Offset → ℕ → Verdict
+segmentListFault rule d m o size = dbFault rule d m o size next roomFault rule d m (segmentList d o) (4 * segmentsFor size)
+
 unfoldable pub segmentsFault : Rule → List ℕ → List ℕ → Offset → ℕ → Verdict
 segmentsFault rule d m o size =
-    dbFault rule d m o size
-    next roomFault rule d m (segmentList d o) (4 * segmentsFor size)
+    segmentListFault rule d m o size
     next faultOver (segmentFault rule d m) (segmentsOf d o size)
 
 -- "size 0 reads nothing"

@@ -1,8 +1,84 @@
-// Values and their data, in bounded cells.
+// Values and their data, in bounded cells. A record's tests read the data of its cell and nothing else.
+use cells::Found;
 use cells::Rule;
+use fields::Fault;
+use fields::Flaw;
 use fields::Offset;
 use fields::Verdict;
 ghost use mathlib.Core.Path.{_≡_};
+ghost use Prim.Native.Nat.{_+_, _*_, _<_, _≤_};
+ghost use mathlib.Core.List.{_++_};
+ghost use lib.ListN.{length, getD, drop};
+ghost use lib.Seq.{paste};
+ghost use Rattle.fields.specs.Faults.{nowhere, faultOver};
+ghost use Rattle.base.specs.Block.{binsLimit};
+ghost use Rattle.records.specs.Keys.{isWhole};
+ghost use Rattle.records.specs.Offsets.{offsetAt};
+ghost use Rattle.values.specs.Records.{isValueName, isDataSize, valueNarrow, isValue, valueFault, isSegmented, contentOf, fieldsOf, valueOf, valued};
+ghost use Rattle.values.specs.Entries.{entriesAt, Room, entriesOf, listing};
+ghost use Rattle.values.specs.Segments.{roomFault, segmentsFor, isDb, segmentLength, segmentList, segmentsIn, segmentFault, segmentListFault, segmentsFault, dataFault, joinedBytes, bytesOf, lengthOf};
+ghost use Rattle.values.specs.Parts.{partOf, Lies, SegmentsLie};
+ghost use Rattle.values.specs.Lists.{valueListFault, valueEntries, wholeValueFault, valuesFault};
+
+// "even bytes if UTF-16"
+fn is_whole(len: usize, narrow: bool) -> bool
+    ensures { λ r. ⌜ r ≡ isWhole len narrow ⌝ }
+{
+    if narrow {
+        return true;
+    }
+    len % 2 == 0
+}
+
+// "at most 16,383 characters, even bytes if UTF-16"
+fn is_value_name(len: usize, narrow: bool) -> bool
+    ensures { λ r. ⌜ r ≡ isValueName len narrow ⌝ }
+{
+    if !is_whole(len, narrow) {
+        return false;
+    }
+    names::characters(len, narrow) <= 16383
+}
+
+const TOP_BIT: u32 = 0x8000_0000;
+
+// "Top bit of the size set: length at most 4, bytes lie at 8. Otherwise at most 1,048,576"
+fn is_data_size(size: u32) -> bool
+    ensures { λ r. ⌜ r ≡ isDataSize size ⌝ }
+{
+    if TOP_BIT <= size {
+        return size - TOP_BIT <= 4;
+    }
+    size <= 1_048_576
+}
+
+// "flags at 16 (0x0001: one byte per character)"
+fn is_narrow(r: &[u8]) -> bool
+    requires { ⌜ 18 ≤ length (now r) ⌝ }
+    ensures { λ b. ⌜ b ≡ valueNarrow (now (r .entry)) ⌝ }
+{
+    fields::u16_at(r, 16) % 2 == 1
+}
+
+// Whether a cell's data hold a value record: 20 bytes and the name.
+fn is_value(r: &[u8]) -> bool
+    ensures { λ b. ⌜ b ≡ isValue (now (r .entry)) ⌝ }
+{
+    if r.len() < 20 {
+        return false;
+    }
+    if !fields::stands_at(r, 0, b"vk") {
+        return false;
+    }
+    let len = fields::u16_at(r, 2) as usize;
+    if r.len() < 20 + len {
+        return false;
+    }
+    if !is_value_name(len, is_narrow(r)) {
+        return false;
+    }
+    is_data_size(fields::u32_at(r, 4))
+}
 
 // "So data are inline, in one cell or in segments": where the data lie, each with its length. Inline data start at an offset inside the record; the
 // other two name a cell.
@@ -19,8 +95,382 @@ pub struct Value {
     pub name: records::Name,
 }
 
+pub enum Valued {
+    Whole(Value),
+    Flawed(Flaw),
+}
+
+// "each segment but the last holds 16,344 bytes"
+const SEGMENT_SIZE: usize = 16344;
+
+// "Over 16,344 with minor 4 or 5: the cell holds `db`"
+fn is_segmented(minor: u32, size: u32) -> bool
+    ensures { λ b. ⌜ b ≡ isSegmented minor size ⌝ }
+{
+    if size as usize <= SEGMENT_SIZE {
+        return false;
+    }
+    4 <= minor
+}
+
+// Where the data lie, by the record of the value at an offset.
+fn content_of(r: &[u8], minor: u32, v: Offset) -> ValueData
+    requires { ⌜ 12 ≤ length (now r) ⌝ }
+    requires { ⌜ v .0 + 12 < 4294967296 ⌝ }
+    ensures { λ x. ⌜ x ≡ contentOf (now (r .entry)) minor v ⌝ }
+{
+    let size = fields::u32_at(r, 4);
+    if TOP_BIT <= size {
+        return ValueData::Inline {
+            at: Offset(v.0 + 12),
+            len: size - TOP_BIT,
+        };
+    }
+    let cell = Offset(fields::u32_at(r, 8));
+    if is_segmented(minor, size) {
+        return ValueData::Segments { cell, len: size };
+    }
+    ValueData::OneCell { cell, len: size }
+}
+
+// The fields of the record of the value at an offset.
+fn fields_of(r: &[u8], minor: u32, v: Offset) -> Value
+    requires { ⌜ 20 ≤ length (now r) ⌝ }
+    requires { ⌜ v .0 + 12 < 4294967296 ⌝ }
+    ensures { λ x. ⌜ x ≡ fieldsOf (now (r .entry)) minor v ⌝ }
+{
+    let content = content_of(r, minor, v);
+    let name = records::Name {
+        at: v.0 as usize + 24,
+        len: fields::u16_at(r, 2) as usize,
+        narrow: is_narrow(r),
+    };
+    Value {
+        kind: fields::u32_at(r, 12),
+        content,
+        name,
+    }
+}
+
+// The value at an offset, parsed once: its cell, then its record.
+pub fn value_at(bins: &[u8], map: &[u8], rule: Rule, minor: u32, v: Offset) -> Valued
+    requires { ⌜ length (now bins) ≤ binsLimit ⌝ }
+    ensures { λ x. ⌜ x ≡ valued (valueFault rule (now (bins .entry)) (now (map .entry)) v) (valueOf (now (bins .entry)) minor v) ⌝ }
+{
+    match cells::find_cell(bins, map, rule, v) {
+        Found::Missing(f) => Valued::Flawed(f),
+        Found::Named(c) => {
+            let r = cells::cell_data(bins, c);
+            if !is_value(r) {
+                return Valued::Flawed(Flaw {
+                    fault: Fault::Record,
+                    place: v,
+                });
+            }
+            Valued::Whole(fields_of(r, minor, v))
+        }
+    }
+}
+
+// An offset names a cell with room for so many bytes: 11, or 12 at that cell.
+pub fn room_flaw(bins: &[u8], map: &[u8], rule: Rule, o: Offset, n: usize) -> Verdict
+    ensures { λ r. ⌜ r ≡ roomFault rule (now (bins .entry)) (now (map .entry)) o n ⌝ }
+{
+    match cells::find_cell(bins, map, rule, o) {
+        Found::Missing(f) => Verdict::Flawed(f),
+        Found::Named(c) => {
+            let len = c.len;
+            if len < n {
+                return fields::flawed(Fault::Record, o);
+            }
+            Verdict::Sound
+        }
+    }
+}
+
+// Offsets that stand one after the other in the bins data: the elements of a value list or of a segment list.
+pub struct Entries {
+    pub at: usize,
+    pub count: usize,
+}
+
+pub enum Listing {
+    Whole(Entries),
+    Flawed(Flaw),
+}
+
+// The list whose cell an offset names, with room for so many elements.
+fn list_at(bins: &[u8], map: &[u8], rule: Rule, o: Offset, count: u32) -> Listing
+    ensures { λ r. ⌜ r ≡ listing (roomFault rule (now (bins .entry)) (now (map .entry)) o (4 * count)) (entriesAt o count) ⌝ }
+{
+    match room_flaw(bins, map, rule, o, 4 * (count as usize)) {
+        Verdict::Flawed(f) => Listing::Flawed(f),
+        Verdict::Sound => Listing::Whole(Entries {
+            at: o.0 as usize + 4,
+            count: count as usize,
+        }),
+    }
+}
+
+// Element i of a list.
+pub fn entry(bins: &[u8], e: Entries, i: usize) -> Offset
+    requires { ⌜ Room (now bins) e ⌝ }
+    requires { ⌜ i < e .count ⌝ }
+    ensures { λ o. ⌜ o ≡ getD (entriesOf (now (bins .entry)) e) i nowhere ⌝ }
+{
+    Offset(fields::u32_at(bins, e.at + 4 * i))
+}
+
 // A segment: its cell, and how many bytes of the data it holds.
 pub struct Segment {
     pub at: Offset,
     pub len: usize,
+}
+
+// "count is size / 16,344 rounded up"
+fn segments_for(size: u32) -> u32
+    ensures { λ n. ⌜ n ≡ segmentsFor size ⌝ }
+{
+    ((size as usize + (SEGMENT_SIZE - 1)) / SEGMENT_SIZE) as u32
+}
+
+// "each segment but the last holds 16,344 bytes", of so many that are left
+fn segment_length(left: usize) -> usize
+    ensures { λ n. ⌜ n ≡ segmentLength left ⌝ }
+{
+    if SEGMENT_SIZE < left {
+        SEGMENT_SIZE
+    } else {
+        left
+    }
+}
+
+// "the cell holds `db`, segment count at 2, offset of the segment list at 4"
+fn is_db(r: &[u8], size: u32) -> bool
+    ensures { λ b. ⌜ b ≡ isDb (now (r .entry)) size ⌝ }
+{
+    if r.len() < 8 {
+        return false;
+    }
+    if !fields::stands_at(r, 0, b"db") {
+        return false;
+    }
+    fields::u16_at(r, 2) as u32 == segments_for(size)
+}
+
+// "`db` cell and record, segment list's cell and room"
+fn segment_list(bins: &[u8], map: &[u8], rule: Rule, o: Offset, size: u32) -> Listing
+    ensures { λ r. ⌜ r ≡ listing (segmentListFault rule (now (bins .entry)) (now (map .entry)) o size) (entriesAt (segmentList (now (bins .entry)) o) (segmentsFor size)) ⌝ }
+{
+    match cells::find_cell(bins, map, rule, o) {
+        Found::Missing(f) => Listing::Flawed(f),
+        Found::Named(c) => {
+            let r = cells::cell_data(bins, c);
+            if !is_db(r, size) {
+                return Listing::Flawed(Flaw {
+                    fault: Fault::Record,
+                    place: o,
+                });
+            }
+            let list = Offset(fields::u32_at(r, 4));
+            list_at(bins, map, rule, list, segments_for(size))
+        }
+    }
+}
+
+// ".. then the segments in order, each 11 then 12"
+fn each_segment_flaw(bins: &[u8], map: &[u8], rule: Rule, e: Entries, size: usize) -> Verdict
+    requires { ⌜ Room (now bins) e ⌝ }
+    ensures { λ r. ⌜ r ≡ faultOver (segmentFault rule (now (bins .entry)) (now (map .entry))) (segmentsIn (now (bins .entry)) e size) ⌝ }
+{
+    let count = e.count;
+    let mut left = size;
+    let mut i: usize = 0;
+    while i < count {
+        let n = segment_length(left);
+        let s = entry(bins, e, i);
+        if let Verdict::Flawed(f) = room_flaw(bins, map, rule, s, n) {
+            return Verdict::Flawed(f);
+        }
+        left -= n;
+        i += 1;
+    }
+    Verdict::Sound
+}
+
+fn segments_flaw(bins: &[u8], map: &[u8], rule: Rule, o: Offset, size: u32) -> Verdict
+    ensures { λ r. ⌜ r ≡ segmentsFault rule (now (bins .entry)) (now (map .entry)) o size ⌝ }
+{
+    match segment_list(bins, map, rule, o, size) {
+        Listing::Flawed(f) => Verdict::Flawed(f),
+        Listing::Whole(e) => each_segment_flaw(bins, map, rule, e, size as usize),
+    }
+}
+
+// The data's own 11 and 12. "size 0 reads nothing"
+pub fn data_flaw(bins: &[u8], map: &[u8], rule: Rule, x: ValueData) -> Verdict
+    ensures { λ r. ⌜ r ≡ dataFault rule (now (bins .entry)) (now (map .entry)) x ⌝ }
+{
+    match x {
+        ValueData::Inline { at: _, len: _ } => Verdict::Sound,
+        ValueData::OneCell { cell, len } => {
+            if len == 0 {
+                return Verdict::Sound;
+            }
+            room_flaw(bins, map, rule, cell, len as usize)
+        }
+        ValueData::Segments { cell, len } => segments_flaw(bins, map, rule, cell, len),
+    }
+}
+
+// A value's record, then its data.
+fn whole_value_flaw(bins: &[u8], map: &[u8], rule: Rule, minor: u32, v: Offset) -> Verdict
+    requires { ⌜ length (now bins) ≤ binsLimit ⌝ }
+    ensures { λ r. ⌜ r ≡ wholeValueFault rule (now (bins .entry)) (now (map .entry)) minor v ⌝ }
+{
+    match value_at(bins, map, rule, minor, v) {
+        Valued::Flawed(f) => Verdict::Flawed(f),
+        Valued::Whole(x) => {
+            let content = x.content;
+            data_flaw(bins, map, rule, content)
+        }
+    }
+}
+
+// The value list of a key: its cell, and its room for all elements. Value count 0 reads nothing.
+pub fn value_list(bins: &[u8], map: &[u8], rule: Rule, k: records::Key) -> Listing
+    ensures { λ r. ⌜ r ≡ listing (valueListFault rule (now (bins .entry)) (now (map .entry)) k) (valueEntries k) ⌝ }
+{
+    let count = k.values;
+    let list = k.value_list;
+    if count == 0 {
+        return Listing::Whole(Entries { at: 0, count: 0 });
+    }
+    list_at(bins, map, rule, list, count)
+}
+
+// "values in order with their data": a value's record, then its data, then the next value.
+fn each_value_flaw(bins: &[u8], map: &[u8], rule: Rule, minor: u32, e: Entries) -> Verdict
+    requires { ⌜ length (now bins) ≤ binsLimit ⌝ }
+    requires { ⌜ Room (now bins) e ⌝ }
+    ensures { λ r. ⌜ r ≡ faultOver (wholeValueFault rule (now (bins .entry)) (now (map .entry)) minor) (entriesOf (now (bins .entry)) e) ⌝ }
+{
+    let count = e.count;
+    let mut i: usize = 0;
+    while i < count {
+        let v = entry(bins, e, i);
+        if let Verdict::Flawed(f) = whole_value_flaw(bins, map, rule, minor, v) {
+            return Verdict::Flawed(f);
+        }
+        i += 1;
+    }
+    Verdict::Sound
+}
+
+// The check's stage of a key's values.
+pub fn values_flaw(bins: &[u8], map: &[u8], rule: Rule, minor: u32, k: records::Key) -> Verdict
+    requires { ⌜ length (now bins) ≤ binsLimit ⌝ }
+    ensures { λ r. ⌜ r ≡ valuesFault rule (now (bins .entry)) (now (map .entry)) minor k ⌝ }
+{
+    match value_list(bins, map, rule, k) {
+        Listing::Flawed(f) => Verdict::Flawed(f),
+        Listing::Whole(e) => each_value_flaw(bins, map, rule, minor, e),
+    }
+}
+
+// A part of the bins data.
+pub struct Part {
+    pub at: usize,
+    pub len: usize,
+}
+
+// The one part that holds inline data or data in one cell: what a view shows.
+pub fn part_of(x: ValueData) -> Part
+    ensures { λ p. ⌜ p ≡ partOf x ⌝ }
+{
+    match x {
+        ValueData::Inline { at, len } => Part {
+            at: at.0 as usize,
+            len: len as usize,
+        },
+        ValueData::OneCell { cell, len } => {
+            if len == 0 {
+                return Part { at: 0, len: 0 };
+            }
+            Part {
+                at: cell.0 as usize + 4,
+                len: len as usize,
+            }
+        }
+        ValueData::Segments { cell: _, len: _ } => Part { at: 0, len: 0 },
+    }
+}
+
+fn copy_all(src: &[u8], dst: &mut [u8])
+    requires { ⌜ length (now dst) ≡ length (now src) ⌝ }
+    ensures { λ _. ⌜ now (dst .exit) ≡ now (src .entry) ⌝ }
+{
+    bytes::copy(src, dst);
+}
+
+// Copies a part of the bins data into the middle part of `out` that starts at `to`.
+fn copy_part(bins: &[u8], p: Part, out: &mut [u8], to: usize)
+    requires { ⌜ p .at + p .len ≤ length (now bins) ⌝ }
+    requires { ⌜ to + p .len ≤ length (now out) ⌝ }
+    ensures { λ _. ⌜ now (out .exit) ≡ paste (now (out .entry)) to (drop (p .at) (now (bins .entry))) (p .len) ⌝ }
+{
+    let at = p.at;
+    let end = at + p.len;
+    let stop = to + p.len;
+    copy_all(&bins[at..end], &mut out[to..stop]);
+}
+
+// The segments' bytes, one after the other.
+fn copy_segments(bins: &[u8], e: Entries, size: usize, out: &mut [u8])
+    requires { ⌜ SegmentsLie (now bins) e size ⌝ }
+    requires { ⌜ size ≤ length (now out) ⌝ }
+    ensures { λ _. ⌜ now (out .exit) ≡ joinedBytes (now (bins .entry)) (segmentsIn (now (bins .entry)) e size) ++ drop size (now (out .entry)) ⌝ }
+{
+    let count = e.count;
+    let mut left = size;
+    let mut i: usize = 0;
+    while i < count {
+        let n = segment_length(left);
+        let s = entry(bins, e, i);
+        let p = Part {
+            at: s.0 as usize + 4,
+            len: n,
+        };
+        copy_part(bins, p, out, size - left);
+        left -= n;
+        i += 1;
+    }
+}
+
+// The segment list of a `db` that was tested.
+fn segments_at(bins: &[u8], o: Offset, size: u32) -> Entries
+    requires { ⌜ o .0 + 12 ≤ length (now bins) ⌝ }
+    ensures { λ e. ⌜ e ≡ entriesAt (offsetAt (now (bins .entry)) (o .0 + 8)) (segmentsFor size) ⌝ }
+{
+    let list = fields::u32_at(bins, o.0 as usize + 8);
+    Entries {
+        at: list as usize + 4,
+        count: segments_for(size) as usize,
+    }
+}
+
+// Writes the data's bytes to the start of `out`, and no other byte.
+pub fn copy_data(bins: &[u8], x: ValueData, out: &mut [u8])
+    requires { ⌜ Lies (now bins) x ⌝ }
+    requires { ⌜ lengthOf x ≤ length (now out) ⌝ }
+    ensures { λ _. ⌜ now (out .exit) ≡ bytesOf (now (bins .entry)) x ++ drop (lengthOf x) (now (out .entry)) ⌝ }
+{
+    match x {
+        ValueData::Inline { at: _, len: _ } => copy_part(bins, part_of(x), out, 0),
+        ValueData::OneCell { cell: _, len: _ } => copy_part(bins, part_of(x), out, 0),
+        ValueData::Segments { cell, len } => {
+            let e = segments_at(bins, cell, len);
+            copy_segments(bins, e, len as usize, out);
+        }
+    }
 }

@@ -1,0 +1,90 @@
+-- A test of the data of the cell that an offset names: value record, `db` record and room are such tests. 11 at the offset, or 12 at that cell.
+use Prim.Native.Nat.{ℕ}
+use native.Mathlib.Omega.{arith}
+use mathlib.Core.Path.{_≡_, refl, sym, ap, _∙_}
+use mathlib.Core.Bool.{Bool, true, false}
+use mathlib.Core.List.{List, [], _∷_}
+use mathlib.Core.Logic.{_⊎_, inl, inr}
+use Rattle.fields.specs.declared.Offset.{Offset}
+use Rattle.fields.specs.declared.Flaw.{Flaw}
+use Rattle.fields.specs.declared.Fault.the-variants.{NoCell, Record}
+use Rattle.fields.specs.declared.Verdict.{Verdict}
+use Rattle.fields.specs.declared.Verdict.the-variants.{Sound, Flawed}
+use Rattle.fields.specs.Faults.{flaw, unless, _next_, faultOver}
+use Rattle.fields.proofs.Firsts.{on, stop, both, sound, held, holds, fails}
+use Rattle.cells.specs.declared.Cell.{Cell}
+use Rattle.cells.specs.declared.Found.{Found}
+use Rattle.cells.specs.declared.Found.the-variants.{Named, Missing}
+use Rattle.cells.specs.declared.Rule.{Rule}
+use Rattle.cells.specs.declared.Rule.the-variants.{Header}
+use Rattle.cells.specs.Named.{cellOf, cellFault, dataOf, dataAt}
+use Rattle.cells.proofs.Naming.{Names, by-either, cell-sound, cell-flawed, cell-data-at, sound-names, cell-fault-is}
+
+-- ---- each flaw is 11 or 12
+
+abbrev pub Only : Verdict → Type 0
+Only v = (f : Flaw) → v ≡ Flawed f → (f .fault ≡ NoCell) ⊎ (f .fault ≡ Record)
+
+pub only-sound : {v : Verdict} → v ≡ Sound → Only v
+only-sound p f e = absurd (let z : _≡_ {A = ℕ} 0 1 = cc in omega arith)
+
+pub only-next : (a b : Verdict) → Only a → Only b → Only (a next b)
+unfolding _next_
+only-next Sound b p q = q
+only-next (Flawed g) b p q = p
+
+pub only-over : {A : Type 0} (each : A → Verdict) (xs : List A) → ((x : A) → Only (each x)) → Only (faultOver each xs)
+unfolding faultOver
+only-over each [] p = only-sound refl
+only-over each (x ∷ xs) p = only-next (each x) (faultOver each xs) (p x) (only-over each xs p)
+
+-- ---- what the map names, the cell's own header names
+
+pub carries-next : (a b x y : Verdict) → (a ≡ Sound → x ≡ Sound) → (b ≡ Sound → y ≡ Sound) → a next b ≡ Sound → x next y ≡ Sound
+carries-next a b x y p q e = let s = both a b e in sound x y (p (s .0)) (q (s .1))
+
+pub carries-over : {A : Type 0} (each other : A → Verdict) (xs : List A) → ((x : A) → each x ≡ Sound → other x ≡ Sound)
+    → faultOver each xs ≡ Sound → faultOver other xs ≡ Sound
+unfolding faultOver
+carries-over each other [] p e = refl
+carries-over each other (x ∷ xs) p e =
+    carries-next (each x) (faultOver each xs) (other x) (faultOver other xs) (p x) (carries-over each other xs p) e
+
+pub cell-by-header : (rule : Rule) (d m n : List ℕ) (o : Offset) → cellFault rule d m o ≡ Sound → cellFault Header d n o ≡ Sound
+unfolding cellFault cellOf
+cell-by-header rule d m n o e = by (cellOf rule d m o) refl
+  where
+    by : (f : Found) → cellOf rule d m o ≡ f → cellFault Header d n o ≡ Sound
+    by (Named c) p = cell-sound Header d n o (by-either d o rule m p)
+    by (Missing f) p = let z : _≡_ {A = ℕ} 0 1 = cc in absurd (omega arith)
+
+-- ---- a test of a cell's data
+
+abbrev pub testFault : (List ℕ → Bool) → Rule → List ℕ → List ℕ → Offset → Verdict
+testFault test rule d m o = cellFault rule d m o next unless (test (dataAt d o)) (flaw Record o)
+
+module _ (test : List ℕ → Bool) (rule : Rule) (d m : List ℕ) (o : Offset) where
+  pub lacks : {f : Flaw} → cellOf rule d m o ≡ Missing f → testFault test rule d m o ≡ Flawed f
+  lacks e = stop _ _ (cell-flawed rule d m o e)
+
+  module _ {c : Cell} (e : cellOf rule d m o ≡ Named c) (r : List ℕ) (q : r ≡ dataOf d c) where
+    pub passes : test r ≡ true → testFault test rule d m o ≡ Sound
+    passes p = on _ _ (cell-sound rule d m o e) ∙ holds _ (ap test (sym (q ∙ cell-data-at rule d m o e)) ∙ p)
+
+    pub refuses : test r ≡ false → testFault test rule d m o ≡ Flawed (flaw Record o)
+    refuses p = on _ _ (cell-sound rule d m o e) ∙ fails _ (ap test (sym (q ∙ cell-data-at rule d m o e)) ∙ p)
+
+  pub says : testFault test rule d m o ≡ Sound → Names d (o .0) × (test (dataAt d o) ≡ true)
+  says e =
+      let s = both (cellFault rule d m o) _ e in
+      (sound-names rule d m o (s .0), held (test (dataAt d o)) (flaw Record o) (s .1))
+
+  pub only-test : Only (testFault test rule d m o)
+  only-test = only-next (cellFault rule d m o) _ (λ f e. inl (ap (λ (f : Flaw). f .fault) (cell-fault-is rule d m o e))) (by (test (dataAt d o)))
+    where
+      by : (t : Bool) → Only (unless t (flaw Record o))
+      by true = only-sound refl
+      by false = λ f e. inr (let q : flaw Record o ≡ f = cc in ap (λ (x : Flaw). x .fault) (sym q))
+
+  pub by-header : (n : List ℕ) → testFault test rule d m o ≡ Sound → testFault test Header d n o ≡ Sound
+  by-header n = carries-next (cellFault rule d m o) _ (cellFault Header d n o) _ (cell-by-header rule d m n o) (λ e. e)

@@ -1,0 +1,42 @@
+use mathlib.Core.Path.{_≡_}
+use borrow.Author.Tests.{le-leb, lt-leb}
+use Rattle.values.specs.Records.{contentOf}
+use borrow.Author.Needs.{needs}
+use Rattle.values.proofs.content_of.Statement.{statement}
+use Rattle.values.proofs.content_of.Tie as tie
+
+u32-at-requires : tie.Need-u32-at-requires
+u32-at-requires c κs = search needs
+
+add-t7 : tie.Need-add-t7
+add-t7 c = search needs
+
+returns : tie.Need-returns
+unfolding contentOf
+returns c = rw (← c .before .before .u32-at .ensures, le-leb _ _ (c .before .if1 .taken))
+
+u32-at-requires-2 : tie.Need-u32-at-requires-2
+u32-at-requires-2 c κs = search needs
+
+is-segmented-requires : tie.Need-is-segmented-requires
+is-segmented-requires c κs = search needs
+
+returns-2 : tie.Need-returns-2
+unfolding contentOf
+returns-2 c = rw (← c .before .before .before .before .u32-at .ensures, lt-leb _ _ (c .before .before .before .if1 .left), ← c .before .is-segmented .ensures, c .if2 .taken, ← c .before .before .u32-at2 .ensures)
+
+returns-3 : tie.Need-returns-3
+unfolding contentOf
+returns-3 c = rw (← c .before .before .before .before .u32-at .ensures, lt-leb _ _ (c .before .before .before .if1 .left), ← c .before .is-segmented .ensures, c .if2 .left, ← c .before .before .u32-at2 .ensures)
+
+pub content-of-spec : {M : Type 1} → statement M
+content-of-spec =
+    tie.close
+    (tie.spec
+    u32-at-requires
+    add-t7
+    returns
+    u32-at-requires-2
+    is-segmented-requires
+    returns-2
+    returns-3)

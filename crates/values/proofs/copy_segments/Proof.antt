@@ -1,0 +1,73 @@
+use mathlib.Core.Path.{_≡_, refl}
+use native.Mathlib.Omega.{arith}
+use Prim.Native.Nat.{_-_}
+use borrow.Author.Needs.{needs}
+use Rattle.values.proofs.Copying.{Copied, copied-start, turn-room, turn, copied-end}
+use Rattle.values.proofs.Segment_turns.{takes}
+use Rattle.values.proofs.copy_segments.Statement.{statement}
+use Rattle.values.proofs.copy_segments.Tie as tie
+
+abbrev Inv-loop : tie.InvT-loop
+Inv-loop bins e size out₀ count left₀ i₀ out left i = (count ≡ e .count) × Copied bins out₀ e size out left i
+
+abbrev μ-loop : tie.MeasureT-loop
+μ-loop bins e size out₀ count left₀ i₀ out left i = count - i
+
+loop-holds : tie.Need-loop-holds Inv-loop μ-loop
+loop-holds c = (refl, copied-start _ _ _ _ (c .before .before .pre .0))
+
+segment-length-requires : tie.Need-segment-length-requires Inv-loop μ-loop
+segment-length-requires c κs = search needs
+
+entry-requires : tie.Need-entry-requires Inv-loop μ-loop
+entry-requires c κs = (c .before .before .before .before .before .pre .0 .room, omega arith)
+
+cast-t12 : tie.Need-cast-t12 Inv-loop μ-loop
+cast-t12 c = search needs
+
+add-t13 : tie.Need-add-t13 Inv-loop μ-loop
+add-t13 c = search needs
+
+sub-copy-part : tie.Need-sub-copy-part Inv-loop μ-loop
+sub-copy-part c = omega (arith, c .before .before .before .before .before .loop .inv .1 .within)
+
+copy-part-requires : tie.Need-copy-part-requires Inv-loop μ-loop
+copy-part-requires c κs = turn-room _ _ _ _ (c .before .before .before .before .before .loop .inv .1) (c .before .before .before .before .before .before .before .before .pre .1) (omega arith) _ _ (c .before .before .entry .ensures) (c .before .before .before .segment-length .ensures)
+
+sub-left : tie.Need-sub-left Inv-loop μ-loop
+sub-left c = let t = takes (c .before .before .before .before .before .before .before .before .loop .left) in omega arith
+
+add-i : tie.Need-add-i Inv-loop μ-loop
+add-i c = omega arith
+
+loop-less : tie.Need-loop-less Inv-loop μ-loop
+loop-less c = omega arith
+
+loop-again : tie.Need-loop-again Inv-loop μ-loop
+loop-again c = (c .before .before .before .before .before .before .before .before .loop .inv .0, rw (c .before .before .copy-part .ensures) (turn _ _ _ _ (c .before .before .before .before .before .before .before .before .loop .inv .1) (c .before .before .before .before .before .before .before .before .before .before .before .pre .1) (omega arith) _ _ (c .before .before .before .before .before .entry .ensures) (c .before .before .before .before .before .before .segment-length .ensures)))
+
+same-length : tie.Need-same-length Inv-loop μ-loop
+same-length c = c .before .loop .inv .1 .kept
+
+returns : tie.Need-returns Inv-loop μ-loop
+returns c = copied-end _ _ _ _ (c .before .loop .inv .1) (omega arith)
+
+pub copy-segments-spec : {M : Type 1} → statement M
+copy-segments-spec =
+    tie.close
+    (tie.spec
+    Inv-loop
+    μ-loop
+    loop-holds
+    segment-length-requires
+    entry-requires
+    cast-t12
+    add-t13
+    sub-copy-part
+    copy-part-requires
+    sub-left
+    add-i
+    loop-less
+    loop-again
+    same-length
+    returns)

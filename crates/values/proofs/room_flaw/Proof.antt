@@ -1,0 +1,38 @@
+use mathlib.Core.Path.{_≡_, sym, _∙_}
+use Rattle.values.proofs.Rooms.{room-lacks, room-short, room-enough}
+use borrow.Author.Needs.{needs}
+use Rattle.values.proofs.room_flaw.Statement.{statement}
+use Rattle.values.proofs.room_flaw.Tie as tie
+
+find-cell-requires : tie.Need-find-cell-requires
+find-cell-requires c κs = search needs
+
+enum-known-f : tie.Need-enum-known-f
+enum-known-f c = search needs
+
+enum-known-c : tie.Need-enum-known-c
+enum-known-c c = search needs
+
+flawed-requires : tie.Need-flawed-requires
+flawed-requires c κs = search needs
+
+returns : tie.Need-returns
+returns c = c .flawed .ensures ∙ sym (room-short _ _ _ _ _ (sym (c .before .before .before .before .before .find-cell .ensures) ∙ c .before .before .before .c .given .1) (c .before .if1 .taken))
+
+returns-2 : tie.Need-returns-2
+returns-2 c = sym (room-lacks _ _ _ _ _ (sym (c .before .before .before .find-cell .ensures) ∙ c .before .f .given .1))
+
+returns-3 : tie.Need-returns-3
+returns-3 c = sym (room-enough _ _ _ _ _ (sym (c .before .before .before .before .find-cell .ensures) ∙ c .before .before .c .given .1) (c .if1 .left))
+
+pub room-flaw-spec : {M : Type 1} → statement M
+room-flaw-spec =
+    tie.close
+    (tie.spec
+    find-cell-requires
+    enum-known-f
+    enum-known-c
+    flawed-requires
+    returns
+    returns-2
+    returns-3)

@@ -1,0 +1,49 @@
+use Rattle.values.specs.declared.Valued.the-variants.{Whole}
+use mathlib.Core.Path.{_≡_, sym, ap, _∙_}
+use borrow.Author.Tests.{not-true, not-false}
+use Rattle.cells.proofs.Naming.{inside}
+use Rattle.values.proofs.Valued_at.{value-lacks, value-refused, value-whole, value-room}
+use borrow.Author.Needs.{needs}
+use Rattle.values.proofs.value_at.Statement.{statement}
+use Rattle.values.proofs.value_at.Tie as tie
+
+find-cell-requires : tie.Need-find-cell-requires
+find-cell-requires c κs = search needs
+
+enum-known-f : tie.Need-enum-known-f
+enum-known-f c = search needs
+
+enum-known-c : tie.Need-enum-known-c
+enum-known-c c = search needs
+
+cell-data-requires : tie.Need-cell-data-requires
+cell-data-requires c κs = let i = inside _ _ _ _ (sym (c .before .before .before .find-cell .ensures) ∙ c .before .c .given .1) in i .high
+
+is-value-requires : tie.Need-is-value-requires
+is-value-requires c κs = search needs
+
+returns : tie.Need-returns
+returns c = sym (value-refused _ _ _ _ _ (sym (c .before .before .before .before .before .before .find-cell .ensures) ∙ c .before .before .before .before .c .given .1) _ (c .before .before .cell-data .ensures) (sym (c .before .is-value .ensures) ∙ not-true _ (c .if1 .taken)))
+
+fields-of-requires : tie.Need-fields-of-requires
+fields-of-requires c κs = value-room _ _ _ (c .before .before .before .before .before .before .before .before .before .args .minor) _ (sym (c .before .before .before .before .before .before .find-cell .ensures) ∙ c .before .before .before .before .c .given .1) _ (c .before .before .cell-data .ensures) (sym (c .before .is-value .ensures) ∙ not-false _ (c .if1 .left)) (c .before .before .before .before .before .before .before .before .before .pre)
+
+returns-2 : tie.Need-returns-2
+returns-2 c = sym (value-lacks _ _ _ _ _ (sym (c .before .before .before .find-cell .ensures) ∙ c .before .f .given .1))
+
+returns-3 : tie.Need-returns-3
+returns-3 c = ap Whole (c .fields-of .ensures) ∙ sym (value-whole _ _ _ _ _ (sym (c .before .before .before .before .before .before .before .find-cell .ensures) ∙ c .before .before .before .before .before .c .given .1) _ (c .before .before .before .cell-data .ensures) (sym (c .before .before .is-value .ensures) ∙ not-false _ (c .before .if1 .left)))
+
+pub value-at-spec : {M : Type 1} → statement M
+value-at-spec =
+    tie.close
+    (tie.spec
+    find-cell-requires
+    enum-known-f
+    enum-known-c
+    cell-data-requires
+    is-value-requires
+    returns
+    fields-of-requires
+    returns-2
+    returns-3)
