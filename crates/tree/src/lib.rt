@@ -1,7 +1,27 @@
 // The check: the tree walked from the root, and the report.
+use cells::Rule;
+use cells::Surveyed;
+use fields::Fault;
 use fields::Offset;
 use fields::Refusal;
+use fields::Verdict;
+use names::Order;
+use records::Child;
+use records::Key;
+use records::Keyed;
+use records::Totalled;
 ghost use mathlib.Core.Path.{_≡_};
+ghost use Prim.Native.Nat.{_+_, _≤_};
+ghost use lib.ListN.{length};
+ghost use Rattle.base.specs.Block.{binsLimit};
+ghost use Rattle.cells.specs.Survey.{mapLeft};
+ghost use Rattle.cells.specs.Named.{dataAt};
+ghost use Rattle.cells.specs.declared.Rule.the-variants.{Map};
+ghost use Rattle.fields.specs.declared.Verdict.the-variants.{Sound};
+ghost use Rattle.records.specs.Keys.{keyOf};
+ghost use Rattle.records.specs.Lists.{leafChildren, leafFault, childrenBelow, listsFault};
+ghost use Rattle.tree.specs.Tree.{parentFault, orderFault, placeFault, hashFault, restFault, ownFault, tally as tallyOf, keyAnswer, listAnswer, checkAnswer};
+ghost use Rattle.tree.specs.Steps.{NameLies, Fits, ListedFits, listingFault, lastOf};
 
 // "The check reports bins, keys reached, values (one for each value list element of those keys), used bytes and free bytes"
 pub struct Report {
@@ -41,8 +61,202 @@ pub enum Walk {
     Refused(Refusal),
 }
 
-// A refusal, or none.
-pub enum Charge {
-    Free,
-    Of(Refusal),
+// "a subkey's parent field names the key that lists it, and no subkey is the root"
+fn parent_flaw(root: Offset, k: Key, at: Offset, parent: Offset) -> Verdict
+    ensures { λ r. ⌜ r ≡ parentFault root k at parent ⌝ }
+{
+    if k.parent.0 != parent.0 {
+        return fields::flawed(Fault::Parent, at);
+    }
+    if at.0 == root.0 {
+        return fields::flawed(Fault::Parent, at);
+    }
+    Verdict::Sound
+}
+
+// "those of subkeys ascend strictly over all leaves of a key"
+fn order_flaw(bins: &[u8], sibling: Offset, k: Key, at: Offset) -> Verdict
+    requires { ⌜ NameLies (now bins) k ⌝ }
+    requires { ⌜ Fits (now bins) sibling ⌝ }
+    ensures { λ r. ⌜ r ≡ orderFault (now (bins .entry)) sibling k at ⌝ }
+{
+    let before = records::key_fields(bins, sibling);
+    let a = before.name;
+    let b = k.name;
+    match records::compare_names(bins, a, b) {
+        Order::Before => Verdict::Sound,
+        Order::Same => fields::flawed(Fault::Order, at),
+        Order::After => fields::flawed(Fault::Order, at),
+    }
+}
+
+// Where the key was listed: "parent or root listed (neither at the start); order".
+fn place_flaw(bins: &[u8], root: Offset, k: Key, at: Offset, l: Listed) -> Verdict
+    requires { ⌜ NameLies (now bins) k ⌝ }
+    requires { ⌜ ListedFits (now bins) l ⌝ }
+    ensures { λ r. ⌜ r ≡ placeFault (now (bins .entry)) root k at l ⌝ }
+{
+    match l {
+        Listed::Start => Verdict::Sound,
+        Listed::First(p) => parent_flaw(root, k, at, p),
+        Listed::After(p, b) => match parent_flaw(root, k, at, p) {
+            Verdict::Flawed(f) => Verdict::Flawed(f),
+            Verdict::Sound => order_flaw(bins, b, k, at),
+        },
+    }
+}
+
+// The hash of an `lh` element is that of the name.
+fn hash_flaw(bins: &[u8], k: Key, c: Child) -> Verdict
+    requires { ⌜ NameLies (now bins) k ⌝ }
+    ensures { λ r. ⌜ r ≡ hashFault (now (bins .entry)) k c ⌝ }
+{
+    if !c.hashed {
+        return Verdict::Sound;
+    }
+    let name = k.name;
+    if records::hash_of(bins, name) == c.hash {
+        return Verdict::Sound;
+    }
+    fields::flawed(Fault::Order, c.at)
+}
+
+// "all its lists and the total"
+fn listing_flaw(bins: &[u8], map: &[u8], k: Key, at: Offset) -> Verdict
+    ensures { λ r. ⌜ r ≡ listingFault (now (bins .entry)) (now (map .entry)) k at ⌝ }
+{
+    match records::total_of(bins, map, Rule::Map, k) {
+        Totalled::Flawed(f) => Verdict::Flawed(f),
+        Totalled::Total(n) => {
+            if n != k.subkeys as usize {
+                return fields::flawed(Fault::Parent, at);
+            }
+            Verdict::Sound
+        }
+    }
+}
+
+// "level; values in order with their data; all its lists and the total"
+fn rest_flaw(bins: &[u8], map: &[u8], minor: u32, levels: u32, k: Key, at: Offset) -> Verdict
+    requires { ⌜ length (now bins) ≤ binsLimit ⌝ }
+    ensures { λ r. ⌜ r ≡ restFault (now (bins .entry)) (now (map .entry)) minor levels k at ⌝ }
+{
+    if levels == 0 {
+        return fields::flawed(Fault::Level, at);
+    }
+    match values::values_flaw(bins, map, Rule::Map, minor, k) {
+        Verdict::Flawed(f) => Verdict::Flawed(f),
+        Verdict::Sound => listing_flaw(bins, map, k, at),
+    }
+}
+
+// All of a key's tests but that of its record.
+fn own_flaw(bins: &[u8], map: &[u8], hive: Hive, levels: u32, k: Key, c: Child, l: Listed) -> Verdict
+    requires { ⌜ (length (now bins) ≤ binsLimit) × NameLies (now bins) k ⌝ }
+    requires { ⌜ ListedFits (now bins) l ⌝ }
+    ensures { λ r. ⌜ r ≡ ownFault (now (bins .entry)) (now (map .entry)) hive levels k c l ⌝ }
+{
+    let at = c.at;
+    match place_flaw(bins, hive.root, k, at, l) {
+        Verdict::Flawed(f) => Verdict::Flawed(f),
+        Verdict::Sound => match hash_flaw(bins, k, c) {
+            Verdict::Flawed(f) => Verdict::Flawed(f),
+            Verdict::Sound => rest_flaw(bins, map, hive.minor, levels, k, at),
+        },
+    }
+}
+
+// One key more. The sums cannot wrap in a hive that is accepted: no key is listed twice.
+fn tally(t: Count, k: Key) -> Count
+    ensures { λ r. ⌜ r ≡ tallyOf t k ⌝ }
+{
+    Count {
+        keys: std::num::wrapping_add_u64(t.keys, 1),
+        values: std::num::wrapping_add_u64(t.values, k.values as u64),
+    }
+}
+
+// The last key of a leaf.
+fn last_of(bins: &[u8], map: &[u8], o: Offset) -> Offset
+    requires { ⌜ leafFault Map (now bins) (now map) o ≡ Sound ⌝ }
+    ensures { λ r. ⌜ r ≡ lastOf (now (bins .entry)) o ⌝ }
+{
+    let leaf = records::leaf_fields(bins, o);
+    let c = records::child_of(bins, leaf, leaf.count - 1);
+    c.at
+}
+
+// "A key is checked by way of its lists, and a list by way of its keys." The levels left fall with each key; lists and leaves are walked in loops.
+fn check_key(bins: &[u8], map: &[u8], hive: Hive, c: Child, l: Listed, levels: u32, t: Count) -> Walk
+    requires { ⌜ length (now bins) ≤ binsLimit ⌝ }
+    requires { ⌜ ListedFits (now bins) l ⌝ }
+    ensures { λ r. ⌜ r ≡ keyAnswer (now (bins .entry)) (now (map .entry)) hive levels c l t ⌝ }
+{
+    let at = c.at;
+    match records::key_at(bins, map, Rule::Map, at) {
+        Keyed::Flawed(f) => Walk::Refused(fields::refused(f)),
+        Keyed::Whole(k) => match own_flaw(bins, map, hive, levels, k, c, l) {
+            Verdict::Flawed(f) => Walk::Refused(fields::refused(f)),
+            Verdict::Sound => {
+                let u = tally(t, k);
+                check_list(bins, map, hive, at, k, levels - 1, u)
+            }
+        },
+    }
+}
+
+// The children of a key, leaf by leaf.
+fn check_list(bins: &[u8], map: &[u8], hive: Hive, key: Offset, k: Key, levels: u32, from: Count) -> Walk
+    requires { ⌜ length (now bins) ≤ binsLimit ⌝ }
+    requires { ⌜ listsFault Map (now bins) (now map) k ≡ Sound ⌝ }
+    ensures { λ r. ⌜ r ≡ listAnswer (now (bins .entry)) (now (map .entry)) hive levels key (Listed.First key) (childrenBelow (now (bins .entry)) k) from ⌝ }
+{
+    if k.subkeys == 0 {
+        return Walk::Counted(from);
+    }
+    let ls = records::leaves_fields(bins, k.list);
+    let mut t = from;
+    let mut l = Listed::First(key);
+    let mut j: usize = 0;
+    while j < ls.count {
+        let o = records::leaf_offset(bins, ls, j);
+        let w = check_leaf(bins, map, hive, key, o, l, levels, t);
+        match w {
+            Walk::Refused(f) => return Walk::Refused(f),
+            Walk::Counted(u) => {
+                t = u;
+            }
+        }
+        let last = last_of(bins, map, o);
+        l = Listed::After(key, last);
+        j += 1;
+    }
+    Walk::Counted(t)
+}
+
+// The keys of a leaf, each wholly before the next.
+fn check_leaf(bins: &[u8], map: &[u8], hive: Hive, key: Offset, o: Offset, first: Listed, levels: u32, from: Count) -> Walk
+    requires { ⌜ length (now bins) ≤ binsLimit ⌝ }
+    requires { ⌜ leafFault Map (now bins) (now map) o ≡ Sound ⌝ }
+    requires { ⌜ ListedFits (now bins) first ⌝ }
+    ensures { λ r. ⌜ r ≡ listAnswer (now (bins .entry)) (now (map .entry)) hive levels key first (leafChildren (dataAt (now (bins .entry)) o)) from ⌝ }
+{
+    let leaf = records::leaf_fields(bins, o);
+    let mut t = from;
+    let mut l = first;
+    let mut i: usize = 0;
+    while i < leaf.count {
+        let c = records::child_of(bins, leaf, i);
+        let w = check_key(bins, map, hive, c, l, levels, t);
+        match w {
+            Walk::Refused(f) => return Walk::Refused(f),
+            Walk::Counted(u) => {
+                t = u;
+            }
+        }
+        let at = c.at;
+        l = Listed::After(key, at);
+        i += 1;
+    }
+    Walk::Counted(t)
 }
