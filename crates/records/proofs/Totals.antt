@@ -1,7 +1,7 @@
 -- The total over the leaves, by a loop: the invariant, a law for each way out, and the way from a key's lists to their leaves.
 use Prim.Native.Nat.{ℕ, _+_, _*_, _<_, _≤_}
 use native.Mathlib.Omega.{arith}
-use mathlib.Core.Path.{_≡_, refl, sym, ap, _∙_}
+use mathlib.Core.Path.{_≡_, refl, ap, _∙_}
 use mathlib.Core.List.{List}
 use lib.ListN.{length, getD, drop}
 use Rattle.fields.specs.declared.Offset.{Offset}

@@ -1,7 +1,7 @@
 -- Where the leaves of a list and the elements of a leaf stand in the bins data, so that a loop over them reads each list's head once.
 use Prim.Native.Nat.{ℕ, _+_, _*_, _≤_}
 use mathlib.Core.Path.{_≡_}
-use mathlib.Core.Bool.{Bool, true, false, cond}
+use mathlib.Core.Bool.{true, false, cond}
 use mathlib.Core.List.{List, [], _∷_}
 use lib.ListN.{length}
 use Rattle.fields.specs.declared.Offset.{Offset}
