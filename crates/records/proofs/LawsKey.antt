@@ -1,8 +1,8 @@
 -- What a key that passes its test says.
-use Prim.Native.Nat.{ℕ, _+_, _-_, _<_, _≤_}
+use Prim.Native.Nat.{ℕ, _+_, _-_, _≤_}
 use native.Mathlib.Omega.{arith}
-use mathlib.Core.Path.{_≡_, refl, sym, ap, _∙_}
-use mathlib.Core.Bool.{Bool, true, false, not, _&&_}
+use mathlib.Core.Path.{_≡_, sym, ap, _∙_}
+use mathlib.Core.Bool.{true, false}
 use mathlib.Core.List.{List, [], _∷_}
 use lib.ListN.{length, take, drop}
 use lib.Dec.{leb}
@@ -15,8 +15,8 @@ use Rattle.fields.specs.Bytes.{standsAt}
 use Rattle.fields.proofs.Bools.{and-inv}
 use Rattle.cells.specs.declared.Rule.{Rule}
 use Rattle.cells.specs.declared.Rule.the-variants.{Header}
-use Rattle.cells.specs.Named.{dataAt, dataOf, cellAt}
-use Rattle.cells.proofs.Naming.{Names, data-at-length}
+use Rattle.cells.specs.Named.{dataAt}
+use Rattle.cells.proofs.Naming.{Names}
 use Rattle.names.specs.Codes.{codes, charactersIn, hasCode, backslash}
 use Rattle.names.proofs.LawsCodes.{counted}
 use Rattle.records.specs.Keys.{isWhole, isKeyName, keyNarrow, keyName, isKey, keyFault, keyIn, keyOf, codesOf}

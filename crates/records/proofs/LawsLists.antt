@@ -2,24 +2,23 @@
 use Prim.Native.Nat.{ℕ, zero, suc, _<_}
 use native.Mathlib.Omega.{arith}
 use mathlib.Core.Path.{_≡_, refl, sym, ap, _∙_}
-use mathlib.Core.Bool.{Bool, true, false, cond}
+use mathlib.Core.Bool.{Bool, true, false}
 use mathlib.Core.List.{List, [], _∷_, List·Memᴰ, List·Memᴰ·eq-of-singleton, List·Memᴰ·not-nil}
 use lib.ListN.{length}
-use lib.Dec.{eqb}
 use borrow.Author.Tests.{eq-eqb, ne-eqb}
 use Rattle.fields.specs.declared.Offset.{Offset}
 use Rattle.fields.specs.declared.Flaw.{Flaw}
 use Rattle.fields.specs.declared.Verdict.{Verdict}
 use Rattle.fields.specs.declared.Verdict.the-variants.{Sound, Flawed}
-use Rattle.fields.specs.Faults.{_next_, faultOver}
-use Rattle.fields.proofs.Firsts.{on, stop, both, sound}
+use Rattle.fields.specs.Faults.{faultOver}
+use Rattle.fields.proofs.Firsts.{on, stop, both}
 use Rattle.fields.proofs.Loops.{over-each, each-over}
 use Rattle.cells.specs.declared.Rule.{Rule}
 use Rattle.cells.specs.declared.Rule.the-variants.{Header}
 use Rattle.cells.specs.Named.{dataAt}
 use Rattle.cells.proofs.Naming.{Names}
 use Rattle.records.specs.declared.Key.{Key}
-use Rattle.records.specs.Lists.{isRi, isLeaf, isList, leafChildren, leavesOf, childrenIn, leavesBelow, childrenBelow, leafFault, headFault, listFault, listsFault}
+use Rattle.records.specs.Lists.{isRi, isLeaf, isList, leafChildren, leavesOf, leavesBelow, leafFault, headFault, listFault, listsFault}
 use Rattle.records.proofs.LawsRecord.{Found-at, record-cell, record-header, record-flaw}
 use Rattle.records.proofs.ListTests.{leaf-list}
 use Rattle.records.proofs.LawsPlaces.{leaf-some}
@@ -90,7 +89,8 @@ module _ (rule : Rule) (d m : List ℕ) (o : Offset) where
   list-leaf e = over-each (leafFault rule d m) (leavesOf d o) (sym (list-over (list-head e)) ∙ e)
 
   -- and nothing else is asked of it
-  pub leaves-list : headFault rule d m o ≡ Sound → ((l : Offset) → List·Memᴰ l (leavesOf d o) → leafFault rule d m l ≡ Sound) → listFault rule d m o ≡ Sound
+  pub leaves-list : headFault rule d m o ≡ Sound → ((l : Offset) → List·Memᴰ l (leavesOf d o) → leafFault rule d m l ≡ Sound)
+      → listFault rule d m o ≡ Sound
   leaves-list e f = list-over e ∙ each-over (leafFault rule d m) (leavesOf d o) f
 
   pub list-flaw : {f : Flaw} → listFault rule d m o ≡ Flawed f → (l : Offset) × Found-at l f

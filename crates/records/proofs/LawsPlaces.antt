@@ -1,32 +1,28 @@
 -- The leaves of a list and the elements of a leaf, read where they stand in the bins data, are those of the sequence.
 use Prim.Native.Nat.{ℕ, zero, suc, _+_, _*_, _<_, _≤_}
 use native.Mathlib.Omega.{arith}
-use native.Mathlib.Nat.{add-assoc}
 use mathlib.Core.Path.{_≡_, refl, sym, ap, _∙_}
-use mathlib.Core.Bool.{Bool, true, false, cond, _||_}
+use mathlib.Core.Bool.{Bool, true, false, cond}
 use mathlib.Core.List.{List, [], _∷_}
 use lib.ListN.{length, getD}
 use lib.Dec.{eqb}
 use borrow.Author.Tests.{eqb-true}
 use Rattle.fields.specs.declared.Offset.{Offset}
-use Rattle.fields.specs.declared.Flaw.{Flaw}
-use Rattle.fields.specs.declared.Verdict.{Verdict}
-use Rattle.fields.specs.declared.Verdict.the-variants.{Sound, Flawed}
-use Rattle.fields.specs.Number.{u16At, u32At}
-use Rattle.fields.specs.Faults.{nowhere, _next_, faultOver}
+use Rattle.fields.specs.declared.Verdict.the-variants.{Sound}
+use Rattle.fields.specs.Number.{u32At}
+use Rattle.fields.specs.Faults.{nowhere}
 use Rattle.fields.specs.Bytes.{sameBytes, standsAt}
 use Rattle.fields.proofs.Bools.{and-inv, never}
 use Rattle.cells.specs.declared.Rule.{Rule}
 use Rattle.cells.specs.Named.{dataAt}
 use Rattle.records.specs.declared.Child.{Child}
-use Rattle.records.specs.declared.Leaf.{Leaf}
 use Rattle.records.specs.declared.Leaves.{Leaves}
 use Rattle.records.specs.Offsets.{offsetAt, offsetsAt}
 use Rattle.records.specs.Lists.{isLi, isLh, isRi, countOf, widthOf, isLeaf, isList, childAt, leafChildren, leavesOf, leafFault, headFault}
 use Rattle.records.specs.Places.{leavesIn, leavesAt, leafNamed, leavesNamed, LeavesLie, leafIn, leafOf, childNamed, ElementsLie}
 use Rattle.records.proofs.Parts.{data-room, data-u32, data-small}
 use Rattle.records.proofs.LawsRecord.{record-tested}
-use Rattle.records.proofs.LawsList.{element-room, Elements, IsLeaf, leaf-facts, index-facts, list-room}
+use Rattle.records.proofs.ListFacts.{element-room, IsLeaf, leaf-facts, index-facts, list-room}
 use Rattle.records.proofs.LawsSequence.{offsets-length, offsets-at, offsets-data, leaf-children-length, leaf-children-at}
 
 -- leaf j of some leaves

@@ -16,7 +16,7 @@ use Rattle.cells.specs.declared.Cell.{Cell}
 use Rattle.cells.specs.declared.Found.{Found}
 use Rattle.cells.specs.declared.Found.the-variants.{Named, Missing}
 use Rattle.cells.specs.declared.Rule.{Rule}
-use Rattle.cells.specs.declared.Rule.the-variants.{Map, Header}
+use Rattle.cells.specs.declared.Rule.the-variants.{Header}
 use Rattle.cells.specs.Named.{cellOf, cellFault, dataOf, dataAt}
 use Rattle.cells.proofs.Naming.{Names, cell-sound, cell-flawed, cell-data-at, sound-names, cell-fault-is, by-either}
 

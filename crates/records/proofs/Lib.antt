@@ -3,10 +3,11 @@ pub mod LawsRecord
 pub mod KeyTests
 pub mod LawsKey
 pub mod ListTests
-pub mod LawsList
+pub mod ListFacts
 pub mod LawsAnswer
 pub mod LawsSequence
 pub mod LawsPlaces
 pub mod Totals
 pub mod LawsLists
 pub mod ListFronts
+pub mod Figures

@@ -8,7 +8,7 @@ use lib.ListN.{length, getD, take, drop, length-take, length-drop}
 use lib.Seq.{getD-take, getD-drop, ext-getD}
 use Rattle.fields.specs.declared.Offset.{Offset}
 use Rattle.fields.specs.Number.{u16At, u32At, sizeAt}
-use Rattle.cells.specs.Named.{dataAt, dataOf, cellAt}
+use Rattle.cells.specs.Named.{dataAt, dataOf}
 
 pub part-length : (d : List ℕ) (at len : ℕ) → at + len ≤ length d → length (take len (drop at d)) ≡ len
 part-length d at len h = simp (length-take, length-drop) (omega arith)

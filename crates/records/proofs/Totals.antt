@@ -1,7 +1,7 @@
 -- The total over the leaves, by a loop: the invariant, a law for each way out, and the way from a key's lists to their leaves.
 use Prim.Native.Nat.{ℕ, _+_, _*_, _<_, _≤_}
 use native.Mathlib.Omega.{arith}
-use mathlib.Core.Path.{_≡_, refl, sym, ap, _∙_}
+use mathlib.Core.Path.{_≡_, refl, ap, _∙_}
 use mathlib.Core.List.{List}
 use lib.ListN.{length, getD, drop}
 use Rattle.fields.specs.declared.Offset.{Offset}
@@ -16,10 +16,9 @@ use Rattle.records.specs.declared.Leaf.{Leaf}
 use Rattle.records.specs.declared.Leaves.{Leaves}
 use Rattle.records.specs.declared.Headed.the-variants as head
 use Rattle.records.specs.declared.Leafed.the-variants as leaf
-use Rattle.records.specs.declared.Totalled.{Totalled}
 use Rattle.records.specs.declared.Totalled.the-variants as total
 use Rattle.records.specs.Lists.{countOf, childrenIn, childrenBelow, leafFault, headFault, listsFault}
-use Rattle.records.specs.Places.{leavesAt, leafNamed, leavesNamed, LeavesLie, leafIn, leafOf, headed, leafed, totalled}
+use Rattle.records.specs.Places.{leavesAt, leafNamed, leavesNamed, LeavesLie, leafIn, leafOf, headed, leafed, totalled, totalOver}
 use Rattle.records.proofs.Parts.{data-small}
 use Rattle.records.proofs.LawsAnswer.{headed-whole, headed-flawed, leafed-whole, leafed-flawed}
 use Rattle.records.proofs.LawsSequence.{count-on, count-end}
@@ -32,9 +31,6 @@ pub record Counted (rule : Rule) (d m : List ℕ) (ls : Leaves) (sum j : ℕ) : 
   pub small : sum ≤ 65535 * j
   pub faults : faultOver (leafFault rule d m) (leavesNamed d ls) ≡ faultOver (leafFault rule d m) (drop j (leavesNamed d ls))
   pub counts : length (childrenIn d (leavesNamed d ls)) ≡ sum + length (childrenIn d (drop j (leavesNamed d ls)))
-
-abbrev pub totalOver : Rule → List ℕ → List ℕ → Leaves → Totalled
-totalOver rule d m ls = totalled (faultOver (leafFault rule d m) (leavesNamed d ls)) (length (childrenIn d (leavesNamed d ls)))
 
 module _ (rule : Rule) (d m : List ℕ) (ls : Leaves) (lie : LeavesLie d ls) where
   pub counted-start : Counted rule d m ls 0 0

@@ -1,13 +1,15 @@
 -- Where the leaves of a list and the elements of a leaf stand in the bins data, so that a loop over them reads each list's head once.
-use Prim.Native.Nat.{ℕ, zero, suc, _+_, _*_, _≤_}
+use Prim.Native.Nat.{ℕ, _+_, _*_, _≤_}
 use mathlib.Core.Path.{_≡_}
-use mathlib.Core.Bool.{Bool, true, false, cond}
+use mathlib.Core.Bool.{true, false, cond}
 use mathlib.Core.List.{List, [], _∷_}
 use lib.ListN.{length}
 use Rattle.fields.specs.declared.Offset.{Offset}
 use Rattle.fields.specs.declared.Verdict.{Verdict}
 use Rattle.fields.specs.declared.Verdict.the-variants.{Sound, Flawed}
 use Rattle.fields.specs.Number.{u32At}
+use Rattle.fields.specs.Faults.{faultOver}
+use Rattle.cells.specs.declared.Rule.{Rule}
 use Rattle.cells.specs.Named.{dataAt}
 use Rattle.records.specs.declared.Child.{Child}
 use Rattle.records.specs.declared.Leaf.{Leaf}
@@ -19,7 +21,7 @@ use Rattle.records.specs.declared.Leafed.the-variants as leaf
 use Rattle.records.specs.declared.Totalled.{Totalled}
 use Rattle.records.specs.declared.Totalled.the-variants as total
 use Rattle.records.specs.Offsets.{offsetAt, offsetsAt}
-use Rattle.records.specs.Lists.{isRi, isLh, countOf, widthOf}
+use Rattle.records.specs.Lists.{isRi, isLh, countOf, widthOf, childrenIn, leafFault}
 
 -- the leaves of the list r at an offset; its elements start 8 bytes past the offset, after the cell's size and the list's first 4 bytes
 unfoldable pub leavesIn : List ℕ → Offset → Leaves
@@ -71,3 +73,7 @@ leafed (Flawed f) l = leaf.Flawed f
 abbrev pub totalled : Verdict → ℕ → Totalled
 totalled Sound n = total.Total n
 totalled (Flawed f) n = total.Flawed f
+
+-- the elements of some leaves, counted, or the first leaf's flaw
+abbrev pub totalOver : Rule → List ℕ → List ℕ → Leaves → Totalled
+totalOver rule d m ls = totalled (faultOver (leafFault rule d m) (leavesNamed d ls)) (length (childrenIn d (leavesNamed d ls)))

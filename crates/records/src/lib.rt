@@ -6,17 +6,15 @@ use cells::Rule;
 use fields::Fault;
 use fields::Flaw;
 use fields::Offset;
-use fields::Verdict;
 ghost use mathlib.Core.Path.{_≡_};
-ghost use Prim.Native.Nat.{_+_, _*_, _≤_, _<_};
+ghost use Prim.Native.Nat.{_+_, _≤_, _<_};
 ghost use lib.ListN.{length, take, drop};
 ghost use Rattle.names.specs.Comparison.{compare, sameName};
 ghost use Rattle.names.specs.Hashing.{hashOf};
-ghost use Rattle.fields.specs.Faults.{faultOver};
 ghost use Rattle.cells.specs.Named.{dataAt};
 ghost use Rattle.records.specs.Keys.{isFlagged, isWhole, isKeyName, isKey, keyIn, keyFault, keyOf, keyed, codesOf};
-ghost use Rattle.records.specs.Lists.{hasElements, widthOf, hasLeafSignature, isLeaf, isList, childrenIn, childrenBelow, leafFault, headFault, listsFault};
-ghost use Rattle.records.specs.Places.{leavesIn, leavesAt, headed, LeavesLie, leafNamed, leavesNamed, leafIn, leafOf, leafed, ElementsLie, childNamed, totalled};
+ghost use Rattle.records.specs.Lists.{hasElements, widthOf, hasLeafSignature, isLeaf, isList, childrenBelow, leafFault, headFault, listsFault};
+ghost use Rattle.records.specs.Places.{leavesIn, leavesAt, headed, LeavesLie, leafNamed, leafIn, leafOf, leafed, ElementsLie, childNamed, totalled, totalOver};
 
 // A stored name, as a part of the bins data.
 pub struct Name {
@@ -67,11 +65,11 @@ fn is_key_name(s: &[u8], narrow: bool) -> bool
     if !is_whole(s.len(), narrow) {
         return false;
     }
-    let n = names::characters(s.len(), narrow);
-    if n < 1 {
+    let count = names::characters(s.len(), narrow);
+    if count < 1 {
         return false;
     }
-    if 255 < n {
+    if 255 < count {
         return false;
     }
     !names::has_backslash(s, narrow)
@@ -156,6 +154,7 @@ fn name_part(bins: &[u8], n: Name) -> &[u8]
     &bins[at..end]
 }
 
+// The order of two stored names.
 pub fn compare_names(bins: &[u8], a: Name, b: Name) -> names::Order
     requires { ⌜ (a .at + a .len ≤ length (now bins)) × (b .at + b .len ≤ length (now bins)) ⌝ }
     ensures { λ r. ⌜ r ≡ compare (codesOf (now (bins .entry)) a) (codesOf (now (bins .entry)) b) ⌝ }
@@ -163,6 +162,7 @@ pub fn compare_names(bins: &[u8], a: Name, b: Name) -> names::Order
     names::compare_stored(name_part(bins, a), a.narrow, name_part(bins, b), b.narrow)
 }
 
+// The hash of a stored name.
 pub fn hash_of(bins: &[u8], n: Name) -> u32
     requires { ⌜ n .at + n .len ≤ length (now bins) ⌝ }
     ensures { λ r. ⌜ r ≡ hashOf (codesOf (now (bins .entry)) n) ⌝ }
@@ -399,7 +399,7 @@ pub enum Totalled {
 // The elements of all leaves, counted, or the first leaf's flaw.
 fn total_over(bins: &[u8], map: &[u8], rule: Rule, ls: Leaves) -> Totalled
     requires { ⌜ (ls .count < 65536) × LeavesLie (now bins) ls ⌝ }
-    ensures { λ r. ⌜ r ≡ totalled (faultOver (leafFault rule (now (bins .entry)) (now (map .entry))) (leavesNamed (now (bins .entry)) ls)) (length (childrenIn (now (bins .entry)) (leavesNamed (now (bins .entry)) ls))) ⌝ }
+    ensures { λ r. ⌜ r ≡ totalOver rule (now (bins .entry)) (now (map .entry)) ls ⌝ }
 {
     let mut sum: usize = 0;
     let mut j: usize = 0;

@@ -1,6 +1,6 @@
 use Prim.Native.Nat.{_+_, _*_, _≤_}
 use native.Mathlib.Omega.{arith}
-use Rattle.records.proofs.LawsList.{element-room}
+use Rattle.records.proofs.ListFacts.{element-room}
 use Rattle.records.specs.Places.{childNamed}
 use Rattle.records.proofs.child_of.Statement.{statement}
 use Rattle.records.proofs.child_of.Tie as tie
@@ -19,10 +19,12 @@ u32-at-requires : tie.Need-u32-at-requires
 u32-at-requires c κs = let r = room (c .before .before .before) in omega arith
 
 add-u32-at : tie.Need-add-u32-at
-add-u32-at c = let r = room (c .before .before .before .before .before) in let w = c .before .before .before .before .before .pre .1 .hash-fits (c .if1 .taken) in omega arith
+add-u32-at c = let r = room (c .before .before .before .before .before) in
+    let w = c .before .before .before .before .before .pre .1 .hash-fits (c .if1 .taken) in omega arith
 
 u32-at-requires-2 : tie.Need-u32-at-requires-2
-u32-at-requires-2 c κs = let r = room (c .before .before .before .before .before) in let w = c .before .before .before .before .before .pre .1 .hash-fits (c .if1 .taken) in omega arith
+u32-at-requires-2 c κs = let r = room (c .before .before .before .before .before) in
+    let w = c .before .before .before .before .before .pre .1 .hash-fits (c .if1 .taken) in omega arith
 
 returns : tie.Need-returns
 unfolding childNamed

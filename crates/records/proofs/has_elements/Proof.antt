@@ -1,5 +1,5 @@
 use native.Mathlib.Omega.{arith}
-use mathlib.Core.Path.{_≡_, sym, ap, _∙_}
+use mathlib.Core.Path.{sym}
 use Rattle.records.proofs.ListTests.{product-fits, short-elements, no-elements, by-room}
 use borrow.Author.Needs.{needs}
 use Rattle.records.proofs.has_elements.Statement.{statement}

@@ -21,7 +21,12 @@ stands-at-requires-2 c κs = search needs
 
 returns-2 : tie.Need-returns-2
 unfolding hasLeafSignature
-returns-2 c = rw (← c .before .before .before .before .stands-at .ensures, c .before .before .before .if1 .left, ← c .before .stands-at2 .ensures, c .if2 .taken)
+returns-2 c = rw (
+  ← c .before .before .before .before .stands-at .ensures,
+  c .before .before .before .if1 .left,
+  ← c .before .stands-at2 .ensures,
+  c .if2 .taken,
+)
 
 slice-aggregate-stands-at-3 : tie.Need-slice-aggregate-stands-at-3
 slice-aggregate-stands-at-3 c = search needs
@@ -31,7 +36,12 @@ stands-at-requires-3 c κs = search needs
 
 returns-3 : tie.Need-returns-3
 unfolding hasLeafSignature
-returns-3 c = rw (← c .before .before .before .before .before .before .stands-at .ensures, c .before .before .before .before .before .if1 .left, ← c .before .before .before .stands-at2 .ensures, c .before .before .if2 .left) (c .stands-at3 .ensures)
+returns-3 c = rw (
+  ← c .before .before .before .before .before .before .stands-at .ensures,
+  c .before .before .before .before .before .if1 .left,
+  ← c .before .before .before .stands-at2 .ensures,
+  c .before .before .if2 .left,
+) (c .stands-at3 .ensures)
 
 pub has-leaf-signature-spec : {M : Type 1} → statement M
 has-leaf-signature-spec =

@@ -2,12 +2,12 @@ use denote.Ref.{now}
 use native.Mathlib.Omega.{arith}
 use mathlib.Core.Path.{_≡_, sym, ap, _∙_}
 use borrow.Author.Tests.{not-true, not-false}
-use Rattle.cells.specs.Named.{cellOf, dataAt}
-use Rattle.cells.specs.declared.Found.the-variants.{Named, Missing}
+use Rattle.cells.specs.Named.{cellOf}
+use Rattle.cells.specs.declared.Found.the-variants.{Named}
 use Rattle.cells.proofs.Naming.{inside, cell-data-at}
 use Rattle.records.specs.Lists.{isList, headFault}
 use Rattle.records.specs.Places.{leavesAt}
-use Rattle.records.proofs.LawsList.{list-room}
+use Rattle.records.proofs.ListFacts.{list-room}
 use Rattle.records.proofs.LawsRecord.{record-missing, record-bad, record-good}
 use borrow.Author.Needs.{needs}
 use Rattle.records.proofs.head_at.Statement.{statement}
@@ -35,7 +35,8 @@ is-list-requires c κs = search needs
 
 returns : tie.Need-returns
 unfolding headFault
-returns c = rw (record-bad isList _ _ _ _ (found (c .before .before .before)) (ap isList (sym (c .before .before .cell-data .ensures)) ∙ sym (c .before .is-list .ensures) ∙ not-true _ (c .if1 .taken)))
+returns c = rw (record-bad isList _ _ _ _ (found (c .before .before .before)) (ap isList (sym (c .before .before .cell-data .ensures))
+    ∙ sym (c .before .is-list .ensures) ∙ not-true _ (c .if1 .taken)))
 
 leaves-in-requires : tie.Need-leaves-in-requires
 leaves-in-requires c κs = let h = list-room _ (sym (c .before .is-list .ensures) ∙ not-false _ (c .if1 .left)) in omega arith
@@ -46,7 +47,14 @@ returns-2 c = rw (record-missing isList _ _ _ _ (sym (c .before .before .before 
 
 returns-3 : tie.Need-returns-3
 unfolding headFault leavesAt
-returns-3 c = rw (record-good isList _ _ _ _ (found (c .before .before .before .before)) (ap isList (sym (c .before .before .before .cell-data .ensures)) ∙ sym (c .before .before .is-list .ensures) ∙ not-false _ (c .before .if1 .left)), ← cell-data-at _ _ _ _ (found (c .before .before .before .before)), ← c .before .before .before .cell-data .ensures, c .leaves-in .ensures)
+returns-3 c = rw (
+  record-good isList _ _ _ _ (found (c .before .before .before .before))
+      (ap isList (sym (c .before .before .before .cell-data .ensures)) ∙ sym (c .before .before .is-list .ensures)
+      ∙ not-false _ (c .before .if1 .left)),
+  ← cell-data-at _ _ _ _ (found (c .before .before .before .before)),
+  ← c .before .before .before .cell-data .ensures,
+  c .leaves-in .ensures,
+)
 
 pub head-at-spec : {M : Type 1} → statement M
 head-at-spec =

@@ -1,12 +1,7 @@
 use native.Mathlib.Nat.{add-sub-cancel-left}
 use native.Mathlib.Omega.{arith}
 use borrow.Author.Tests.{not-true, not-false}
-use mathlib.Core.Path.{_≡_, sym, ap, _∙_}
-use mathlib.Core.Bool.{Bool, not}
-use Prim.Native.Nat.{ℕ}
-use lib.ListN.{take, drop}
-use Rattle.fields.specs.Number.{u16At}
-use Rattle.records.specs.Keys.{isKeyName, keyNarrow}
+use mathlib.Core.Path.{sym, _∙_}
 use Rattle.records.proofs.KeyTests.{short-key, no-key, cut-key, by-name}
 use borrow.Author.Needs.{needs}
 use Rattle.records.proofs.is_key.Statement.{statement}
@@ -55,8 +50,14 @@ is-key-name-requires : tie.Need-is-key-name-requires
 is-key-name-requires c κs = search needs
 
 returns-4 : tie.Need-returns-4
-returns-4 c = (rw (add-sub-cancel-left 76 (c .before .before .before .before .before .u16-at .result), c .before .before .before .before .before .u16-at .ensures, c .before .is-flagged .ensures, c .before .before .u16-at2 .ensures) at (c .is-key-name .ensures))
-    ∙ sym (by-name _ (omega arith) (sym (c .before .before .before .before .before .before .before .stands-at .ensures) ∙ not-false _ (c .before .before .before .before .before .before .if2 .left)) (omega arith))
+returns-4 c = (rw (
+  add-sub-cancel-left 76 (c .before .before .before .before .before .u16-at .result),
+  c .before .before .before .before .before .u16-at .ensures,
+  c .before .is-flagged .ensures,
+  c .before .before .u16-at2 .ensures,
+) at (c .is-key-name .ensures))
+    ∙ sym (by-name _ (omega arith) (sym (c .before .before .before .before .before .before .before .stands-at .ensures)
+    ∙ not-false _ (c .before .before .before .before .before .before .if2 .left)) (omega arith))
 
 pub is-key-spec : {M : Type 1} → statement M
 is-key-spec =

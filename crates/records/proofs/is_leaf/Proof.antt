@@ -1,6 +1,6 @@
 use native.Mathlib.Omega.{arith}
 use borrow.Author.Tests.{not-true, not-false}
-use mathlib.Core.Path.{_≡_, sym, ap, _∙_}
+use mathlib.Core.Path.{sym, _∙_}
 use Rattle.records.proofs.ListTests.{width-small, short-leaf, no-leaf, by-elements}
 use borrow.Author.Needs.{needs}
 use Rattle.records.proofs.is_leaf.Statement.{statement}
@@ -22,7 +22,8 @@ has-elements-requires : tie.Need-has-elements-requires
 has-elements-requires c κs = rw (c .width-of .ensures) (width-small _)
 
 returns-3 : tie.Need-returns-3
-returns-3 c = (rw (c .before .width-of .ensures) at (c .has-elements .ensures)) ∙ sym (by-elements _ (sym (c .before .before .before .has-leaf-signature .ensures) ∙ not-false _ (c .before .before .if2 .left)))
+returns-3 c = (rw (c .before .width-of .ensures) at (c .has-elements .ensures))
+    ∙ sym (by-elements _ (sym (c .before .before .before .has-leaf-signature .ensures) ∙ not-false _ (c .before .before .if2 .left)))
 
 pub is-leaf-spec : {M : Type 1} → statement M
 is-leaf-spec =

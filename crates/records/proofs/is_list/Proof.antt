@@ -1,5 +1,5 @@
 use native.Mathlib.Omega.{arith}
-use mathlib.Core.Path.{_≡_, sym, ap, _∙_}
+use mathlib.Core.Path.{sym, _∙_}
 use Rattle.records.proofs.ListTests.{short-list, index-list, leaf-list}
 use borrow.Author.Needs.{needs}
 use Rattle.records.proofs.is_list.Statement.{statement}

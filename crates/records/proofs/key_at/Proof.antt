@@ -2,10 +2,10 @@ use denote.Ref.{now}
 use native.Mathlib.Omega.{arith}
 use mathlib.Core.Path.{_≡_, sym, ap, _∙_}
 use borrow.Author.Tests.{not-true, not-false}
-use Rattle.cells.specs.Named.{cellOf, dataAt}
-use Rattle.cells.specs.declared.Found.the-variants.{Named, Missing}
+use Rattle.cells.specs.Named.{cellOf}
+use Rattle.cells.specs.declared.Found.the-variants.{Named}
 use Rattle.cells.proofs.Naming.{inside, cell-data-at}
-use Rattle.records.specs.Keys.{isKey, keyFault, keyOf, keyIn}
+use Rattle.records.specs.Keys.{isKey, keyFault, keyOf}
 use Rattle.records.proofs.LawsKey.{is-key-facts}
 use Rattle.records.proofs.LawsRecord.{record-missing, record-bad, record-good}
 use borrow.Author.Needs.{needs}
@@ -34,7 +34,8 @@ is-key-requires c κs = search needs
 
 returns : tie.Need-returns
 unfolding keyFault
-returns c = rw (record-bad isKey _ _ _ _ (found (c .before .before .before)) (ap isKey (sym (c .before .before .cell-data .ensures)) ∙ sym (c .before .is-key .ensures) ∙ not-true _ (c .if1 .taken)))
+returns c = rw (record-bad isKey _ _ _ _ (found (c .before .before .before)) (ap isKey (sym (c .before .before .cell-data .ensures))
+    ∙ sym (c .before .is-key .ensures) ∙ not-true _ (c .if1 .taken)))
 
 key-in-requires : tie.Need-key-in-requires
 key-in-requires c κs = let k = is-key-facts _ (sym (c .before .is-key .ensures) ∙ not-false _ (c .if1 .left)) in omega arith
@@ -45,7 +46,13 @@ returns-2 c = rw (record-missing isKey _ _ _ _ (sym (c .before .before .before .
 
 returns-3 : tie.Need-returns-3
 unfolding keyFault keyOf
-returns-3 c = rw (record-good isKey _ _ _ _ (found (c .before .before .before .before)) (ap isKey (sym (c .before .before .before .cell-data .ensures)) ∙ sym (c .before .before .is-key .ensures) ∙ not-false _ (c .before .if1 .left)), ← cell-data-at _ _ _ _ (found (c .before .before .before .before)), ← c .before .before .before .cell-data .ensures, c .key-in .ensures)
+returns-3 c = rw (
+  record-good isKey _ _ _ _ (found (c .before .before .before .before))
+      (ap isKey (sym (c .before .before .before .cell-data .ensures)) ∙ sym (c .before .before .is-key .ensures) ∙ not-false _ (c .before .if1 .left)),
+  ← cell-data-at _ _ _ _ (found (c .before .before .before .before)),
+  ← c .before .before .before .cell-data .ensures,
+  c .key-in .ensures,
+)
 
 pub key-at-spec : {M : Type 1} → statement M
 key-at-spec =

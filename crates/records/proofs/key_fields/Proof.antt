@@ -1,8 +1,6 @@
-use Prim.Native.Nat.{_+_, _≤_}
-use native.Mathlib.Omega.{arith}
-use mathlib.Core.Path.{_≡_, sym, ap, _∙_}
+use Prim.Native.Nat.{_+_}
+use mathlib.Core.Path.{_∙_}
 use native.Mathlib.Nat.{add-sub-cancel-left}
-use Rattle.records.specs.Keys.{keyIn}
 use Rattle.records.proofs.KeyTests.{fields-room, key-front}
 use borrow.Author.Needs.{needs}
 use Rattle.records.proofs.key_fields.Statement.{statement}
@@ -30,7 +28,8 @@ key-in-requires : tie.Need-key-in-requires
 key-in-requires c κs = search needs
 
 returns : tie.Need-returns
-returns c = (rw (add-sub-cancel-left (c .before .before .before .before .args .o .0 + 4) 76) at (c .key-in .ensures)) ∙ key-front _ _ (c .before .before .before .before .pre)
+returns c = (rw (add-sub-cancel-left (c .before .before .before .before .args .o .0 + 4) 76) at (c .key-in .ensures))
+    ∙ key-front _ _ (c .before .before .before .before .pre)
 
 pub key-fields-spec : {M : Type 1} → statement M
 key-fields-spec =

@@ -38,7 +38,16 @@ is-flagged-requires c κs = search needs
 
 returns : tie.Need-returns
 unfolding keyIn
-returns c = rw (c .before .before .before .before .before .before .before .before .u32-at .ensures, c .before .before .before .before .before .before .before .u32-at2 .ensures, c .before .before .before .before .before .before .u32-at3 .ensures, c .before .before .before .before .before .u32-at4 .ensures, c .before .before .before .before .u32-at5 .ensures, c .before .before .u16-at .ensures, c .is-flagged .ensures, c .before .u16-at2 .ensures)
+returns c = rw (
+  c .before .before .before .before .before .before .before .before .u32-at .ensures,
+  c .before .before .before .before .before .before .before .u32-at2 .ensures,
+  c .before .before .before .before .before .before .u32-at3 .ensures,
+  c .before .before .before .before .before .u32-at4 .ensures,
+  c .before .before .before .before .u32-at5 .ensures,
+  c .before .before .u16-at .ensures,
+  c .is-flagged .ensures,
+  c .before .u16-at2 .ensures,
+)
 
 pub key-in-spec : {M : Type 1} → statement M
 key-in-spec =

@@ -1,5 +1,5 @@
 use native.Mathlib.Omega.{arith}
-use mathlib.Core.Path.{_≡_, sym, _∙_}
+use mathlib.Core.Path.{sym, _∙_}
 use Rattle.records.proofs.Totals.{total-none, total-bad, total-ready, total-good}
 use borrow.Author.Needs.{needs}
 use Rattle.records.proofs.total_of.Statement.{statement}
@@ -18,13 +18,18 @@ enum-known-ls : tie.Need-enum-known-ls
 enum-known-ls c = search needs
 
 total-over-requires : tie.Need-total-over-requires
-total-over-requires c κs = total-ready _ _ _ (c .before .before .before .before .before .before .before .before .before .args .k) (c .before .before .before .before .before .if1 .left) _ (sym (c .before .before .before .head-at .ensures) ∙ c .before .ls .given .1) (λ i. omega (arith, c .before .before .before .before .before .before .before .before .shared-slice-known .given i))
+total-over-requires c κs = total-ready _ _ _ (c .before .before .before .before .before .before .before .before .before .args .k)
+    (c .before .before .before .before .before .if1 .left) _ (sym (c .before .before .before .head-at .ensures) ∙ c .before .ls .given .1)
+    (λ i. omega (arith, c .before .before .before .before .before .before .before .before .shared-slice-known .given i))
 
 returns-2 : tie.Need-returns-2
-returns-2 c = total-bad _ _ _ _ (c .before .before .before .before .before .if1 .left) (sym (c .before .before .before .head-at .ensures) ∙ c .before .f .given .1)
+returns-2 c = total-bad _ _ _ _ (c .before .before .before .before .before .if1 .left) (sym (c .before .before .before .head-at .ensures)
+    ∙ c .before .f .given .1)
 
 returns-3 : tie.Need-returns-3
-returns-3 c = c .total-over .ensures ∙ total-good _ _ _ _ (c .before .before .before .before .before .before .if1 .left) _ (sym (c .before .before .before .before .head-at .ensures) ∙ c .before .before .ls .given .1)
+returns-3 c = c .total-over .ensures
+    ∙ total-good _ _ _ _ (c .before .before .before .before .before .before .if1 .left) _ (sym (c .before .before .before .before .head-at .ensures)
+    ∙ c .before .before .ls .given .1)
 
 pub total-of-spec : {M : Type 1} → statement M
 total-of-spec =

@@ -1,7 +1,7 @@
 use Rattle.records.proofs.Totals.{Counted, counted-start, counted-end, counted-bad, counted-on}
 use borrow.Author.Needs.{needs}
 use native.Mathlib.Omega.{arith}
-use mathlib.Core.Path.{_≡_, refl, sym, ap, _∙_}
+use mathlib.Core.Path.{sym, _∙_}
 use Prim.Native.Nat.{_-_}
 use Rattle.records.proofs.total_over.Statement.{statement}
 use Rattle.records.proofs.total_over.Tie as tie
@@ -25,13 +25,22 @@ enum-known-f : tie.Need-enum-known-f Inv-loop μ-loop
 enum-known-f c = search needs
 
 returns : tie.Need-returns Inv-loop μ-loop
-returns c = let l = c .before .before .before .before .before .before .before .loop in counted-bad _ _ _ _ (c .before .before .before .before .before .before .before .before .before .before .pre .1) (l .sum) (l .j) (l .inv) _ (omega arith) (c .before .before .before .before .leaf-offset .ensures) (sym (c .before .before .before .leaf-at .ensures) ∙ c .before .f .given .1)
+returns c = let l = c .before .before .before .before .before .before .before .loop in
+    counted-bad _ _ _ _ (c .before .before .before .before .before .before .before .before .before .before .pre .1) (l .sum) (l .j)
+    (l .inv) _ (omega arith) (c .before .before .before .before .leaf-offset .ensures) (sym (c .before .before .before .leaf-at .ensures)
+    ∙ c .before .f .given .1)
 
 enum-known-l : tie.Need-enum-known-l Inv-loop μ-loop
 enum-known-l c = search needs
 
 loop-again : tie.Need-loop-again Inv-loop μ-loop
-loop-again c = let l = c .before .before .before .before .before .before .before .before .loop in counted-on _ _ _ _ (c .before .before .before .before .before .before .before .before .before .before .before .pre .1) (l .sum) (l .j) (l .inv) _ (omega arith) (c .before .before .before .before .before .leaf-offset .ensures) _ (λ i. omega (arith, c .before .before .before .before .before .before .before .before .before .before .shared-slice-known .given i)) (sym (c .before .before .before .before .leaf-at .ensures) ∙ c .before .before .l .given .1)
+loop-again c = let l = c .before .before .before .before .before .before .before .before .loop in
+    counted-on _ _ _ _ (c .before .before .before .before .before .before .before .before .before .before .before .pre .1) (l .sum) (l .j)
+    (l .inv) _ (omega arith) (c .before .before .before .before .before .leaf-offset .ensures) _ (λ i. omega (
+      arith,
+      c .before .before .before .before .before .before .before .before .before .before .shared-slice-known .given i,
+    ))
+    (sym (c .before .before .before .before .leaf-at .ensures) ∙ c .before .before .l .given .1)
 
 add-sum : tie.Need-add-sum Inv-loop μ-loop
 add-sum c = let w = loop-again c in omega arith

@@ -1,15 +1,15 @@
 -- What a list that passes its test says, and where its leaves and elements lie.
-use Prim.Native.Nat.{ℕ, zero, suc, _+_, _*_, _<_, _≤_}
+use Prim.Native.Nat.{ℕ, _+_, _*_, _<_, _≤_}
 use native.Mathlib.Nat.{add-mul, one-mul, mul-le-mul-right}
 use native.Mathlib.Omega.{arith}
-use mathlib.Core.Path.{_≡_, refl, sym, ap, _∙_}
-use mathlib.Core.Bool.{Bool, true, false, cond, _&&_}
+use mathlib.Core.Path.{_≡_, refl}
+use mathlib.Core.Bool.{Bool, true, false}
 use mathlib.Core.List.{List}
 use lib.ListN.{length}
 use lib.Dec.{leb}
 use borrow.Author.Tests.{leb-true}
-use Rattle.fields.proofs.Bools.{and-inv, never}
-use Rattle.records.specs.Lists.{isLi, isLh, isRi, countOf, hasElements, widthOf, hasLeafSignature, isLeaf, isList}
+use Rattle.fields.proofs.Bools.{and-inv}
+use Rattle.records.specs.Lists.{isRi, countOf, hasElements, widthOf, hasLeafSignature, isLeaf, isList}
 
 -- element i of n stands before the end of all
 pub element-room : (i n width : ℕ) → i < n → i * width + width ≤ n * width
