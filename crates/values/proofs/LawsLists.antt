@@ -47,6 +47,9 @@ module _ (rule : Rule) (d m : List ℕ) (k : Key) where
       pub list-values : valuesOf d k ≡ entriesOf d e
       list-values = values-listed ∙ ap (entriesOf d) is
 
+      pub list-element : (i : ℕ) → getD (entriesOf d e) i nowhere ≡ getD (valuesOf d k) i nowhere
+      list-element i = ap (λ (vs : List Offset). getD vs i nowhere) (sym list-values)
+
       pub list-count : length (valuesOf d k) ≡ e .count
       list-count = ap length list-values ∙ entries-length d e
 
