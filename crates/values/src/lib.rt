@@ -356,13 +356,13 @@ fn each_value_flaw(bins: &[u8], map: &[u8], rule: Rule, minor: u32, e: Entries) 
     ensures { λ r. ⌜ r ≡ faultOver (wholeValueFault rule (now (bins .entry)) (now (map .entry)) minor) (entriesOf (now (bins .entry)) e) ⌝ }
 {
     let count = e.count;
-    let mut i: usize = 0;
-    while i < count {
-        let v = entry(bins, e, i);
+    let mut seen: usize = 0;
+    while seen < count {
+        let v = entry(bins, e, seen);
         if let Verdict::Flawed(f) = whole_value_flaw(bins, map, rule, minor, v) {
             return Verdict::Flawed(f);
         }
-        i += 1;
+        seen += 1;
     }
     Verdict::Sound
 }
