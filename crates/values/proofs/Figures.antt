@@ -3,18 +3,16 @@ use Prim.Native.Nat.{ℕ, _+_}
 use mathlib.Core.Path.{_≡_, refl}
 use mathlib.Core.Bool.{true, false}
 use mathlib.Core.List.{List, [], _∷_, _++_}
-use lib.ListN.{length, replicate}
-use Rattle.fields.specs.declared.Fault.the-variants.{Record}
+use lib.ListN.{replicate}
 use Rattle.fields.specs.declared.Offset.{Offset}
-use Rattle.fields.specs.declared.Verdict.the-variants.{Sound, Flawed}
+use Rattle.fields.specs.declared.Verdict.the-variants.{Sound}
 use Rattle.fields.specs.Number.{u16At, u32At, sizeAt}
 use Rattle.fields.specs.Bytes.{sameBytes, standsAt}
-use Rattle.fields.specs.Faults.{flaw, _next_}
+use Rattle.fields.specs.Faults.{_next_}
 use Rattle.cells.specs.declared.Rule.the-variants.{Header}
 use Rattle.cells.specs.Tiling.{goodSize}
 use Rattle.cells.specs.Named.{isNamed, byHeader, cellOf, cellFault, dataOf, dataAt}
 use Rattle.names.specs.Codes.{charactersIn}
-use Rattle.values.specs.declared.ValueData.the-variants.{Inline}
 use Rattle.values.specs.Records.{isValueName, isDataSize, isValue, valueFault, isSegmented, contentOf, dataIn}
 use Rattle.values.specs.Segments.{segmentsFor, segmentLength, segmentsFrom, bytesOf}
 use Rattle.values.proofs.LawsSegments.{lengthsOf}

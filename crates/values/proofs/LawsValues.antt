@@ -2,17 +2,16 @@
 -- where the check, by the map, met none.
 use Prim.Native.Nat.{ℕ, _+_, _-_, _*_, _<_, _≤_}
 use native.Mathlib.Omega.{arith}
-use mathlib.Core.Path.{_≡_, refl, sym, ap, _∙_}
-use mathlib.Core.Bool.{Bool, true, false, cond, _&&_}
+use mathlib.Core.Path.{_≡_, refl, ap, _∙_}
+use mathlib.Core.Bool.{Bool, true, false, cond}
 use mathlib.Core.List.{List, []}
 use lib.Dec.{eqb, leb, ltb}
 use lib.ListN.{length, take, drop}
 use borrow.Author.Tests.{leb-true, leb-false, ltb-true}
 use Rattle.fields.specs.declared.Offset.{Offset}
-use Rattle.fields.specs.declared.Verdict.{Verdict}
-use Rattle.fields.specs.declared.Verdict.the-variants.{Sound, Flawed}
+use Rattle.fields.specs.declared.Verdict.the-variants.{Sound}
 use Rattle.fields.specs.Number.{u16At, u32At}
-use Rattle.fields.specs.Faults.{_next_, faultOver}
+use Rattle.fields.specs.Faults.{_next_}
 use Rattle.fields.proofs.Bools.{and-inv}
 use Rattle.cells.specs.declared.Rule.{Rule}
 use Rattle.cells.specs.declared.Rule.the-variants.{Header}
@@ -20,7 +19,6 @@ use Rattle.cells.specs.Named.{dataAt}
 use Rattle.cells.proofs.Naming.{Names}
 use Rattle.records.specs.declared.Key.{Key}
 use Rattle.records.specs.Offsets.{offsetAt}
-use Rattle.values.specs.declared.Segment.{Segment}
 use Rattle.values.specs.declared.ValueData.{ValueData}
 use Rattle.values.specs.declared.ValueData.the-variants.{Inline, OneCell, Segments}
 use Rattle.values.specs.Records.{segmentSize, dataLimit, topBit, isDataSize, isValue, valueFault, isSegmented, contentOf, dataIn, fieldsOf, valueOf}

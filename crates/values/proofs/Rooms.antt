@@ -3,7 +3,6 @@ use Prim.Native.Nat.{ℕ, _+_, _-_, _*_, _<_, _≤_}
 use native.Mathlib.Omega.{arith}
 use native.Mathlib.Nat.{add-zero}
 use mathlib.Core.Path.{_≡_, refl, sym, ap, _∙_}
-use mathlib.Core.Bool.{Bool, true, false}
 use mathlib.Core.List.{List}
 use lib.Dec.{leb}
 use lib.ListN.{length, getD, take, drop, length-drop}
@@ -12,7 +11,6 @@ use borrow.Author.Tests.{le-leb, lt-leb, leb-true}
 use Rattle.fields.specs.declared.Offset.{Offset}
 use Rattle.fields.specs.declared.Flaw.{Flaw}
 use Rattle.fields.specs.declared.Fault.the-variants.{Record}
-use Rattle.fields.specs.declared.Size.{Size}
 use Rattle.fields.specs.declared.Verdict.the-variants.{Sound, Flawed}
 use Rattle.fields.specs.Number.{sizeAt}
 use Rattle.fields.specs.Faults.{flaw, nowhere}
@@ -23,7 +21,7 @@ use Rattle.cells.specs.Named.{cellOf, dataOf, dataAt}
 use Rattle.cells.proofs.Naming.{Names, inside, data-length, data-at-length}
 use Rattle.records.specs.Offsets.{offsetAt, offsetsAt}
 use Rattle.values.specs.declared.Entries.{Entries}
-use Rattle.values.specs.Entries.{entriesAt, Room, entriesOf}
+use Rattle.values.specs.Entries.{entriesAt, entriesOf}
 use Rattle.values.specs.Segments.{roomFault}
 use Rattle.values.proofs.Cell_tests.{lacks, passes, refuses, says}
 use Rattle.values.proofs.Offset_list.{offsets-length, offsets-at, offsets-take, offsets-drop}

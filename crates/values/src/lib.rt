@@ -80,8 +80,8 @@ fn is_value(r: &[u8]) -> bool
     is_data_size(fields::u32_at(r, 4))
 }
 
-// "So data are inline, in one cell or in segments": where the data lie, each with its length. Inline data start at an offset inside the record; the
-// other two name a cell.
+// "data are inline, in one cell or in segments": value data as an enum with three cases carrying offset and length, read by view and copy. Inline data
+// start at an offset inside the record; the other two name a cell.
 pub enum ValueData {
     Inline { at: Offset, len: u32 },
     OneCell { cell: Offset, len: u32 },
@@ -221,7 +221,7 @@ pub fn entry(bins: &[u8], e: Entries, i: usize) -> Offset
     Offset(fields::u32_at(bins, e.at + 4 * i))
 }
 
-// A segment: its cell, and how many bytes of the data it holds.
+// A segment, of which the definitions speak: its cell, and how many bytes of the data it holds.
 pub struct Segment {
     pub at: Offset,
     pub len: usize,
