@@ -2,7 +2,7 @@
 use Prim.Native.Nat.{ℕ, suc, _+_, _-_, _*_, _<_, _≤_}
 use native.Mathlib.Omega.{arith}
 use mathlib.Core.Path.{_≡_, refl, sym, ap, ap₂, _∙_}
-use mathlib.Core.List.{List, [], _∷_, _++_, append-assoc, append-nil}
+use mathlib.Core.List.{List, [], _++_, append-assoc, append-nil}
 use lib.ListN.{length, getD, take, drop, length-drop, take-append-drop}
 use lib.Seq.{paste, length-paste, take-paste, drop-paste, drop-drop}
 use Rattle.fields.specs.declared.Offset.{Offset}
@@ -10,7 +10,6 @@ use Rattle.fields.specs.declared.Verdict.the-variants.{Sound}
 use Rattle.fields.specs.Faults.{nowhere, faultOver}
 use Rattle.fields.proofs.Firsts.{both}
 use Rattle.cells.specs.declared.Rule.the-variants.{Header}
-use Rattle.cells.specs.Named.{dataAt}
 use Rattle.values.specs.declared.Entries.{Entries}
 use Rattle.values.specs.declared.Segment.{Segment}
 use Rattle.values.specs.Entries.{entriesOf}

@@ -1,12 +1,12 @@
 -- Where a value's bytes lie: in one part of the bins data, or in sound segments.
-use Prim.Native.Nat.{ℕ, _+_, _-_, _*_, _<_, _≤_}
+use Prim.Native.Nat.{ℕ, _+_, _-_, _≤_}
 use native.Mathlib.Omega.{arith}
 use native.Mathlib.Nat.{zero-add}
 use mathlib.Core.Path.{_≡_, refl, sym, ap, ap₂, _∙_}
 use mathlib.Core.Bool.{Bool, true, false}
 use mathlib.Core.List.{List, [], _++_}
 use lib.Dec.{eqb}
-use lib.ListN.{length, take, drop, length-take, length-drop}
+use lib.ListN.{length, drop, length-take, length-drop}
 use lib.Seq.{paste}
 use borrow.Author.Tests.{eqb-true}
 use Rattle.fields.specs.declared.Offset.{Offset}
@@ -22,8 +22,8 @@ use Rattle.values.specs.declared.Part.{Part}
 use Rattle.values.specs.declared.ValueData.{ValueData}
 use Rattle.values.specs.declared.ValueData.the-variants.{Inline, OneCell, Segments}
 use Rattle.values.specs.Entries.{entriesAt}
-use Rattle.values.specs.Segments.{roomFault, segmentsFor, isDb, dbFault, segmentList, segmentsOf, segmentsIn, segmentFault, segmentListFault, segmentsFault, dataFault, joinedBytes, bytesOf, lengthOf}
-use Rattle.values.specs.Parts.{partOf, partBytes, inlineEnd, Lies, SegmentsLie}
+use Rattle.values.specs.Segments.{segmentsFor, isDb, dbFault, segmentList, segmentsOf, segmentsIn, segmentFault, segmentListFault, segmentsFault, dataFault, joinedBytes, bytesOf, lengthOf}
+use Rattle.values.specs.Parts.{partOf, partBytes, Lies, SegmentsLie}
 use Rattle.values.proofs.Cell_tests.{says}
 use Rattle.values.proofs.Offset_list.{u32-take, u32-drop}
 use Rattle.values.proofs.Rooms.{Roomy, names-roomy, roomy}

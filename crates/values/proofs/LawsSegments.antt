@@ -1,8 +1,8 @@
 -- The segments of a value's data: how many, how long each is, and that together they hold the data.
-use Prim.Native.Nat.{ℕ, zero, suc, _+_, _-_, _*_, _/_, _<_, _≤_}
+use Prim.Native.Nat.{ℕ, zero, suc, _+_, _-_, _*_, _<_, _≤_}
 use native.Mathlib.Omega.{arith}
 use mathlib.Core.Path.{_≡_, refl, sym, ap, ap₂, _∙_, subst}
-use mathlib.Core.List.{List, [], _∷_, _++_, List·Memᴰ, List·Memᴰ·cases-cons, List·Memᴰ·not-nil}
+use mathlib.Core.List.{List, [], _∷_, List·Memᴰ, List·Memᴰ·cases-cons, List·Memᴰ·not-nil}
 use mathlib.Core.Logic.{⊎-elim}
 use lib.ListN.{length, take, length-append}
 use lib.Seq.{length-take-le}
@@ -14,7 +14,7 @@ use Rattle.cells.specs.declared.Rule.{Rule}
 use Rattle.cells.specs.Named.{dataAt}
 use Rattle.values.specs.declared.Segment.{Segment}
 use Rattle.values.specs.Records.{segmentSize, dataLimit}
-use Rattle.values.specs.Segments.{segmentsFor, segmentLength, segmentsFrom, segmentsOf, segmentFault, joinedBytes}
+use Rattle.values.specs.Segments.{segmentsFor, segmentsFrom, segmentsOf, segmentFault, joinedBytes}
 use Rattle.values.proofs.Rooms.{roomy}
 use Rattle.values.proofs.Segment_turns.{takes}
 

@@ -2,17 +2,16 @@
 -- where the check, by the map, met none.
 use Prim.Native.Nat.{ℕ, _+_, _-_, _*_, _<_, _≤_}
 use native.Mathlib.Omega.{arith}
-use mathlib.Core.Path.{_≡_, refl, sym, ap, _∙_}
-use mathlib.Core.Bool.{Bool, true, false, cond, _&&_}
+use mathlib.Core.Path.{_≡_, refl, ap, _∙_}
+use mathlib.Core.Bool.{Bool, true, false, cond}
 use mathlib.Core.List.{List, []}
 use lib.Dec.{eqb, leb, ltb}
 use lib.ListN.{length, take, drop}
 use borrow.Author.Tests.{leb-true, leb-false, ltb-true}
 use Rattle.fields.specs.declared.Offset.{Offset}
-use Rattle.fields.specs.declared.Verdict.{Verdict}
-use Rattle.fields.specs.declared.Verdict.the-variants.{Sound, Flawed}
+use Rattle.fields.specs.declared.Verdict.the-variants.{Sound}
 use Rattle.fields.specs.Number.{u16At, u32At}
-use Rattle.fields.specs.Faults.{_next_, faultOver}
+use Rattle.fields.specs.Faults.{_next_}
 use Rattle.fields.proofs.Bools.{and-inv}
 use Rattle.cells.specs.declared.Rule.{Rule}
 use Rattle.cells.specs.declared.Rule.the-variants.{Header}
@@ -20,7 +19,6 @@ use Rattle.cells.specs.Named.{dataAt}
 use Rattle.cells.proofs.Naming.{Names}
 use Rattle.records.specs.declared.Key.{Key}
 use Rattle.records.specs.Offsets.{offsetAt}
-use Rattle.values.specs.declared.Segment.{Segment}
 use Rattle.values.specs.declared.ValueData.{ValueData}
 use Rattle.values.specs.declared.ValueData.the-variants.{Inline, OneCell, Segments}
 use Rattle.values.specs.Records.{segmentSize, dataLimit, topBit, isDataSize, isValue, valueFault, isSegmented, contentOf, dataIn, fieldsOf, valueOf}
@@ -28,7 +26,7 @@ use Rattle.values.specs.Segments.{roomFault, segmentsFor, isDb, dbFault,
 use Rattle.values.specs.Parts.{inlineEnd, Lies}
 use Rattle.values.specs.Lists.{valuesOf, valueListFault, wholeValueFault, valuesFault}
 use Rattle.values.proofs.Cell_tests.{Only, only-sound, only-next, only-over, only-test, carries-next, carries-over, says, by-header}
-use Rattle.values.proofs.Rooms.{names-roomy}
+use Rattle.values.proofs.Rooms.{Roomy, names-roomy, bytes-within}
 use Rattle.values.proofs.Tests.{Kept, kept}
 
 -- ---- what is known of a value that passes
@@ -102,10 +100,126 @@ module _ (rule : Rule) (d m : List ℕ) (minor : ℕ) (v : Offset) (s : valueFau
       by (oneCell o n p e) = rw e (omega arith)
       by (segments o n p q k e) = rw e (omega arith)
 
-  -- the name lies in the bins data, and its bytes are those of the record
+  -- "bytes lie at 8": inline data are the record's bytes
+  pub inline-bytes : (n : ℕ) → n ≤ 4 → take n (drop 8 (dataAt d v)) ≡ take n (drop (v .0 + 12) d)
+  inline-bytes n p =
+      let x = value-says rule d m v s in
+      let l = x .1 .long in
+      let q : v .0 + 4 + 8 ≡ v .0 + 12 = omega arith in
+      bytes-within d v 8 n (names-roomy d v (8 + n) (x .0) (omega arith)) ∙ ap (λ (i : ℕ). take n (drop i d)) q
+
+  name-roomy : Roomy d v (20 + u16At (dataAt d v) 2)
+  name-roomy = let x = value-says rule d m v s in names-roomy d v (20 + u16At (dataAt d v) 2) (x .0) (x .1 .room)
+
+  -- "name at 20": the name lies in the bins data, and is the record's
   pub name-inside : valueOf d minor v .name .at + valueOf d minor v .name .len ≤ length d
   unfolding valueOf fieldsOf
-  name-inside =
-      let x = value-says rule d m v s in
-      let w = names-roomy d v (20 + u16At (dataAt d v) 2) (x .0) (x .1 .room) in
-      omega arith
+  name-inside = let w = name-roomy .ends in omega arith
+
+  pub name-bytes : take (u16At (dataAt d v) 2) (drop 20 (dataAt d v)) ≡ take (valueOf d minor v .name .len) (drop (valueOf d minor v .name .at) d)
+  unfolding valueOf fieldsOf
+  name-bytes =
+      let q : v .0 + 4 + 20 ≡ v .0 + 24 = omega arith in
+      bytes-within d v 20 (u16At (dataAt d v) 2) name-roomy ∙ ap (λ (i : ℕ). take (u16At (dataAt d v) 2) (drop i d)) q
+
+-- ---- each fault is 11 or 12
+
+module _ (rule : Rule) (d m : List ℕ) where
+  pub only-value : (v : Offset) → Only (valueFault rule d m v)
+  unfolding valueFault
+  only-value v = only-test isValue rule d m v
+
+  pub only-room : (o : Offset) (n : ℕ) → Only (roomFault rule d m o n)
+  unfolding roomFault
+  only-room o n = only-test (λ r. leb n (length r)) rule d m o
+
+  only-list : (o : Offset) (size : ℕ) → Only (segmentListFault rule d m o size)
+  unfolding segmentListFault dbFault
+  only-list o size = only-next _ _ (only-test (λ r. isDb r size) rule d m o) (only-room (segmentList d o) (4 * segmentsFor size))
+
+  only-segments : (o : Offset) (size : ℕ) → Only (segmentsFault rule d m o size)
+  unfolding segmentsFault segmentFault
+  only-segments o size = only-next _ _ (only-list o size) (only-over (segmentFault rule d m) (segmentsOf d o size) (λ s. only-room (s .at) (s .len)))
+
+  pub only-data : (x : ValueData) → Only (dataFault rule d m x)
+  unfolding dataFault
+  only-data (Inline at len) = only-sound refl
+  only-data (OneCell o len) = by (eqb len 0)
+    where
+      by : (t : Bool) → Only (cond t Sound (roomFault rule d m o len))
+      by true = only-sound refl
+      by false = only-room o len
+  only-data (Segments o len) = only-segments o len
+
+  pub only-value-list : (k : Key) → Only (valueListFault rule d m k)
+  unfolding valueListFault
+  only-value-list k = by (eqb (k .values) 0)
+    where
+      by : (t : Bool) → Only (cond t Sound (roomFault rule d m (k .«value_list») (4 * k .values)))
+      by true = only-sound refl
+      by false = only-room (k .«value_list») (4 * k .values)
+
+  pub only-whole-value : (minor : ℕ) (v : Offset) → Only (wholeValueFault rule d m minor v)
+  unfolding wholeValueFault
+  only-whole-value minor v = only-next _ _ (only-value v) (only-data (dataIn d minor v))
+
+  pub only-values : (minor : ℕ) (k : Key) → Only (valuesFault rule d m minor k)
+  unfolding valuesFault
+  only-values minor k = only-next _ _ (only-value-list k) (only-over (wholeValueFault rule d m minor) (valuesOf d k) (only-whole-value minor))
+
+-- ---- what is sound by either rule is sound by the cells' own headers, with any map
+
+module _ (rule : Rule) (d m n : List ℕ) where
+  pub header-value : (v : Offset) → valueFault rule d m v ≡ Sound → valueFault Header d n v ≡ Sound
+  unfolding valueFault
+  header-value v = by-header isValue rule d m v n
+
+  pub header-room : (o : Offset) (k : ℕ) → roomFault rule d m o k ≡ Sound → roomFault Header d n o k ≡ Sound
+  unfolding roomFault
+  header-room o k = by-header (λ r. leb k (length r)) rule d m o n
+
+  header-list : (o : Offset) (size : ℕ) → segmentListFault rule d m o size ≡ Sound → segmentListFault Header d n o size ≡ Sound
+  unfolding segmentListFault dbFault
+  header-list o size =
+      carries-next _ _ _ _ (by-header (λ r. isDb r size) rule d m o n) (header-room (segmentList d o) (4 * segmentsFor size))
+
+  header-segments : (o : Offset) (size : ℕ) → segmentsFault rule d m o size ≡ Sound → segmentsFault Header d n o size ≡ Sound
+  unfolding segmentsFault segmentFault
+  header-segments o size =
+      carries-next _ _ _ _ (header-list o size)
+      (carries-over (segmentFault rule d m) (segmentFault Header d n) (segmentsOf d o size) (λ s. header-room (s .at) (s .len)))
+
+  pub header-data : (x : ValueData) → dataFault rule d m x ≡ Sound → dataFault Header d n x ≡ Sound
+  unfolding dataFault
+  header-data (Inline at len) e = refl
+  header-data (OneCell o len) e = by (eqb len 0) e
+    where
+      by : (t : Bool) → cond t Sound (roomFault rule d m o len) ≡ Sound → cond t Sound (roomFault Header d n o len) ≡ Sound
+      by true e = refl
+      by false e = header-room o len e
+  header-data (Segments o len) e = header-segments o len e
+
+  pub header-value-list : (k : Key) → valueListFault rule d m k ≡ Sound → valueListFault Header d n k ≡ Sound
+  unfolding valueListFault
+  header-value-list k e = by (eqb (k .values) 0) e
+    where
+      by : (t : Bool) → cond t Sound (roomFault rule d m (k .«value_list») (4 * k .values)) ≡ Sound
+          → cond t Sound (roomFault Header d n (k .«value_list») (4 * k .values)) ≡ Sound
+      by true e = refl
+      by false e = header-room (k .«value_list») (4 * k .values) e
+
+  pub header-whole-value : (minor : ℕ) (v : Offset) → wholeValueFault rule d m minor v ≡ Sound → wholeValueFault Header d n minor v ≡ Sound
+  unfolding wholeValueFault
+  header-whole-value minor v = carries-next _ _ _ _ (header-value v) (header-data (dataIn d minor v))
+
+  pub header-values : (minor : ℕ) (k : Key) → valuesFault rule d m minor k ≡ Sound → valuesFault Header d n minor k ≡ Sound
+  unfolding valuesFault
+  header-values minor k =
+      carries-next _ _ _ _ (header-value-list k)
+      (carries-over (wholeValueFault rule d m minor) (wholeValueFault Header d n minor) (valuesOf d k) (header-whole-value minor))
+
+-- ---- what a copy and a view ask
+
+pub lies : (rule : Rule) (d m : List ℕ) (minor : ℕ) (v : Offset) → valueFault rule d m v ≡ Sound
+    → (other : Rule) (n : List ℕ) → dataFault other d n (dataIn d minor v) ≡ Sound → Lies d (dataIn d minor v)
+lies rule d m minor v s other n e = record { inside = inline-inside rule d m minor v s; sound = header-data other d n [] (dataIn d minor v) e }

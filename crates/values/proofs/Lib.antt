@@ -10,3 +10,4 @@ pub mod LawsLists
 pub mod LawsSegments
 pub mod LawsData
 pub mod LawsValues
+pub mod Figures

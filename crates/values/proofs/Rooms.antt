@@ -3,16 +3,14 @@ use Prim.Native.Nat.{ℕ, _+_, _-_, _*_, _<_, _≤_}
 use native.Mathlib.Omega.{arith}
 use native.Mathlib.Nat.{add-zero}
 use mathlib.Core.Path.{_≡_, refl, sym, ap, _∙_}
-use mathlib.Core.Bool.{Bool, true, false}
 use mathlib.Core.List.{List}
 use lib.Dec.{leb}
-use lib.ListN.{length, getD, take, drop}
-use lib.Seq.{take-take}
+use lib.ListN.{length, getD, take, drop, length-drop}
+use lib.Seq.{take-take, take-add, drop-drop, drop-at, length-take-le}
 use borrow.Author.Tests.{le-leb, lt-leb, leb-true}
 use Rattle.fields.specs.declared.Offset.{Offset}
 use Rattle.fields.specs.declared.Flaw.{Flaw}
 use Rattle.fields.specs.declared.Fault.the-variants.{Record}
-use Rattle.fields.specs.declared.Size.{Size}
 use Rattle.fields.specs.declared.Verdict.the-variants.{Sound, Flawed}
 use Rattle.fields.specs.Number.{sizeAt}
 use Rattle.fields.specs.Faults.{flaw, nowhere}
@@ -23,7 +21,7 @@ use Rattle.cells.specs.Named.{cellOf, dataOf, dataAt}
 use Rattle.cells.proofs.Naming.{Names, inside, data-length, data-at-length}
 use Rattle.records.specs.Offsets.{offsetAt, offsetsAt}
 use Rattle.values.specs.declared.Entries.{Entries}
-use Rattle.values.specs.Entries.{entriesAt, Room, entriesOf}
+use Rattle.values.specs.Entries.{entriesAt, entriesOf}
 use Rattle.values.specs.Segments.{roomFault}
 use Rattle.values.proofs.Cell_tests.{lacks, passes, refuses, says}
 use Rattle.values.proofs.Offset_list.{offsets-length, offsets-at, offsets-take, offsets-drop}
@@ -67,6 +65,19 @@ unfolding roomFault
 roomy rule d m o n e =
     let s = says (λ r. leb n (length r)) rule d m o e in
     names-roomy d o n (s .0) (leb-true n (length (dataAt d o)) (s .1))
+
+-- n bytes from position a of the data on
+pub bytes-within : (d : List ℕ) (o : Offset) (a n : ℕ) → Roomy d o (a + n) → take n (drop a (dataAt d o)) ≡ take n (drop (o .0 + 4 + a) d)
+bytes-within d o a n w =
+    let f = w .fits in
+    let e = w .ends in
+    later (dataAt d o) (omega arith)
+    ∙ ap (drop a) (w .same)
+    ∙ sym (later (drop (o .0 + 4) d) (simp length-drop (omega arith)))
+    ∙ ap (take n) (drop-drop a (o .0 + 4) d)
+  where
+    later : (s : List ℕ) → a ≤ length s → take n (drop a s) ≡ drop a (take (a + n) s)
+    later s p = sym (ap (drop a) (take-add a n s) ∙ drop-at (take a s) (take n (drop a s)) a (length-take-le a s p))
 
 -- the elements of a list
 module _ (d : List ℕ) (e : Entries) where

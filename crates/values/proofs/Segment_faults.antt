@@ -1,9 +1,9 @@
 -- The faults of a list and of segmented data, a law for each way out.
-use Prim.Native.Nat.{ℕ, _+_, _*_, _≤_}
+use Prim.Native.Nat.{ℕ, _*_, _≤_}
 use native.Mathlib.Omega.{arith}
-use mathlib.Core.Path.{_≡_, refl, sym, ap, ap₂, _∙_}
-use mathlib.Core.Bool.{Bool, true, false, _&&_}
-use mathlib.Core.List.{List, [], _∷_}
+use mathlib.Core.Path.{_≡_, refl, ap, _∙_}
+use mathlib.Core.Bool.{true, false}
+use mathlib.Core.List.{List}
 use lib.Dec.{leb}
 use lib.ListN.{length}
 use borrow.Author.Tests.{leb-true}
@@ -13,17 +13,15 @@ use Rattle.fields.specs.declared.Fault.the-variants.{Record}
 use Rattle.fields.specs.declared.Verdict.{Verdict}
 use Rattle.fields.specs.declared.Verdict.the-variants.{Sound, Flawed}
 use Rattle.fields.specs.Number.{u32At}
-use Rattle.fields.specs.Faults.{flaw, _next_, faultOver}
+use Rattle.fields.specs.Faults.{flaw, faultOver}
 use Rattle.fields.proofs.Firsts.{on, stop, both}
 use Rattle.fields.proofs.Bools.{and-inv}
 use Rattle.cells.specs.declared.Cell.{Cell}
 use Rattle.cells.specs.declared.Found.the-variants.{Named, Missing}
 use Rattle.cells.specs.declared.Rule.{Rule}
-use Rattle.cells.specs.Named.{cellOf, dataOf, dataAt}
+use Rattle.cells.specs.Named.{cellOf, dataOf}
 use Rattle.cells.proofs.Naming.{cell-data-at}
-use Rattle.records.specs.Offsets.{offsetAt}
 use Rattle.values.specs.declared.Entries.{Entries}
-use Rattle.values.specs.declared.Listing.{Listing}
 use Rattle.values.specs.declared.Listing.the-variants as listedAs
 use Rattle.values.specs.Entries.{entriesAt, Room, listing}
 use Rattle.values.specs.Segments.{roomFault, segmentsFor, isDb, dbFault, segmentList, segmentsIn, segmentsOf, segmentFault, segmentListFault, segmentsFault}

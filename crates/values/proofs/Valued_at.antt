@@ -17,7 +17,7 @@ use Rattle.base.specs.Block.{binsLimit}
 use Rattle.cells.specs.declared.Cell.{Cell}
 use Rattle.cells.specs.declared.Found.the-variants.{Named, Missing}
 use Rattle.cells.specs.declared.Rule.{Rule}
-use Rattle.cells.specs.Named.{cellOf, dataOf, dataAt}
+use Rattle.cells.specs.Named.{cellOf, dataOf}
 use Rattle.cells.proofs.Naming.{cell-sound, sound-names, cell-data-at}
 use Rattle.values.specs.declared.Value.{Value}
 use Rattle.values.specs.declared.Valued.the-variants.{Whole, Flawed}

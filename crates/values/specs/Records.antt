@@ -3,8 +3,8 @@
 use Prim.Native.Nat.{ℕ, _+_, _-_}
 use mathlib.Core.Bool.{Bool, cond, _&&_}
 use mathlib.Core.List.{List, [], _∷_}
-use lib.Dec.{eqb, leb, ltb}
-use lib.ListN.{length, take, drop}
+use lib.Dec.{leb, ltb}
+use lib.ListN.{length}
 use Rattle.fields.specs.declared.Fault.the-variants.{Record}
 use Rattle.fields.specs.declared.Offset.{Offset}
 use Rattle.fields.specs.declared.Verdict.{Verdict}

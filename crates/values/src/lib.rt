@@ -80,8 +80,8 @@ fn is_value(r: &[u8]) -> bool
     is_data_size(fields::u32_at(r, 4))
 }
 
-// "So data are inline, in one cell or in segments": where the data lie, each with its length. Inline data start at an offset inside the record; the
-// other two name a cell.
+// "data are inline, in one cell or in segments": value data as an enum with three cases carrying offset and length, read by view and copy. Inline data
+// start at an offset inside the record; the other two name a cell.
 pub enum ValueData {
     Inline { at: Offset, len: u32 },
     OneCell { cell: Offset, len: u32 },
@@ -221,7 +221,7 @@ pub fn entry(bins: &[u8], e: Entries, i: usize) -> Offset
     Offset(fields::u32_at(bins, e.at + 4 * i))
 }
 
-// A segment: its cell, and how many bytes of the data it holds.
+// A segment, of which the definitions speak: its cell, and how many bytes of the data it holds.
 pub struct Segment {
     pub at: Offset,
     pub len: usize,
@@ -356,13 +356,13 @@ fn each_value_flaw(bins: &[u8], map: &[u8], rule: Rule, minor: u32, e: Entries) 
     ensures { λ r. ⌜ r ≡ faultOver (wholeValueFault rule (now (bins .entry)) (now (map .entry)) minor) (entriesOf (now (bins .entry)) e) ⌝ }
 {
     let count = e.count;
-    let mut i: usize = 0;
-    while i < count {
-        let v = entry(bins, e, i);
+    let mut seen: usize = 0;
+    while seen < count {
+        let v = entry(bins, e, seen);
         if let Verdict::Flawed(f) = whole_value_flaw(bins, map, rule, minor, v) {
             return Verdict::Flawed(f);
         }
-        i += 1;
+        seen += 1;
     }
     Verdict::Sound
 }
