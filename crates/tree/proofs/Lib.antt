@@ -5,3 +5,5 @@ pub mod Once
 pub mod Counted
 pub mod Exactly
 pub mod Tests
+pub mod Walks
+pub mod Elements

@@ -151,7 +151,15 @@ fn rest_flaw(bins: &[u8], map: &[u8], minor: u32, levels: u32, k: Key, at: Offse
 }
 
 // All of a key's tests but that of its record.
-fn own_flaw(bins: &[u8], map: &[u8], hive: Hive, levels: u32, k: Key, c: Child, l: Listed) -> Verdict
+fn own_flaw(
+    bins: &[u8],
+    map: &[u8],
+    hive: Hive,
+    levels: u32,
+    k: Key,
+    c: Child,
+    l: Listed,
+) -> Verdict
     requires { ⌜ (length (now bins) ≤ binsLimit) × NameLies (now bins) k ⌝ }
     requires { ⌜ ListedFits (now bins) l ⌝ }
     ensures { λ r. ⌜ r ≡ ownFault (now (bins .entry)) (now (map .entry)) hive levels k c l ⌝ }
@@ -187,7 +195,15 @@ fn last_of(bins: &[u8], map: &[u8], o: Offset) -> Offset
 }
 
 // "A key is checked by way of its lists, and a list by way of its keys." The levels left fall with each key; lists and leaves are walked in loops.
-fn check_key(bins: &[u8], map: &[u8], hive: Hive, c: Child, l: Listed, levels: u32, t: Count) -> Walk
+fn check_key(
+    bins: &[u8],
+    map: &[u8],
+    hive: Hive,
+    c: Child,
+    l: Listed,
+    levels: u32,
+    t: Count,
+) -> Walk
     requires { ⌜ length (now bins) ≤ binsLimit ⌝ }
     requires { ⌜ ListedFits (now bins) l ⌝ }
     ensures { λ r. ⌜ r ≡ keyAnswer (now (bins .entry)) (now (map .entry)) hive levels c l t ⌝ }
@@ -206,7 +222,15 @@ fn check_key(bins: &[u8], map: &[u8], hive: Hive, c: Child, l: Listed, levels: u
 }
 
 // The children of a key, leaf by leaf.
-fn check_list(bins: &[u8], map: &[u8], hive: Hive, key: Offset, k: Key, levels: u32, from: Count) -> Walk
+fn check_list(
+    bins: &[u8],
+    map: &[u8],
+    hive: Hive,
+    key: Offset,
+    k: Key,
+    levels: u32,
+    from: Count,
+) -> Walk
     requires { ⌜ length (now bins) ≤ binsLimit ⌝ }
     requires { ⌜ listsFault Map (now bins) (now map) k ≡ Sound ⌝ }
     ensures { λ r. ⌜ r ≡ listAnswer (now (bins .entry)) (now (map .entry)) hive levels key (Listed.First key) (childrenBelow (now (bins .entry)) k) from ⌝ }
@@ -235,7 +259,16 @@ fn check_list(bins: &[u8], map: &[u8], hive: Hive, key: Offset, k: Key, levels: 
 }
 
 // The keys of a leaf, each wholly before the next.
-fn check_leaf(bins: &[u8], map: &[u8], hive: Hive, key: Offset, o: Offset, first: Listed, levels: u32, from: Count) -> Walk
+fn check_leaf(
+    bins: &[u8],
+    map: &[u8],
+    hive: Hive,
+    key: Offset,
+    o: Offset,
+    first: Listed,
+    levels: u32,
+    from: Count,
+) -> Walk
     requires { ⌜ length (now bins) ≤ binsLimit ⌝ }
     requires { ⌜ leafFault Map (now bins) (now map) o ≡ Sound ⌝ }
     requires { ⌜ ListedFits (now bins) first ⌝ }

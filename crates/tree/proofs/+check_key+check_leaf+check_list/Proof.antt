@@ -1,649 +1,297 @@
+-- The proof of the cycle of calls {check_key, check_leaf, check_list}. A key has three times the levels left, a leaf one more than its keys, a list one
+-- more than its leaves; along a list and along a leaf the loops' own measures fall. Assumes nothing.
 use borrow.Author.Needs.{needs}
-use Prim.Native.Nat.{ℕ, _<_}
 use borrow.Fn.Kinds.{In}
 use borrow.Fn.PlainCycle.{Measures, is, falls, and}
-use Rattle.tree.proofs.check_key.Reads as check-key
-use Rattle.tree.proofs.check_key.Kinds as check-key-kinds
-use Rattle.tree.proofs.+check_key+check_leaf+check_list.Lts-check_key as check-key-lts
-use Rattle.tree.proofs.check_leaf.Reads as check-leaf
-use Rattle.tree.proofs.check_leaf.Kinds as check-leaf-kinds
-use Rattle.tree.proofs.+check_key+check_leaf+check_list.Lts-check_leaf as check-leaf-lts
-use Rattle.tree.proofs.check_list.Reads as check-list
-use Rattle.tree.proofs.check_list.Kinds as check-list-kinds
-use Rattle.tree.proofs.+check_key+check_leaf+check_list.Lts-check_list as check-list-lts
-use Rattle.fields.proofs.refused.Reads as refused-reads
-use Rattle.records.proofs.child_of.Reads as child-of-reads
-use Rattle.records.proofs.key_at.Reads as key-at-reads
-use Rattle.records.proofs.leaf_fields.Reads as leaf-fields-reads
-use Rattle.records.proofs.leaf_offset.Reads as leaf-offset-reads
-use Rattle.records.proofs.leaves_fields.Reads as leaves-fields-reads
-use Rattle.tree.proofs.last_of.Reads as last-of-reads
-use Rattle.tree.proofs.own_flaw.Reads as own-flaw-reads
-use Rattle.tree.proofs.tally.Reads as tally-reads
+use Prim.Native.Nat.{ℕ, _+_, _-_, _*_, _<_, _≤_}
+use native.Mathlib.Omega.{arith}
+use mathlib.Core.Path.{_≡_, refl, sym, ap, _∙_, subst}
+use mathlib.Core.List.{List, List·Memᴰ}
+use denote.Ref.{now}
+use lib.ListN.{length, drop}
+use Rattle.fields.specs.declared.Offset.{Offset}
+use Rattle.fields.specs.declared.Verdict.the-variants.{Sound}
+use Rattle.fields.specs.Faults.{nowhere}
+use Rattle.cells.specs.declared.Rule.the-variants.{Map}
+use Rattle.cells.specs.Named.{dataAt}
+use Rattle.records.specs.declared.Child.{Child}
+use Rattle.records.specs.declared.Key.{Key}
+use Rattle.records.specs.Keys.{keyFault, keyOf}
+use Rattle.records.specs.Lists.{leafFault, leafChildren, childrenIn, childrenBelow}
+use Rattle.records.specs.Places.{leavesNamed, LeavesLie, ElementsLie}
+use Rattle.records.proofs.LawsAnswer.{keyed-whole, keyed-flawed}
+use Rattle.records.proofs.LawsKey.{name-room}
+use Rattle.records.proofs.LawsPlaces.{leaf-tested, leaf-some, elements-lie, leaves-lie, named-length}
+use Rattle.tree.specs.Tree.{listAnswer}
+use Rattle.tree.specs.Steps.{ListedFits, elementsOf}
+use Rattle.tree.proofs.Charges.{own-parts}
+use Rattle.tree.proofs.Walks.{key-record, key-own, level-left, key-on, end-nil, leaf-stop, leaf-on, leaf-end, leaves-stop, leaves-on, leaves-end, key-fits, leaf-fits}
+use Rattle.tree.proofs.Elements.{elements-length, element-at, as-leaf, leaf-there, leaf-in, no-children, head-sound, head-room, as-list, each-sound}
+use Rattle.tree.proofs.check_key.Reads as key
+use Rattle.tree.proofs.check_key.Kinds as key-kinds
+use Rattle.tree.proofs.+check_key+check_leaf+check_list.Lts-check_key as key-lts
+use Rattle.tree.proofs.check_leaf.Reads as leaf
+use Rattle.tree.proofs.check_leaf.Kinds as leaf-kinds
+use Rattle.tree.proofs.+check_key+check_leaf+check_list.Lts-check_leaf as leaf-lts
+use Rattle.tree.proofs.check_list.Reads as list
+use Rattle.tree.proofs.check_list.Kinds as list-kinds
+use Rattle.tree.proofs.+check_key+check_leaf+check_list.Lts-check_list as list-lts
+use Rattle.fields.proofs.refused.Reads as refused
+use Rattle.records.proofs.child_of.Reads as child-of
+use Rattle.records.proofs.key_at.Reads as key-at
+use Rattle.records.proofs.leaf_fields.Reads as leaf-fields
+use Rattle.records.proofs.leaf_offset.Reads as leaf-offset
+use Rattle.records.proofs.leaves_fields.Reads as leaves-fields
+use Rattle.tree.proofs.last_of.Reads as last-of
+use Rattle.tree.proofs.own_flaw.Reads as own-flaw
+use Rattle.tree.proofs.tally.Reads as tally
 use Rattle.tree.proofs.+check_key+check_leaf+check_list.{statement}
 use Rattle.tree.proofs.+check_key+check_leaf+check_list.Tie.{close}
 
-abbrev μ-check-key : Measures 2 check-key-kinds.ps ℕ
-μ-check-key κs a = ?
+abbrev μ-key : Measures 2 key-kinds.ps ℕ
+μ-key κs a = 3 * a .1 .1 .1 .1 .1 .0
 
-abbrev μ-check-leaf : Measures 2 check-leaf-kinds.ps ℕ
-μ-check-leaf κs a = ?
+abbrev μ-leaf : Measures 2 leaf-kinds.ps ℕ
+μ-leaf κs a = 3 * a .1 .1 .1 .1 .1 .1 .0 + 1
 
-abbrev μ-check-list : Measures 2 check-list-kinds.ps ℕ
-μ-check-list κs a = ?
+abbrev μ-list : Measures 2 list-kinds.ps ℕ
+μ-list κs a = 3 * a .1 .1 .1 .1 .1 .0 + 2
 
-abbrev check-key-at : ℕ → In 2 check-key-kinds.ps
-check-key-at t = and 2 check-key-kinds.ps (is 2 check-key-kinds.ps μ-check-key t) check-key.Pre
+-- what is left of a leaf answers as the whole does, and the sibling before was tested
+abbrev Inv-leaf : leaf-lts.InvT-loop
+Inv-leaf bins map hive key levels leaf t₀ l₀ i₀ t l i =
+    (i ≤ leaf .count) × ElementsLie bins leaf × ListedFits bins l
+    × (listAnswer bins map hive levels key l₀ (elementsOf bins leaf) t₀ ≡ listAnswer bins map hive levels key l (drop i (elementsOf bins leaf)) t)
 
-abbrev check-key-below : ℕ → In 2 check-key-kinds.ps
-check-key-below t =
-    and 2 check-key-kinds.ps (falls 2 check-key-kinds.ps _<_ μ-check-key t) check-key.Pre
+abbrev μ-leaf-loop : leaf-lts.MeasureT-loop
+μ-leaf-loop bins map hive key levels leaf t₀ l₀ i₀ t l i = leaf .count - i
 
-abbrev check-leaf-at : ℕ → In 2 check-leaf-kinds.ps
-check-leaf-at t =
-    and 2 check-leaf-kinds.ps (is 2 check-leaf-kinds.ps μ-check-leaf t) check-leaf.Pre
+abbrev Inv-list : list-lts.InvT-loop
+Inv-list bins map hive key levels ls t₀ l₀ j₀ t l j =
+    (j ≤ ls .count) × LeavesLie bins ls × ((o : Offset) → List·Memᴰ o (leavesNamed bins ls) → leafFault Map bins map o ≡ Sound) × ListedFits bins l
+    × (listAnswer bins map hive levels key l₀ (childrenIn bins (leavesNamed bins ls)) t₀
+    ≡ listAnswer bins map hive levels key l (childrenIn bins (drop j (leavesNamed bins ls))) t)
 
-abbrev check-leaf-below : ℕ → In 2 check-leaf-kinds.ps
-check-leaf-below t =
-    and 2 check-leaf-kinds.ps (falls 2 check-leaf-kinds.ps _<_ μ-check-leaf t) check-leaf.Pre
+abbrev μ-list-loop : list-lts.MeasureT-loop
+μ-list-loop bins map hive key levels ls t₀ l₀ j₀ t l j = ls .count - j
 
-abbrev check-list-at : ℕ → In 2 check-list-kinds.ps
-check-list-at t =
-    and 2 check-list-kinds.ps (is 2 check-list-kinds.ps μ-check-list t) check-list.Pre
+module _ (t : ℕ) where
+  abbrev key-asks : In 2 key-kinds.ps
+  key-asks = and 2 key-kinds.ps (is 2 key-kinds.ps μ-key t) key.Pre
 
-abbrev check-list-below : ℕ → In 2 check-list-kinds.ps
-check-list-below t =
-    and 2 check-list-kinds.ps (falls 2 check-list-kinds.ps _<_ μ-check-list t) check-list.Pre
+  abbrev key-below : In 2 key-kinds.ps
+  key-below = and 2 key-kinds.ps (falls 2 key-kinds.ps _<_ μ-key t) key.Pre
 
--- src/lib.rt:196:11
-check-key-key-at-requires : (t : ℕ) → check-key-lts.Need-key-at-requires (
-  key-at-reads.Asked,
-  key-at-reads.Learnt,
-  refused-reads.Asked,
-  refused-reads.Learnt,
-  own-flaw-reads.Asked,
-  own-flaw-reads.Learnt,
-  tally-reads.Asked,
-  tally-reads.Learnt,
-  check-list-below t,
-  check-list.Post,
-) (check-key-at t) check-key.Post
-check-key-key-at-requires t c κs = search needs
+  abbrev leaf-asks : In 2 leaf-kinds.ps
+  leaf-asks = and 2 leaf-kinds.ps (is 2 leaf-kinds.ps μ-leaf t) leaf.Pre
 
--- src/lib.rt:197:23
-check-key-enum-known-f : (t : ℕ) → check-key-lts.Need-enum-known-f (
-  key-at-reads.Asked,
-  key-at-reads.Learnt,
-  refused-reads.Asked,
-  refused-reads.Learnt,
-  own-flaw-reads.Asked,
-  own-flaw-reads.Learnt,
-  tally-reads.Asked,
-  tally-reads.Learnt,
-  check-list-below t,
-  check-list.Post,
-) (check-key-at t) check-key.Post
-check-key-enum-known-f t c = search needs
+  abbrev leaf-below : In 2 leaf-kinds.ps
+  leaf-below = and 2 leaf-kinds.ps (falls 2 leaf-kinds.ps _<_ μ-leaf t) leaf.Pre
 
--- src/lib.rt:197:43
-check-key-refused-requires : (t : ℕ) → check-key-lts.Need-refused-requires (
-  key-at-reads.Asked,
-  key-at-reads.Learnt,
-  refused-reads.Asked,
-  refused-reads.Learnt,
-  own-flaw-reads.Asked,
-  own-flaw-reads.Learnt,
-  tally-reads.Asked,
-  tally-reads.Learnt,
-  check-list-below t,
-  check-list.Post,
-) (check-key-at t) check-key.Post
-check-key-refused-requires t c κs = search needs
+  abbrev list-asks : In 2 list-kinds.ps
+  list-asks = and 2 list-kinds.ps (is 2 list-kinds.ps μ-list t) list.Pre
 
--- src/lib.rt:198:22
-check-key-enum-known-k : (t : ℕ) → check-key-lts.Need-enum-known-k (
-  key-at-reads.Asked,
-  key-at-reads.Learnt,
-  refused-reads.Asked,
-  refused-reads.Learnt,
-  own-flaw-reads.Asked,
-  own-flaw-reads.Learnt,
-  tally-reads.Asked,
-  tally-reads.Learnt,
-  check-list-below t,
-  check-list.Post,
-) (check-key-at t) check-key.Post
-check-key-enum-known-k t c = search needs
+  abbrev list-below : In 2 list-kinds.ps
+  list-below = and 2 list-kinds.ps (falls 2 list-kinds.ps _<_ μ-list t) list.Pre
 
--- src/lib.rt:198:34
-check-key-own-flaw-requires : (t : ℕ) → check-key-lts.Need-own-flaw-requires (
-  key-at-reads.Asked,
-  key-at-reads.Learnt,
-  refused-reads.Asked,
-  refused-reads.Learnt,
-  own-flaw-reads.Asked,
-  own-flaw-reads.Learnt,
-  tally-reads.Asked,
-  tally-reads.Learnt,
-  check-list-below t,
-  check-list.Post,
-) (check-key-at t) check-key.Post
-check-key-own-flaw-requires t c κs = search needs
+  abbrev K : key-lts.Claims
+  K = (key-at.Asked, key-at.Learnt, refused.Asked, refused.Learnt, own-flaw.Asked, own-flaw.Learnt, tally.Asked, tally.Learnt, list-below, list.Post)
 
--- src/lib.rt:199:29
-check-key-enum-known-f-2 : (t : ℕ) → check-key-lts.Need-enum-known-f-2 (
-  key-at-reads.Asked,
-  key-at-reads.Learnt,
-  refused-reads.Asked,
-  refused-reads.Learnt,
-  own-flaw-reads.Asked,
-  own-flaw-reads.Learnt,
-  tally-reads.Asked,
-  tally-reads.Learnt,
-  check-list-below t,
-  check-list.Post,
-) (check-key-at t) check-key.Post
-check-key-enum-known-f-2 t c = search needs
+  abbrev F : leaf-lts.Claims
+  F = (leaf-fields.Asked, leaf-fields.Learnt, child-of.Asked, child-of.Learnt, key-below, key.Post)
 
--- src/lib.rt:199:49
-check-key-refused-requires-2 : (t : ℕ) → check-key-lts.Need-refused-requires-2 (
-  key-at-reads.Asked,
-  key-at-reads.Learnt,
-  refused-reads.Asked,
-  refused-reads.Learnt,
-  own-flaw-reads.Asked,
-  own-flaw-reads.Learnt,
-  tally-reads.Asked,
-  tally-reads.Learnt,
-  check-list-below t,
-  check-list.Post,
-) (check-key-at t) check-key.Post
-check-key-refused-requires-2 t c κs = search needs
+  abbrev L : list-lts.Claims
+  L = (leaves-fields.Asked, leaves-fields.Learnt, leaf-offset.Asked, leaf-offset.Learnt, leaf-below, leaf.Post, last-of.Asked, last-of.Learnt)
 
--- src/lib.rt:201:21
-check-key-enum-told : (t : ℕ) → check-key-lts.Need-enum-told (
-  key-at-reads.Asked,
-  key-at-reads.Learnt,
-  refused-reads.Asked,
-  refused-reads.Learnt,
-  own-flaw-reads.Asked,
-  own-flaw-reads.Learnt,
-  tally-reads.Asked,
-  tally-reads.Learnt,
-  check-list-below t,
-  check-list.Post,
-) (check-key-at t) check-key.Post
-check-key-enum-told t c = search needs
+  -- check_key
+  k-key-at : key-lts.Need-key-at-requires K key-asks key.Post
+  k-key-at c κs = search needs
 
--- src/lib.rt:201:21
-check-key-tally-requires : (t : ℕ) → check-key-lts.Need-tally-requires (
-  key-at-reads.Asked,
-  key-at-reads.Learnt,
-  refused-reads.Asked,
-  refused-reads.Learnt,
-  own-flaw-reads.Asked,
-  own-flaw-reads.Learnt,
-  tally-reads.Asked,
-  tally-reads.Learnt,
-  check-list-below t,
-  check-list.Post,
-) (check-key-at t) check-key.Post
-check-key-tally-requires t c κs = search needs
+  k-flawed : key-lts.Need-enum-known-f K key-asks key.Post
+  k-flawed c = search needs
 
--- src/lib.rt:202:52
-check-key-sub-check-list : (t : ℕ) → check-key-lts.Need-sub-check-list (
-  key-at-reads.Asked,
-  key-at-reads.Learnt,
-  refused-reads.Asked,
-  refused-reads.Learnt,
-  own-flaw-reads.Asked,
-  own-flaw-reads.Learnt,
-  tally-reads.Asked,
-  tally-reads.Learnt,
-  check-list-below t,
-  check-list.Post,
-) (check-key-at t) check-key.Post
-check-key-sub-check-list t c = search needs
+  k-refused : key-lts.Need-refused-requires K key-asks key.Post
+  k-refused c κs = search needs
 
--- src/lib.rt:202:17
-check-key-check-list-requires : (t : ℕ) → check-key-lts.Need-check-list-requires (
-  key-at-reads.Asked,
-  key-at-reads.Learnt,
-  refused-reads.Asked,
-  refused-reads.Learnt,
-  own-flaw-reads.Asked,
-  own-flaw-reads.Learnt,
-  tally-reads.Asked,
-  tally-reads.Learnt,
-  check-list-below t,
-  check-list.Post,
-) (check-key-at t) check-key.Post
-check-key-check-list-requires t c κs = search needs
+  k-whole : key-lts.Need-enum-known-k K key-asks key.Post
+  k-whole c = search needs
 
--- src/lib.rt:190:1
-check-key-returns : (t : ℕ) → check-key-lts.Need-returns (
-  key-at-reads.Asked,
-  key-at-reads.Learnt,
-  refused-reads.Asked,
-  refused-reads.Learnt,
-  own-flaw-reads.Asked,
-  own-flaw-reads.Learnt,
-  tally-reads.Asked,
-  tally-reads.Learnt,
-  check-list-below t,
-  check-list.Post,
-) (check-key-at t) check-key.Post
-check-key-returns t c = search needs
+  k-own : key-lts.Need-own-flaw-requires K key-asks key.Post
+  k-own c κs =
+      let a = c .before .before .before .before .before .before .before .args in
+      let w = keyed-whole (keyFault Map (now (a .bins)) (now (a .map)) (a .c .at)) (keyOf (now (a .bins)) (a .c .at)) (sym (c .before .before .before .key-at .ensures) ∙ c .before .k .given .1) in
+      ((c .before .before .before .before .before .before .before .pre .1 .0, rw (w .1) (name-room Map _ _ _ (w .0))), c .before .before .before .before .before .before .before .pre .1 .1)
 
--- src/lib.rt:190:1
-check-key-returns-2 : (t : ℕ) → check-key-lts.Need-returns-2 (
-  key-at-reads.Asked,
-  key-at-reads.Learnt,
-  refused-reads.Asked,
-  refused-reads.Learnt,
-  own-flaw-reads.Asked,
-  own-flaw-reads.Learnt,
-  tally-reads.Asked,
-  tally-reads.Learnt,
-  check-list-below t,
-  check-list.Post,
-) (check-key-at t) check-key.Post
-check-key-returns-2 t c = search needs
+  k-flawed-2 : key-lts.Need-enum-known-f-2 K key-asks key.Post
+  k-flawed-2 c = search needs
 
--- src/lib.rt:190:1
-check-key-returns-3 : (t : ℕ) → check-key-lts.Need-returns-3 (
-  key-at-reads.Asked,
-  key-at-reads.Learnt,
-  refused-reads.Asked,
-  refused-reads.Learnt,
-  own-flaw-reads.Asked,
-  own-flaw-reads.Learnt,
-  tally-reads.Asked,
-  tally-reads.Learnt,
-  check-list-below t,
-  check-list.Post,
-) (check-key-at t) check-key.Post
-check-key-returns-3 t c = search needs
+  k-refused-2 : key-lts.Need-refused-requires-2 K key-asks key.Post
+  k-refused-2 c κs = search needs
 
-abbrev check-leaf-Inv-loop : check-leaf-lts.InvT-loop
-check-leaf-Inv-loop bins map hive key levels leaf t₀ l₀ i₀ t l i = search needs
+  k-sound : key-lts.Need-enum-told K key-asks key.Post
+  k-sound c = search needs
 
-abbrev check-leaf-μ-loop : check-leaf-lts.MeasureT-loop
-check-leaf-μ-loop bins map hive key levels leaf t₀ l₀ i₀ t l i = search needs
+  k-tally : key-lts.Need-tally-requires K key-asks key.Post
+  k-tally c κs = search needs
 
--- src/lib.rt:244:9
-check-leaf-leaf-fields-requires : (t : ℕ) → check-leaf-lts.Need-leaf-fields-requires (
-  leaf-fields-reads.Asked,
-  leaf-fields-reads.Learnt,
-  child-of-reads.Asked,
-  child-of-reads.Learnt,
-  check-key-below t,
-  check-key.Post,
-) (check-leaf-at t) check-leaf.Post check-leaf-Inv-loop check-leaf-μ-loop
-check-leaf-leaf-fields-requires t c κs = search needs
+  k-sub : key-lts.Need-sub-check-list K key-asks key.Post
+  k-sub c = level-left _ _ _ _ _ _ _ (sym (c .before .before .before .own-flaw .ensures) ∙ c .before .enum-told .given .1)
 
--- src/lib.rt:248:5
-check-leaf-loop-holds : (t : ℕ) → check-leaf-lts.Need-loop-holds (
-  leaf-fields-reads.Asked,
-  leaf-fields-reads.Learnt,
-  child-of-reads.Asked,
-  child-of-reads.Learnt,
-  check-key-below t,
-  check-key.Post,
-) (check-leaf-at t) check-leaf.Post check-leaf-Inv-loop check-leaf-μ-loop
-check-leaf-loop-holds t c = search needs
+  k-list : key-lts.Need-check-list-requires K key-asks key.Post
+  k-list c κs =
+      let l = k-sub c in
+      let o = own-parts _ _ _ _ _ _ _ (sym (c .before .before .before .own-flaw .ensures) ∙ c .before .enum-told .given .1) in
+      (omega arith, (c .before .before .before .before .before .before .before .before .before .before .before .pre .1 .0, o .lists))
 
--- src/lib.rt:249:13
-check-leaf-child-of-requires : (t : ℕ) → check-leaf-lts.Need-child-of-requires (
-  leaf-fields-reads.Asked,
-  leaf-fields-reads.Learnt,
-  child-of-reads.Asked,
-  child-of-reads.Learnt,
-  check-key-below t,
-  check-key.Post,
-) (check-leaf-at t) check-leaf.Post check-leaf-Inv-loop check-leaf-μ-loop
-check-leaf-child-of-requires t c κs = search needs
+  k-returns : key-lts.Need-returns K key-asks key.Post
+  k-returns c =
+      let a = c .before .before .before .before .before .before .before .before .args in
+      sym (key-record _ _ _ _ _ _ _ (keyed-flawed (keyFault Map (now (a .bins)) (now (a .map)) (a .c .at)) (keyOf (now (a .bins)) (a .c .at)) (sym (c .before .before .before .before .key-at .ensures) ∙ c .before .before .f .given .1)) (c .refused .ensures))
 
--- src/lib.rt:250:13
-check-leaf-check-key-requires : (t : ℕ) → check-leaf-lts.Need-check-key-requires (
-  leaf-fields-reads.Asked,
-  leaf-fields-reads.Learnt,
-  child-of-reads.Asked,
-  child-of-reads.Learnt,
-  check-key-below t,
-  check-key.Post,
-) (check-leaf-at t) check-leaf.Post check-leaf-Inv-loop check-leaf-μ-loop
-check-leaf-check-key-requires t c κs = search needs
+  k-returns-2 : key-lts.Need-returns-2 K key-asks key.Post
+  k-returns-2 c =
+      let a = c .before .before .before .before .before .before .before .before .before .before .before .before .args in
+      let w = keyed-whole (keyFault Map (now (a .bins)) (now (a .map)) (a .c .at)) (keyOf (now (a .bins)) (a .c .at)) (sym (c .before .before .before .before .before .before .before .before .key-at .ensures) ∙ c .before .before .before .before .before .before .k .given .1) in
+      sym (key-own _ _ _ _ _ _ _ _ (w .1) (w .0) (sym (c .before .before .before .before .own-flaw .ensures) ∙ c .before .before .f2 .given .1) (c .refused2 .ensures))
 
--- src/lib.rt:252:27
-check-leaf-enum-known-w : (t : ℕ) → check-leaf-lts.Need-enum-known-w (
-  leaf-fields-reads.Asked,
-  leaf-fields-reads.Learnt,
-  child-of-reads.Asked,
-  child-of-reads.Learnt,
-  check-key-below t,
-  check-key.Post,
-) (check-leaf-at t) check-leaf.Post check-leaf-Inv-loop check-leaf-μ-loop
-check-leaf-enum-known-w t c = search needs
+  k-returns-3 : key-lts.Need-returns-3 K key-asks key.Post
+  k-returns-3 c =
+      let a = c .before .before .before .before .before .before .before .before .before .before .before .before .args in
+      let w = keyed-whole (keyFault Map (now (a .bins)) (now (a .map)) (a .c .at)) (keyOf (now (a .bins)) (a .c .at)) (sym (c .before .before .before .before .before .before .before .before .key-at .ensures) ∙ c .before .before .before .before .before .before .k .given .1) in
+      c .check-list .ensures
+      ∙ sym (key-on _ _ _ _ _ _ _ _ _ (w .1) (w .0) (sym (c .before .before .before .before .own-flaw .ensures) ∙ c .before .before .enum-told .given .1) (c .before .tally .ensures))
 
--- src/lib.rt:252:33
-check-leaf-returns : (t : ℕ) → check-leaf-lts.Need-returns (
-  leaf-fields-reads.Asked,
-  leaf-fields-reads.Learnt,
-  child-of-reads.Asked,
-  child-of-reads.Learnt,
-  check-key-below t,
-  check-key.Post,
-) (check-leaf-at t) check-leaf.Post check-leaf-Inv-loop check-leaf-μ-loop
-check-leaf-returns t c = search needs
+  -- check_leaf
+  f-fields : leaf-lts.Need-leaf-fields-requires F leaf-asks leaf.Post Inv-leaf μ-leaf-loop
+  f-fields c κs = let t = leaf-tested Map _ _ _ (c .before .before .pre .1 .1 .0) in omega (arith, t .holds .room)
 
--- src/lib.rt:253:27
-check-leaf-enum-known-w-2 : (t : ℕ) → check-leaf-lts.Need-enum-known-w-2 (
-  leaf-fields-reads.Asked,
-  leaf-fields-reads.Learnt,
-  child-of-reads.Asked,
-  child-of-reads.Learnt,
-  check-key-below t,
-  check-key.Post,
-) (check-leaf-at t) check-leaf.Post check-leaf-Inv-loop check-leaf-μ-loop
-check-leaf-enum-known-w-2 t c = search needs
+  f-holds : leaf-lts.Need-loop-holds F leaf-asks leaf.Post Inv-leaf μ-leaf-loop
+  f-holds c = (omega arith, rw (c .leaf-fields .ensures) (elements-lie Map _ _ _ (c .before .before .before .pre .1 .1 .0)), c .before .before .before .pre .1 .1 .1, refl)
 
--- src/lib.rt:259:9
-check-leaf-add-i : (t : ℕ) → check-leaf-lts.Need-add-i (
-  leaf-fields-reads.Asked,
-  leaf-fields-reads.Learnt,
-  child-of-reads.Asked,
-  child-of-reads.Learnt,
-  check-key-below t,
-  check-key.Post,
-) (check-leaf-at t) check-leaf.Post check-leaf-Inv-loop check-leaf-μ-loop
-check-leaf-add-i t c = search needs
+  f-child : leaf-lts.Need-child-of-requires F leaf-asks leaf.Post Inv-leaf μ-leaf-loop
+  f-child c κs = (omega arith, c .before .before .loop .inv .1)
 
--- src/lib.rt:248:5
-check-leaf-loop-less : (t : ℕ) → check-leaf-lts.Need-loop-less (
-  leaf-fields-reads.Asked,
-  leaf-fields-reads.Learnt,
-  child-of-reads.Asked,
-  child-of-reads.Learnt,
-  check-key-below t,
-  check-key.Post,
-) (check-leaf-at t) check-leaf.Post check-leaf-Inv-loop check-leaf-μ-loop
-check-leaf-loop-less t c = search needs
+  f-key : leaf-lts.Need-check-key-requires F leaf-asks leaf.Post Inv-leaf μ-leaf-loop
+  f-key c κs = (omega arith, (c .before .before .before .before .before .before .before .pre .1 .0, c .before .before .before .loop .inv .2))
 
--- src/lib.rt:248:5
-check-leaf-loop-again : (t : ℕ) → check-leaf-lts.Need-loop-again (
-  leaf-fields-reads.Asked,
-  leaf-fields-reads.Learnt,
-  child-of-reads.Asked,
-  child-of-reads.Learnt,
-  check-key-below t,
-  check-key.Post,
-) (check-leaf-at t) check-leaf.Post check-leaf-Inv-loop check-leaf-μ-loop
-check-leaf-loop-again t c = search needs
+  f-refused : leaf-lts.Need-enum-known-w F leaf-asks leaf.Post Inv-leaf μ-leaf-loop
+  f-refused c = search needs
 
--- src/lib.rt:238:1
-check-leaf-returns-2 : (t : ℕ) → check-leaf-lts.Need-returns-2 (
-  leaf-fields-reads.Asked,
-  leaf-fields-reads.Learnt,
-  child-of-reads.Asked,
-  child-of-reads.Learnt,
-  check-key-below t,
-  check-key.Post,
-) (check-leaf-at t) check-leaf.Post check-leaf-Inv-loop check-leaf-μ-loop
-check-leaf-returns-2 t c = search needs
+  f-returns : leaf-lts.Need-returns F leaf-asks leaf.Post Inv-leaf μ-leaf-loop
+  f-returns c =
+      let a = c .before .before .before .before .before .before .before .before .before .before .before .args in
+      let o = c .before .before .before .before .before .before .before .loop in
+      let n = elements-length (now (a .bins)) (c .before .before .before .before .before .before .before .before .leaf-fields .result) in
+      rw (as-leaf _ _ _ (c .before .before .before .before .before .before .before .before .before .before .before .pre .1 .1 .0) (c .before .before .before .before .before .before .before .before .leaf-fields .ensures))
+      (sym (leaf-stop _ _ _ _ _ _ _ (elementsOf (now (a .bins)) (c .before .before .before .before .before .before .before .before .leaf-fields .result)) (o .i) _ _ (o .inv .3) _ (omega arith)
+      (element-at _ _ (o .i) (c .before .before .before .before .before .if1 .taken) (c .before .before .before .before .child-of .ensures)) (sym (c .before .before .before .check-key .ensures) ∙ c .before .w .given .1)))
 
-abbrev check-list-Inv-loop : check-list-lts.InvT-loop
-check-list-Inv-loop bins map hive key levels ls t₀ l₀ j₀ t l j = search needs
+  f-counted : leaf-lts.Need-enum-known-w-2 F leaf-asks leaf.Post Inv-leaf μ-leaf-loop
+  f-counted c = search needs
 
-abbrev check-list-μ-loop : check-list-lts.MeasureT-loop
-check-list-μ-loop bins map hive key levels ls t₀ l₀ j₀ t l j = search needs
+  f-add : leaf-lts.Need-add-i F leaf-asks leaf.Post Inv-leaf μ-leaf-loop
+  f-add c = omega arith
 
--- src/lib.rt:215:9
-check-list-returns : (t : ℕ) → check-list-lts.Need-returns (
-  leaves-fields-reads.Asked,
-  leaves-fields-reads.Learnt,
-  leaf-offset-reads.Asked,
-  leaf-offset-reads.Learnt,
-  check-leaf-below t,
-  check-leaf.Post,
-  last-of-reads.Asked,
-  last-of-reads.Learnt,
-) (check-list-at t) check-list.Post check-list-Inv-loop check-list-μ-loop
-check-list-returns t c = search needs
+  f-less : leaf-lts.Need-loop-less F leaf-asks leaf.Post Inv-leaf μ-leaf-loop
+  f-less c = omega arith
 
--- src/lib.rt:217:9
-check-list-leaves-fields-requires : (t : ℕ) → check-list-lts.Need-leaves-fields-requires (
-  leaves-fields-reads.Asked,
-  leaves-fields-reads.Learnt,
-  leaf-offset-reads.Asked,
-  leaf-offset-reads.Learnt,
-  check-leaf-below t,
-  check-leaf.Post,
-  last-of-reads.Asked,
-  last-of-reads.Learnt,
-) (check-list-at t) check-list.Post check-list-Inv-loop check-list-μ-loop
-check-list-leaves-fields-requires t c κs = search needs
+  f-again : leaf-lts.Need-loop-again F leaf-asks leaf.Post Inv-leaf μ-leaf-loop
+  f-again c =
+      let a = c .before .before .before .before .before .before .before .before .before .before .before .before .args in
+      let o = c .before .before .before .before .before .before .before .before .loop in
+      let n = elements-length (now (a .bins)) (c .before .before .before .before .before .before .before .before .before .leaf-fields .result) in
+      let w = sym (c .before .before .before .before .check-key .ensures) ∙ c .before .before .w2 .given .1 in (
+        omega arith,
+        o .inv .1,
+        key-fits _ _ _ _ (a .key) _ _ _ w,
+        leaf-on _ _ _ _ _ _ _ (elementsOf (now (a .bins)) (c .before .before .before .before .before .before .before .before .before .leaf-fields .result)) (o .i) _ _ (o .inv .3) _ (omega arith) (element-at _ _ (o .i) (c .before .before .before .before .before .before .if1 .taken) (c .before .before .before .before .before .child-of .ensures)) w,
+      )
 
--- src/lib.rt:221:5
-check-list-loop-holds : (t : ℕ) → check-list-lts.Need-loop-holds (
-  leaves-fields-reads.Asked,
-  leaves-fields-reads.Learnt,
-  leaf-offset-reads.Asked,
-  leaf-offset-reads.Learnt,
-  check-leaf-below t,
-  check-leaf.Post,
-  last-of-reads.Asked,
-  last-of-reads.Learnt,
-) (check-list-at t) check-list.Post check-list-Inv-loop check-list-μ-loop
-check-list-loop-holds t c = search needs
+  f-returns-2 : leaf-lts.Need-returns-2 F leaf-asks leaf.Post Inv-leaf μ-leaf-loop
+  f-returns-2 c =
+      let a = c .before .before .before .before .before .before .args in
+      let o = c .before .before .loop in
+      let n = elements-length (now (a .bins)) (c .before .before .before .leaf-fields .result) in
+      rw (as-leaf _ _ _ (c .before .before .before .before .before .before .pre .1 .1 .0) (c .before .before .before .leaf-fields .ensures))
+      (sym (leaf-end _ _ _ _ _ _ _ (elementsOf (now (a .bins)) (c .before .before .before .leaf-fields .result)) (o .i) _ _ (o .inv .3) (omega arith)))
 
--- src/lib.rt:222:13
-check-list-leaf-offset-requires : (t : ℕ) → check-list-lts.Need-leaf-offset-requires (
-  leaves-fields-reads.Asked,
-  leaves-fields-reads.Learnt,
-  leaf-offset-reads.Asked,
-  leaf-offset-reads.Learnt,
-  check-leaf-below t,
-  check-leaf.Post,
-  last-of-reads.Asked,
-  last-of-reads.Learnt,
-) (check-list-at t) check-list.Post check-list-Inv-loop check-list-μ-loop
-check-list-leaf-offset-requires t c κs = search needs
+  -- check_list
+  l-returns : list-lts.Need-returns L list-asks list.Post Inv-list μ-list-loop
+  l-returns c =
+      let a = c .before .before .before .before .args in
+      rw (no-children (now (a .bins)) (a .k) (c .if1 .taken)) (sym (end-nil _ _ _ _ _ _ _))
 
--- src/lib.rt:223:13
-check-list-check-leaf-requires : (t : ℕ) → check-list-lts.Need-check-leaf-requires (
-  leaves-fields-reads.Asked,
-  leaves-fields-reads.Learnt,
-  leaf-offset-reads.Asked,
-  leaf-offset-reads.Learnt,
-  check-leaf-below t,
-  check-leaf.Post,
-  last-of-reads.Asked,
-  last-of-reads.Learnt,
-) (check-list-at t) check-list.Post check-list-Inv-loop check-list-μ-loop
-check-list-check-leaf-requires t c κs = search needs
+  l-fields : list-lts.Need-leaves-fields-requires L list-asks list.Post Inv-list μ-list-loop
+  l-fields c κs = head-room _ _ _ (c .before .before .before .before .pre .1 .1) (c .if1 .left)
 
--- src/lib.rt:225:27
-check-list-enum-known-w : (t : ℕ) → check-list-lts.Need-enum-known-w (
-  leaves-fields-reads.Asked,
-  leaves-fields-reads.Learnt,
-  leaf-offset-reads.Asked,
-  leaf-offset-reads.Learnt,
-  check-leaf-below t,
-  check-leaf.Post,
-  last-of-reads.Asked,
-  last-of-reads.Learnt,
-) (check-list-at t) check-list.Post check-list-Inv-loop check-list-μ-loop
-check-list-enum-known-w t c = search needs
+  l-holds : list-lts.Need-loop-holds L list-asks list.Post Inv-list μ-list-loop
+  l-holds c =
+      let p = c .before .before .before .before .before .pre .1 .1 in
+      let h = head-sound _ _ _ p (c .before .if1 .left) in (
+        omega arith,
+        rw (c .leaves-fields .ensures) (leaves-lie Map _ _ _ h),
+        each-sound _ _ _ p (c .before .if1 .left) (c .leaves-fields .ensures),
+        tt,
+        refl,
+      )
 
--- src/lib.rt:225:33
-check-list-returns-2 : (t : ℕ) → check-list-lts.Need-returns-2 (
-  leaves-fields-reads.Asked,
-  leaves-fields-reads.Learnt,
-  leaf-offset-reads.Asked,
-  leaf-offset-reads.Learnt,
-  check-leaf-below t,
-  check-leaf.Post,
-  last-of-reads.Asked,
-  last-of-reads.Learnt,
-) (check-list-at t) check-list.Post check-list-Inv-loop check-list-μ-loop
-check-list-returns-2 t c = search needs
+  l-offset : list-lts.Need-leaf-offset-requires L list-asks list.Post Inv-list μ-list-loop
+  l-offset c κs = (omega arith, c .before .before .loop .inv .1)
 
--- src/lib.rt:226:27
-check-list-enum-known-w-2 : (t : ℕ) → check-list-lts.Need-enum-known-w-2 (
-  leaves-fields-reads.Asked,
-  leaves-fields-reads.Learnt,
-  leaf-offset-reads.Asked,
-  leaf-offset-reads.Learnt,
-  check-leaf-below t,
-  check-leaf.Post,
-  last-of-reads.Asked,
-  last-of-reads.Learnt,
-) (check-list-at t) check-list.Post check-list-Inv-loop check-list-μ-loop
-check-list-enum-known-w-2 t c = search needs
+  l-leaf : list-lts.Need-check-leaf-requires L list-asks list.Post Inv-list μ-list-loop
+  l-leaf c κs =
+      let o = c .before .before .before .loop in
+      (omega arith, (c .before .before .before .before .before .before .before .before .before .pre .1 .0, (o .inv .2 _ (leaf-in _ _ (o .inv .1) (o .j) (c .before .if2 .taken) (c .leaf-offset .ensures)), o .inv .3)))
 
--- src/lib.rt:230:13
-check-list-last-of-requires : (t : ℕ) → check-list-lts.Need-last-of-requires (
-  leaves-fields-reads.Asked,
-  leaves-fields-reads.Learnt,
-  leaf-offset-reads.Asked,
-  leaf-offset-reads.Learnt,
-  check-leaf-below t,
-  check-leaf.Post,
-  last-of-reads.Asked,
-  last-of-reads.Learnt,
-) (check-list-at t) check-list.Post check-list-Inv-loop check-list-μ-loop
-check-list-last-of-requires t c κs = search needs
+  l-refused : list-lts.Need-enum-known-w L list-asks list.Post Inv-list μ-list-loop
+  l-refused c = search needs
 
--- src/lib.rt:232:9
-check-list-add-j : (t : ℕ) → check-list-lts.Need-add-j (
-  leaves-fields-reads.Asked,
-  leaves-fields-reads.Learnt,
-  leaf-offset-reads.Asked,
-  leaf-offset-reads.Learnt,
-  check-leaf-below t,
-  check-leaf.Post,
-  last-of-reads.Asked,
-  last-of-reads.Learnt,
-) (check-list-at t) check-list.Post check-list-Inv-loop check-list-μ-loop
-check-list-add-j t c = search needs
+  l-returns-2 : list-lts.Need-returns-2 L list-asks list.Post Inv-list μ-list-loop
+  l-returns-2 c =
+      let a = c .before .before .before .before .before .before .before .before .before .before .before .before .before .args in
+      let o = c .before .before .before .before .before .before .before .loop in
+      let n = named-length (now (a .bins)) (c .before .before .before .before .before .before .before .before .leaves-fields .result) (o .inv .1) in
+      rw (as-list _ _ _ (c .before .before .before .before .before .before .before .before .before .before .before .before .before .pre .1 .1) (c .before .before .before .before .before .before .before .before .before .if1 .left) (c .before .before .before .before .before .before .before .before .leaves-fields .ensures))
+      (sym (leaves-stop _ _ _ _ _ _ _ (leavesNamed (now (a .bins)) (c .before .before .before .before .before .before .before .before .leaves-fields .result)) (o .j) _ _ (o .inv .4) _ (omega arith)
+      (leaf-there _ _ (o .inv .1) (o .j) (c .before .before .before .before .before .if2 .taken) (c .before .before .before .before .leaf-offset .ensures)) (sym (c .before .before .before .check-leaf .ensures) ∙ c .before .w .given .1)))
 
--- src/lib.rt:221:5
-check-list-loop-less : (t : ℕ) → check-list-lts.Need-loop-less (
-  leaves-fields-reads.Asked,
-  leaves-fields-reads.Learnt,
-  leaf-offset-reads.Asked,
-  leaf-offset-reads.Learnt,
-  check-leaf-below t,
-  check-leaf.Post,
-  last-of-reads.Asked,
-  last-of-reads.Learnt,
-) (check-list-at t) check-list.Post check-list-Inv-loop check-list-μ-loop
-check-list-loop-less t c = search needs
+  l-counted : list-lts.Need-enum-known-w-2 L list-asks list.Post Inv-list μ-list-loop
+  l-counted c = search needs
 
--- src/lib.rt:221:5
-check-list-loop-again : (t : ℕ) → check-list-lts.Need-loop-again (
-  leaves-fields-reads.Asked,
-  leaves-fields-reads.Learnt,
-  leaf-offset-reads.Asked,
-  leaf-offset-reads.Learnt,
-  check-leaf-below t,
-  check-leaf.Post,
-  last-of-reads.Asked,
-  last-of-reads.Learnt,
-) (check-list-at t) check-list.Post check-list-Inv-loop check-list-μ-loop
-check-list-loop-again t c = search needs
+  l-last : list-lts.Need-last-of-requires L list-asks list.Post Inv-list μ-list-loop
+  l-last c κs = let o = c .before .before .before .before .before .before .before .loop in o .inv .2 _ (leaf-in _ _ (o .inv .1) (o .j) (c .before .before .before .before .before .if2 .taken) (c .before .before .before .before .leaf-offset .ensures))
 
--- src/lib.rt:209:1
-check-list-returns-3 : (t : ℕ) → check-list-lts.Need-returns-3 (
-  leaves-fields-reads.Asked,
-  leaves-fields-reads.Learnt,
-  leaf-offset-reads.Asked,
-  leaf-offset-reads.Learnt,
-  check-leaf-below t,
-  check-leaf.Post,
-  last-of-reads.Asked,
-  last-of-reads.Learnt,
-) (check-list-at t) check-list.Post check-list-Inv-loop check-list-μ-loop
-check-list-returns-3 t c = search needs
+  l-add : list-lts.Need-add-j L list-asks list.Post Inv-list μ-list-loop
+  l-add c = omega arith
+
+  l-less : list-lts.Need-loop-less L list-asks list.Post Inv-list μ-list-loop
+  l-less c = omega arith
+
+  l-again : list-lts.Need-loop-again L list-asks list.Post Inv-list μ-list-loop
+  l-again c =
+      let a = c .before .before .before .before .before .before .before .before .before .before .before .before .before .before .args in
+      let o = c .before .before .before .before .before .before .before .before .loop in
+      let n = named-length (now (a .bins)) (c .before .before .before .before .before .before .before .before .before .leaves-fields .result) (o .inv .1) in
+      let s = o .inv .2 _ (leaf-in _ _ (o .inv .1) (o .j) (c .before .before .before .before .before .before .if2 .taken) (c .before .before .before .before .before .leaf-offset .ensures)) in
+      let w = sym (c .before .before .before .before .check-leaf .ensures) ∙ c .before .before .w2 .given .1 in (
+        omega arith,
+        o .inv .1,
+        o .inv .2,
+        rw (c .last-of .ensures) (leaf-fits _ _ _ _ (a .key) _ _ _ (leaf-some Map _ _ _ s) w),
+        leaves-on _ _ _ _ _ _ _ (leavesNamed (now (a .bins)) (c .before .before .before .before .before .before .before .before .before .leaves-fields .result)) (o .j) _ _ (o .inv .4) _ _ (omega arith) (leaf-there _ _ (o .inv .1) (o .j) (c .before .before .before .before .before .before .if2 .taken) (c .before .before .before .before .before .leaf-offset .ensures)) (leaf-some Map _ _ _ s) (c .last-of .ensures) w,
+      )
+
+  l-returns-3 : list-lts.Need-returns-3 L list-asks list.Post Inv-list μ-list-loop
+  l-returns-3 c =
+      let a = c .before .before .before .before .before .before .before .before .args in
+      let o = c .before .before .loop in
+      let n = named-length (now (a .bins)) (c .before .before .before .leaves-fields .result) (o .inv .1) in
+      rw (as-list _ _ _ (c .before .before .before .before .before .before .before .before .pre .1 .1) (c .before .before .before .before .if1 .left) (c .before .before .before .leaves-fields .ensures))
+      (sym (leaves-end _ _ _ _ _ _ _ (leavesNamed (now (a .bins)) (c .before .before .before .leaves-fields .result)) (o .j) _ _ (o .inv .4) (omega arith)))
 
 pub +check-key+check-leaf+check-list-spec : {M : Type 1} → statement M
 +check-key+check-leaf+check-list-spec =
-    close μ-check-key μ-check-leaf μ-check-list (λ t. check-key-lts.spec (
-      key-at-reads.Asked,
-      key-at-reads.Learnt,
-      refused-reads.Asked,
-      refused-reads.Learnt,
-      own-flaw-reads.Asked,
-      own-flaw-reads.Learnt,
-      tally-reads.Asked,
-      tally-reads.Learnt,
-      check-list-below t,
-      check-list.Post,
-    )
-    (check-key-at t)
-    check-key.Post
-    (check-key-key-at-requires t)
-    (check-key-enum-known-f t)
-    (check-key-refused-requires t)
-    (check-key-enum-known-k t)
-    (check-key-own-flaw-requires t)
-    (check-key-enum-known-f-2 t)
-    (check-key-refused-requires-2 t)
-    (check-key-enum-told t)
-    (check-key-tally-requires t)
-    (check-key-sub-check-list t)
-    (check-key-check-list-requires t)
-    (check-key-returns t)
-    (check-key-returns-2 t)
-    (check-key-returns-3 t))
-    (λ t. check-leaf-lts.spec (
-      leaf-fields-reads.Asked,
-      leaf-fields-reads.Learnt,
-      child-of-reads.Asked,
-      child-of-reads.Learnt,
-      check-key-below t,
-      check-key.Post,
-    )
-    (check-leaf-at t)
-    check-leaf.Post
-    check-leaf-Inv-loop
-    check-leaf-μ-loop
-    (check-leaf-leaf-fields-requires t)
-    (check-leaf-loop-holds t)
-    (check-leaf-child-of-requires t)
-    (check-leaf-check-key-requires t)
-    (check-leaf-enum-known-w t)
-    (check-leaf-returns t)
-    (check-leaf-enum-known-w-2 t)
-    (check-leaf-add-i t)
-    (check-leaf-loop-less t)
-    (check-leaf-loop-again t)
-    (check-leaf-returns-2 t))
-    λ t. check-list-lts.spec (
-      leaves-fields-reads.Asked,
-      leaves-fields-reads.Learnt,
-      leaf-offset-reads.Asked,
-      leaf-offset-reads.Learnt,
-      check-leaf-below t,
-      check-leaf.Post,
-      last-of-reads.Asked,
-      last-of-reads.Learnt,
-    )
-    (check-list-at t)
-    check-list.Post
-    check-list-Inv-loop
-    check-list-μ-loop
-    (check-list-returns t)
-    (check-list-leaves-fields-requires t)
-    (check-list-loop-holds t)
-    (check-list-leaf-offset-requires t)
-    (check-list-check-leaf-requires t)
-    (check-list-enum-known-w t)
-    (check-list-returns-2 t)
-    (check-list-enum-known-w-2 t)
-    (check-list-last-of-requires t)
-    (check-list-add-j t)
-    (check-list-loop-less t)
-    (check-list-loop-again t)
-    (check-list-returns-3 t)
+    close μ-key μ-leaf μ-list
+    (λ t. key-lts.spec (K t) (key-asks t) key.Post (k-key-at t) (k-flawed t) (k-refused t) (k-whole t) (k-own t) (k-flawed-2 t) (k-refused-2 t) (k-sound t) (k-tally t) (k-sub t) (k-list t) (k-returns t) (k-returns-2 t) (k-returns-3 t))
+    (λ t. leaf-lts.spec (F t) (leaf-asks t) leaf.Post Inv-leaf μ-leaf-loop (f-fields t) (f-holds t) (f-child t) (f-key t) (f-refused t) (f-returns t) (f-counted t) (f-add t) (f-less t) (f-again t) (f-returns-2 t))
+    (λ t. list-lts.spec (L t) (list-asks t) list.Post Inv-list μ-list-loop (l-returns t) (l-fields t) (l-holds t) (l-offset t) (l-leaf t) (l-refused t) (l-returns-2 t) (l-counted t) (l-last t) (l-add t) (l-less t) (l-again t) (l-returns-3 t))

@@ -1,42 +1,42 @@
+use Rattle.tree.proofs.Tests.{listing-stop, listing-other, listing-good}
+use Rattle.records.proofs.LawsAnswer.{totalled-total, totalled-flawed}
+use Rattle.records.specs.Lists.{childrenBelow, listsFault}
+use Rattle.cells.specs.declared.Rule.the-variants.{Map}
+use mathlib.Core.Path.{sym, _∙_}
+use lib.ListN.{length}
+use denote.Ref.{now}
 use borrow.Author.Needs.{needs}
 use Rattle.tree.proofs.listing_flaw.Statement.{statement}
 use Rattle.tree.proofs.listing_flaw.Tie as tie
-use Rattle.tree.proofs.listing_flaw.Reads as reads
-use Rattle.tree.proofs.listing_flaw.Lts as lts
-use Rattle.fields.proofs.flawed.Reads as flawed-reads
-use Rattle.records.proofs.total_of.Reads as total-of-reads
 
--- src/lib.rt:128:11
 total-of-requires : tie.Need-total-of-requires
 total-of-requires c κs = search needs
 
--- src/lib.rt:129:26
 enum-known-f : tie.Need-enum-known-f
 enum-known-f c = search needs
 
--- src/lib.rt:130:25
 enum-known-n : tie.Need-enum-known-n
 enum-known-n c = search needs
 
--- src/lib.rt:131:21
 cast-if1 : tie.Need-cast-if1
 cast-if1 c = search needs
 
--- src/lib.rt:132:17
 flawed-requires : tie.Need-flawed-requires
 flawed-requires c κs = search needs
 
--- src/lib.rt:132:17
 returns : tie.Need-returns
-returns c = search needs
+returns c = let a = c .before .before .before .before .before .before .before .before .before .args in
+    let t = totalled-total (listsFault Map (now (a .bins)) (now (a .map)) (a .k)) (length (childrenBelow (now (a .bins)) (a .k))) (sym (c .before .before .before .before .before .before .total-of .ensures) ∙ c .before .before .before .before .n .given .1) in
+    c .flawed .ensures ∙ sym (listing-other _ _ _ _ (t .0) (λ e. c .before .if1 .taken (t .1 ∙ e)))
 
--- src/lib.rt:125:1
 returns-2 : tie.Need-returns-2
-returns-2 c = search needs
+returns-2 c = let a = c .before .before .before .before .before .before .args in
+    sym (listing-stop _ _ _ _ (totalled-flawed (listsFault Map (now (a .bins)) (now (a .map)) (a .k)) (length (childrenBelow (now (a .bins)) (a .k))) (sym (c .before .before .before .total-of .ensures) ∙ c .before .f .given .1)))
 
--- src/lib.rt:125:1
 returns-3 : tie.Need-returns-3
-returns-3 c = search needs
+returns-3 c = let a = c .before .before .before .before .before .before .before .before .args in
+    let t = totalled-total (listsFault Map (now (a .bins)) (now (a .map)) (a .k)) (length (childrenBelow (now (a .bins)) (a .k))) (sym (c .before .before .before .before .before .total-of .ensures) ∙ c .before .before .before .n .given .1) in
+    sym (listing-good _ _ _ _ (t .0) (sym (t .1) ∙ c .if1 .left))
 
 pub listing-flaw-spec : {M : Type 1} → statement M
 listing-flaw-spec =

@@ -1,51 +1,38 @@
+use Rattle.tree.proofs.Tests.{own-place, own-hash, own-rest}
+use mathlib.Core.Path.{sym, _∙_}
 use borrow.Author.Needs.{needs}
 use Rattle.tree.proofs.own_flaw.Statement.{statement}
 use Rattle.tree.proofs.own_flaw.Tie as tie
-use Rattle.tree.proofs.own_flaw.Reads as reads
-use Rattle.tree.proofs.own_flaw.Lts as lts
-use Rattle.tree.proofs.hash_flaw.Reads as hash-flaw-reads
-use Rattle.tree.proofs.place_flaw.Reads as place-flaw-reads
-use Rattle.tree.proofs.rest_flaw.Reads as rest-flaw-reads
 
--- src/lib.rt:160:11
 place-flaw-requires : tie.Need-place-flaw-requires
 place-flaw-requires c κs = search needs
 
--- src/lib.rt:161:25
 enum-known-f : tie.Need-enum-known-f
 enum-known-f c = search needs
 
--- src/lib.rt:162:33
 enum-told : tie.Need-enum-told
 enum-told c = search needs
 
--- src/lib.rt:162:33
 hash-flaw-requires : tie.Need-hash-flaw-requires
 hash-flaw-requires c κs = search needs
 
--- src/lib.rt:163:29
 enum-known-f-2 : tie.Need-enum-known-f-2
 enum-known-f-2 c = search needs
 
--- src/lib.rt:164:31
 enum-told-2 : tie.Need-enum-told-2
 enum-told-2 c = search needs
 
--- src/lib.rt:164:31
 rest-flaw-requires : tie.Need-rest-flaw-requires
 rest-flaw-requires c κs = search needs
 
--- src/lib.rt:154:1
 returns : tie.Need-returns
-returns c = search needs
+returns c = sym (own-place _ _ _ _ _ _ _ (sym (c .before .before .before .place-flaw .ensures) ∙ c .before .f .given .1))
 
--- src/lib.rt:154:1
 returns-2 : tie.Need-returns-2
-returns-2 c = search needs
+returns-2 c = sym (own-hash _ _ _ _ _ _ _ (sym (c .before .before .before .before .before .before .place-flaw .ensures) ∙ c .before .before .before .before .enum-told .given .1) (sym (c .before .before .before .hash-flaw .ensures) ∙ c .before .f2 .given .1))
 
--- src/lib.rt:154:1
 returns-3 : tie.Need-returns-3
-returns-3 c = search needs
+returns-3 c = c .rest-flaw .ensures ∙ sym (own-rest _ _ _ _ _ _ _ (sym (c .before .before .before .before .before .before .place-flaw .ensures) ∙ c .before .before .before .before .enum-told .given .1) (sym (c .before .before .before .hash-flaw .ensures) ∙ c .before .enum-told2 .given .1))
 
 pub own-flaw-spec : {M : Type 1} → statement M
 own-flaw-spec =

@@ -1,29 +1,23 @@
+use Rattle.tree.proofs.Tests.{parent-other, parent-root, parent-good}
+use mathlib.Core.Path.{sym, _∙_}
 use borrow.Author.Needs.{needs}
 use Rattle.tree.proofs.parent_flaw.Statement.{statement}
 use Rattle.tree.proofs.parent_flaw.Tie as tie
-use Rattle.tree.proofs.parent_flaw.Reads as reads
-use Rattle.tree.proofs.parent_flaw.Lts as lts
-use Rattle.fields.proofs.flawed.Reads as flawed-reads
 
--- src/lib.rt:69:9
 flawed-requires : tie.Need-flawed-requires
 flawed-requires c κs = search needs
 
--- src/lib.rt:69:9
 returns : tie.Need-returns
-returns c = search needs
+returns c = c .flawed .ensures ∙ sym (parent-other _ _ _ _ (c .before .if1 .taken))
 
--- src/lib.rt:72:9
 flawed-requires-2 : tie.Need-flawed-requires-2
 flawed-requires-2 c κs = search needs
 
--- src/lib.rt:72:9
 returns-2 : tie.Need-returns-2
-returns-2 c = search needs
+returns-2 c = c .flawed2 .ensures ∙ sym (parent-root _ _ _ _ (c .before .before .before .before .if1 .left) (c .before .if2 .taken))
 
--- src/lib.rt:65:1
 returns-3 : tie.Need-returns-3
-returns-3 c = search needs
+returns-3 c = sym (parent-good _ _ _ _ (c .before .before .before .if1 .left) (c .if2 .left))
 
 pub parent-flaw-spec : {M : Type 1} → statement M
 parent-flaw-spec =

@@ -1,58 +1,44 @@
+use Rattle.tree.proofs.Tests.{place-start, place-first, place-stop, place-on, sibling-fits}
+use mathlib.Core.Path.{sym, _∙_}
 use borrow.Author.Needs.{needs}
 use Rattle.tree.proofs.place_flaw.Statement.{statement}
 use Rattle.tree.proofs.place_flaw.Tie as tie
-use Rattle.tree.proofs.place_flaw.Reads as reads
-use Rattle.tree.proofs.place_flaw.Lts as lts
-use Rattle.tree.proofs.order_flaw.Reads as order-flaw-reads
-use Rattle.tree.proofs.parent_flaw.Reads as parent-flaw-reads
 
--- src/lib.rt:100:26
 enum-told : tie.Need-enum-told
 enum-told c = search needs
 
--- src/lib.rt:101:23
 enum-known-l : tie.Need-enum-known-l
 enum-known-l c = search needs
 
--- src/lib.rt:101:29
 parent-flaw-requires : tie.Need-parent-flaw-requires
 parent-flaw-requires c κs = search needs
 
--- src/lib.rt:102:23
 enum-known-l-2 : tie.Need-enum-known-l-2
 enum-known-l-2 c = search needs
 
--- src/lib.rt:102:38
 parent-flaw-requires-2 : tie.Need-parent-flaw-requires-2
 parent-flaw-requires-2 c κs = search needs
 
--- src/lib.rt:103:29
 enum-known-f : tie.Need-enum-known-f
 enum-known-f c = search needs
 
--- src/lib.rt:104:31
 enum-told-2 : tie.Need-enum-told-2
 enum-told-2 c = search needs
 
--- src/lib.rt:104:31
 order-flaw-requires : tie.Need-order-flaw-requires
-order-flaw-requires c κs = search needs
+order-flaw-requires c κs = (c .before .before .before .before .before .before .before .pre .0, sibling-fits _ _ (c .before .before .before .before .before .before .before .pre .1) (c .before .before .before .before .l2 .given .1))
 
--- src/lib.rt:94:1
 returns : tie.Need-returns
-returns c = search needs
+returns c = sym (place-start _ _ _ _ _ (c .enum-told .given .1))
 
--- src/lib.rt:94:1
 returns-2 : tie.Need-returns-2
-returns-2 c = search needs
+returns-2 c = c .parent-flaw .ensures ∙ sym (place-first _ _ _ _ _ (c .before .before .l .given .1))
 
--- src/lib.rt:94:1
 returns-3 : tie.Need-returns-3
-returns-3 c = search needs
+returns-3 c = sym (place-stop _ _ _ _ _ (c .before .before .before .before .before .l2 .given .1) (sym (c .before .before .before .parent-flaw2 .ensures) ∙ c .before .f .given .1))
 
--- src/lib.rt:94:1
 returns-4 : tie.Need-returns-4
-returns-4 c = search needs
+returns-4 c = c .order-flaw .ensures ∙ sym (place-on _ _ _ _ _ (c .before .before .before .before .before .l2 .given .1) (sym (c .before .before .before .parent-flaw2 .ensures) ∙ c .before .enum-told2 .given .1))
 
 pub place-flaw-spec : {M : Type 1} → statement M
 place-flaw-spec =

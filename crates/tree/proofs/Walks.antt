@@ -1,0 +1,211 @@
+-- What the walk's definitions come to, a law for each way that the code takes.
+use Prim.Native.Nat.{ℕ, zero, suc, _+_, _-_, _<_, _≤_}
+use native.Mathlib.Omega.{arith}
+use native.Mathlib.Numerals.{sub-one, add-one}
+use mathlib.Core.Path.{_≡_, refl, sym, ap, ap₂, _∙_, subst}
+use mathlib.Core.List.{List, [], _∷_, _++_, append-assoc, append-nil}
+use lib.ListN.{length, getD, drop}
+use lib.Seq.{drop-cons}
+use Rattle.fields.specs.declared.Offset.{Offset}
+use Rattle.fields.specs.declared.Flaw.{Flaw}
+use Rattle.fields.specs.declared.Refusal.{Refusal}
+use Rattle.fields.specs.declared.Verdict.the-variants.{Sound, Flawed}
+use Rattle.fields.specs.Faults.{nowhere, refusalOf}
+use Rattle.fields.proofs.Loops.{drop-all}
+use Rattle.cells.specs.declared.Rule.the-variants.{Map}
+use Rattle.cells.specs.Named.{dataAt}
+use Rattle.records.specs.declared.Child.{Child}
+use Rattle.records.specs.declared.Key.{Key}
+use Rattle.records.specs.Keys.{keyFault, keyOf}
+use Rattle.records.specs.Lists.{leafChildren, childrenIn, childrenBelow, children, listsFault}
+use Rattle.records.proofs.LawsKey.{key-room, name-room}
+use Rattle.tree.specs.declared.Count.{Count}
+use Rattle.tree.specs.declared.Hive.{Hive}
+use Rattle.tree.specs.declared.Listed.{Listed}
+use Rattle.tree.specs.declared.Listed.the-variants.{Start, First, After}
+use Rattle.tree.specs.declared.Walk.{Walk}
+use Rattle.tree.specs.declared.Walk.the-variants.{Counted, Refused}
+use Rattle.tree.specs.Tree.{Charge, Free, Of, _after_, chargeOf, ownFault, keyCharge, listCharge, treeCharge, joined, keysIn, tally, tallied, walked, keyAnswer, listAnswer}
+use Rattle.tree.specs.Steps.{Fits, ListedFits, noChild, lastOf}
+use Rattle.tree.proofs.Charges.{both-free, after-assoc, own-parts, level-zero, key-parts, key-free, Own}
+
+refused-of : (a : Charge) (t : Count) {f : Refusal} → walked a t ≡ Refused f → a ≡ Of f
+refused-of Free t e = absurd (let z : _≡_ {A = ℕ} 0 1 = cc in omega arith)
+refused-of (Of g) t e = cc
+
+counted-free : (a : Charge) (t : Count) {u : Count} → walked a t ≡ Counted u → (a ≡ Free) × (t ≡ u)
+counted-free Free t e = (refl, cc)
+counted-free (Of f) t e = absurd (let z : _≡_ {A = ℕ} 0 1 = cc in omega arith)
+
+tallied-append : (d : List ℕ) (t : Count) (ks js : List Offset) → tallied d t (ks ++ js) ≡ tallied d (tallied d t ks) js
+unfolding tallied
+tallied-append d t [] js = refl
+tallied-append d t (k ∷ ks) js = tallied-append d (tally t (keyOf d k)) ks js
+
+joined-append : (f : Offset → List Offset) (cs es : List Child) → joined f (cs ++ es) ≡ joined f cs ++ joined f es
+unfolding joined
+joined-append f [] es = refl
+joined-append f (c ∷ cs) es = ap (λ (l : List Offset). f (c .at) ++ l) (joined-append f cs es) ∙ sym (append-assoc (f (c .at)) (joined f cs) (joined f es))
+
+-- where the next key stands after some children
+lastListed : Offset → Listed → List Child → Listed
+lastListed key l [] = l
+lastListed key l (c ∷ cs) = lastListed key (After key (c .at)) cs
+
+last-at : (c e : Child) (cs : List Child) → getD (c ∷ e ∷ cs) (length (c ∷ e ∷ cs) - 1) noChild ≡ getD (e ∷ cs) (length (e ∷ cs) - 1) noChild
+last-at c e cs =
+    let p : length (c ∷ e ∷ cs) - 1 ≡ suc (length (e ∷ cs) - 1) = omega arith in
+    ap (λ (i : ℕ). getD (c ∷ e ∷ cs) i noChild) p
+
+last-listed : (key : Offset) (l : Listed) (cs : List Child) → 0 < length cs → lastListed key l cs ≡ After key (getD cs (length cs - 1) noChild .at)
+unfolding lastListed
+last-listed key l [] p = absurd (omega arith)
+last-listed key l (c ∷ []) p = refl
+last-listed key l (c ∷ e ∷ cs) p =
+    last-listed key (After key (c .at)) (e ∷ cs) (omega arith) ∙ ap (λ (x : Child). After key (x .at)) (sym (last-at c e cs))
+
+charge-append : (each : Child → Listed → Charge) (key : Offset) (l : Listed) (cs es : List Child)
+    → listCharge each key l (cs ++ es) ≡ listCharge each key l cs after listCharge each key (lastListed key l cs) es
+unfolding listCharge lastListed _after_
+charge-append each key l [] es = refl
+charge-append each key l (c ∷ cs) es =
+    ap (λ (x : Charge). each c l after x) (charge-append each key (After key (c .at)) cs es)
+    ∙ sym (after-assoc (each c l) (listCharge each key (After key (c .at)) cs) (listCharge each key (lastListed key (After key (c .at)) cs) es))
+
+module _ (d m : List ℕ) (hive : Hive) where
+  -- ---- a key
+
+  pub key-record : (n : ℕ) (c : Child) (l : Listed) (t : Count) {f : Flaw} {r : Refusal} → keyFault Map d m (c .at) ≡ Flawed f → r ≡ refusalOf f
+      → keyAnswer d m hive n c l t ≡ Refused r
+  unfolding keyAnswer treeCharge keyCharge _after_
+  key-record zero c l t e q = rw (e, q)
+  key-record (suc n) c l t e q = rw (e, q)
+
+  pub key-own : (n : ℕ) (c : Child) (l : Listed) (t : Count) (k : Key) {f : Flaw} {r : Refusal} → k ≡ keyOf d (c .at)
+      → keyFault Map d m (c .at) ≡ Sound → ownFault d m hive n k c l ≡ Flawed f → r ≡ refusalOf f → keyAnswer d m hive n c l t ≡ Refused r
+  unfolding keyAnswer treeCharge keyCharge _after_
+  key-own zero c l t k i e p q = let s = rw i at p in rw (e, s, q)
+  key-own (suc n) c l t k i e p q = let s = rw i at p in rw (e, s, q)
+
+  own-zero : (k : Key) (c : Child) (l : Listed) → ownFault d m hive 0 k c l ≡ Sound → ⊥
+  own-zero k c l e = level-zero d m hive c (own-parts d m hive 0 k c l e .level)
+
+  pub level-left : (n : ℕ) (k : Key) (c : Child) (l : Listed) → ownFault d m hive n k c l ≡ Sound → 1 ≤ n
+  level-left zero k c l e = absurd (own-zero k c l e)
+  level-left (suc n) k c l e = omega arith
+
+  key-on-suc : (n : ℕ) (c : Child) (l : Listed) (t : Count) → keyFault Map d m (c .at) ≡ Sound
+      → ownFault d m hive (suc n) (keyOf d (c .at)) c l ≡ Sound
+      → keyAnswer d m hive (suc n) c l t ≡ listAnswer d m hive n (c .at) (First (c .at)) (children d (c .at)) (tally t (keyOf d (c .at)))
+  unfolding keyAnswer listAnswer treeCharge keyCharge keysIn tallied _after_
+  key-on-suc n c l t e p = rw (e, p)
+
+  pub key-on : (n : ℕ) (c : Child) (l : Listed) (t u : Count) (k : Key) → k ≡ keyOf d (c .at) → keyFault Map d m (c .at) ≡ Sound
+      → ownFault d m hive n k c l ≡ Sound → u ≡ tally t k
+      → keyAnswer d m hive n c l t ≡ listAnswer d m hive (n - 1) (c .at) (First (c .at)) (childrenBelow d k) u
+  key-on zero c l t u k i e p q = absurd (own-zero k c l p)
+  key-on (suc n) c l t u k i e p q = rw (sub-one (suc n), q, i) (key-on-suc n c l t e (rw i at p))
+
+  -- ---- a list, key by key
+
+  module _ (n : ℕ) (key : Offset) where
+    stop-cons : (l : Listed) (c : Child) (cs : List Child) (t : Count) {f : Refusal} → keyAnswer d m hive n c l t ≡ Refused f
+        → listAnswer d m hive n key l (c ∷ cs) t ≡ Refused f
+    unfolding keyAnswer listAnswer listCharge _after_
+    stop-cons l c cs t e = rw (refused-of (treeCharge d m hive n c l) _ e)
+
+    on-cons : (l : Listed) (c : Child) (cs : List Child) (t : Count) {u : Count} → keyAnswer d m hive n c l t ≡ Counted u
+        → listAnswer d m hive n key l (c ∷ cs) t ≡ listAnswer d m hive n key (After key (c .at)) cs u
+    unfolding keyAnswer listAnswer listCharge joined _after_
+    on-cons l c cs t e =
+        let x = counted-free (treeCharge d m hive n c l) _ e in
+        rw (x .0, tallied-append d t (keysIn d n (c .at)) (joined (keysIn d n) cs), x .1)
+
+    pub end-nil : (l : Listed) (t : Count) → listAnswer d m hive n key l [] t ≡ Counted t
+    unfolding listAnswer listCharge joined tallied
+    end-nil l t = refl
+
+    -- one list after another
+    stop-append : (l : Listed) (cs es : List Child) (t : Count) {f : Refusal} → listAnswer d m hive n key l cs t ≡ Refused f
+        → listAnswer d m hive n key l (cs ++ es) t ≡ Refused f
+    unfolding listAnswer _after_
+    stop-append l cs es t e =
+        rw (charge-append (treeCharge d m hive n) key l cs es, refused-of (listCharge (treeCharge d m hive n) key l cs) _ e)
+
+    on-append : (l : Listed) (cs es : List Child) (t : Count) {u : Count} → listAnswer d m hive n key l cs t ≡ Counted u
+        → listAnswer d m hive n key l (cs ++ es) t ≡ listAnswer d m hive n key (lastListed key l cs) es u
+    unfolding listAnswer _after_
+    on-append l cs es t e =
+        let x = counted-free (listCharge (treeCharge d m hive n) key l cs) _ e in
+        rw (
+          charge-append (treeCharge d m hive n) key l cs es,
+          x .0,
+          joined-append (keysIn d n) cs es,
+          tallied-append d t (joined (keysIn d n) cs) (joined (keysIn d n) es),
+          x .1,
+        )
+
+    -- the loop over a leaf: at index i, after l and with the count t
+    module _ (l₀ : Listed) (t₀ : Count) (cs : List Child) (i : ℕ) (l : Listed) (t : Count)
+        (inv : listAnswer d m hive n key l₀ cs t₀ ≡ listAnswer d m hive n key l (drop i cs) t) where
+      pub leaf-stop : (c : Child) {f : Refusal} → i < length cs → c ≡ getD cs i noChild → keyAnswer d m hive n c l t ≡ Refused f
+          → listAnswer d m hive n key l₀ cs t₀ ≡ Refused f
+      leaf-stop c p q e = inv ∙ rw (drop-cons cs i noChild p, ← q) (stop-cons l c _ t e)
+
+      pub leaf-on : (c : Child) {u : Count} → i < length cs → c ≡ getD cs i noChild → keyAnswer d m hive n c l t ≡ Counted u
+          → listAnswer d m hive n key l₀ cs t₀ ≡ listAnswer d m hive n key (After key (c .at)) (drop (i + 1) cs) u
+      leaf-on c p q e = inv ∙ rw (drop-cons cs i noChild p, ← q, add-one i) (on-cons l c _ t e)
+
+      pub leaf-end : length cs ≤ i → listAnswer d m hive n key l₀ cs t₀ ≡ Counted t
+      leaf-end p = inv ∙ rw (drop-all cs i p) (end-nil l t)
+
+    -- the loop over the leaves
+    leaves-cons : (os : List Offset) (j : ℕ) (o : Offset) → j < length os → o ≡ getD os j nowhere
+        → childrenIn d (drop j os) ≡ leafChildren (dataAt d o) ++ childrenIn d (drop (j + 1) os)
+    unfolding childrenIn
+    leaves-cons os j o p q = rw (drop-cons os j nowhere p, ← q, add-one j)
+
+    module _ (l₀ : Listed) (t₀ : Count) (os : List Offset) (j : ℕ) (l : Listed) (t : Count)
+        (inv : listAnswer d m hive n key l₀ (childrenIn d os) t₀ ≡ listAnswer d m hive n key l (childrenIn d (drop j os)) t) where
+      pub leaves-stop : (o : Offset) {f : Refusal} → j < length os → o ≡ getD os j nowhere
+          → listAnswer d m hive n key l (leafChildren (dataAt d o)) t ≡ Refused f → listAnswer d m hive n key l₀ (childrenIn d os) t₀ ≡ Refused f
+      leaves-stop o p q e = inv ∙ rw (leaves-cons os j o p q) (stop-append l (leafChildren (dataAt d o)) (childrenIn d (drop (j + 1) os)) t e)
+
+      pub leaves-on : (o : Offset) {u : Count} (k : Offset) → j < length os → o ≡ getD os j nowhere → 0 < length (leafChildren (dataAt d o)) → k ≡ lastOf d o
+          → listAnswer d m hive n key l (leafChildren (dataAt d o)) t ≡ Counted u
+          → listAnswer d m hive n key l₀ (childrenIn d os) t₀ ≡ listAnswer d m hive n key (After key k) (childrenIn d (drop (j + 1) os)) u
+      unfolding lastOf
+      leaves-on o k p q some last e =
+          inv
+          ∙ rw (leaves-cons os j o p q, last, ← last-listed key l (leafChildren (dataAt d o)) some)
+          (on-append l (leafChildren (dataAt d o)) (childrenIn d (drop (j + 1) os)) t e)
+
+      pub leaves-end : length os ≤ j → listAnswer d m hive n key l₀ (childrenIn d os) t₀ ≡ Counted t
+      unfolding childrenIn
+      leaves-end p = inv ∙ rw (drop-all os j p) (end-nil l t)
+
+    -- ---- a key that was counted was tested
+
+    fits : (o : Offset) → keyFault Map d m o ≡ Sound → Fits d o
+    fits o e = record { room = key-room Map d m o e; name = name-room Map d m o e }
+
+    free-fits : (c : Child) (l : Listed) → treeCharge d m hive n c l ≡ Free → Fits d (c .at)
+    free-fits c l e = fits (c .at) (key-parts d m hive n c l (key-free d m hive n c l e) .0)
+
+    pub key-fits : (c : Child) (l : Listed) (t : Count) {u : Count} → keyAnswer d m hive n c l t ≡ Counted u → Fits d (c .at)
+    unfolding keyAnswer
+    key-fits c l t e = free-fits c l (counted-free (treeCharge d m hive n c l) _ e .0)
+
+    last-fits : (l : Listed) (cs : List Child) → 0 < length cs → listCharge (treeCharge d m hive n) key l cs ≡ Free → Fits d (getD cs (length cs - 1) noChild .at)
+    unfolding listCharge
+    last-fits l [] p e = absurd (omega arith)
+    last-fits l (c ∷ []) p e = free-fits c l (both-free _ _ e .0)
+    last-fits l (c ∷ f ∷ cs) p e =
+        subst (λ (x : Child). Fits d (x .at)) (sym (last-at c f cs))
+        (last-fits (After key (c .at)) (f ∷ cs) (omega arith) (both-free (treeCharge d m hive n c l) _ e .1))
+
+    pub leaf-fits : (l : Listed) (o : Offset) (t : Count) {u : Count} → 0 < length (leafChildren (dataAt d o))
+        → listAnswer d m hive n key l (leafChildren (dataAt d o)) t ≡ Counted u → Fits d (lastOf d o)
+    unfolding listAnswer lastOf
+    leaf-fits l o t p e =
+        last-fits l (leafChildren (dataAt d o)) p (counted-free (listCharge (treeCharge d m hive n) key l (leafChildren (dataAt d o))) _ e .0)
