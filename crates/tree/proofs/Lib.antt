@@ -7,3 +7,4 @@ pub mod Exactly
 pub mod Tests
 pub mod Walks
 pub mod Elements
+pub mod Roots

@@ -29,11 +29,11 @@ use Rattle.tree.specs.Tree.{Charge, Free, Of, _after_, chargeOf, ownFaul
 use Rattle.tree.specs.Steps.{Fits, ListedFits, noChild, lastOf}
 use Rattle.tree.proofs.Charges.{both-free, after-assoc, own-parts, level-zero, key-parts, key-free, Own}
 
-refused-of : (a : Charge) (t : Count) {f : Refusal} → walked a t ≡ Refused f → a ≡ Of f
+pub refused-of : (a : Charge) (t : Count) {f : Refusal} → walked a t ≡ Refused f → a ≡ Of f
 refused-of Free t e = absurd (let z : _≡_ {A = ℕ} 0 1 = cc in omega arith)
 refused-of (Of g) t e = cc
 
-counted-free : (a : Charge) (t : Count) {u : Count} → walked a t ≡ Counted u → (a ≡ Free) × (t ≡ u)
+pub counted-free : (a : Charge) (t : Count) {u : Count} → walked a t ≡ Counted u → (a ≡ Free) × (t ≡ u)
 counted-free Free t e = (refl, cc)
 counted-free (Of f) t e = absurd (let z : _≡_ {A = ℕ} 0 1 = cc in omega arith)
 

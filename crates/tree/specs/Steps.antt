@@ -9,7 +9,10 @@ use Rattle.fields.specs.declared.Verdict.{Verdict}
 use Rattle.fields.specs.declared.Verdict.the-variants.{Sound}
 use Rattle.fields.specs.Faults.{nowhere, _next_}
 use Rattle.cells.specs.declared.Rule.the-variants.{Map}
+use Rattle.base.specs.Block.{binsData, baseFault}
+use Rattle.cells.specs.declared.Tally.{Tally}
 use Rattle.cells.specs.Named.{dataAt}
+use Rattle.cells.specs.Tiled.{BinsTile, Mapped}
 use Rattle.records.specs.declared.Child.{Child}
 use Rattle.records.specs.declared.Key.{Key}
 use Rattle.records.specs.declared.Leaf.{Leaf}
@@ -18,7 +21,8 @@ use Rattle.records.specs.Places.{childNamed}
 use Rattle.records.specs.Lists.{leafFault, leafChildren, listsFault}
 use Rattle.tree.specs.declared.Listed.{Listed}
 use Rattle.tree.specs.declared.Listed.the-variants.{Start, First, After}
-use Rattle.tree.specs.Tree.{totalFault}
+use Rattle.tree.specs.declared.Checked.{Checked}
+use Rattle.tree.specs.Tree.{totalFault, treeCharge, levels, hiveOf, rootChild, reportOf, answer}
 
 -- a key's name lies in the bins data
 abbrev pub NameLies : List ℕ → Key → Type 0
@@ -54,3 +58,13 @@ elementsFrom d leaf i (suc n) = childNamed d leaf i ∷ elementsFrom d leaf (suc
 
 unfoldable pub elementsOf : List ℕ → Leaf → List Child
 elementsOf d leaf = elementsFrom d leaf 0 (leaf .count)
+
+-- a hive whose bins and cells were surveyed, with its map
+pub record Ready (h m : List ℕ) : Type 0 where
+  pub base : baseFault h ≡ Sound
+  pub tiles : BinsTile (binsData h) 0
+  pub mapped : Mapped (binsData h) m
+
+-- the walk from the root, and the report where there is no charge
+unfoldable pub walkAnswer : List ℕ → List ℕ → Tally → Checked
+walkAnswer h m t = answer (treeCharge (binsData h) m (hiveOf h) levels (rootChild (hiveOf h)) Start) (reportOf h t)

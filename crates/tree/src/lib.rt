@@ -1,6 +1,7 @@
 // The check: the tree walked from the root, and the report.
 use cells::Rule;
 use cells::Surveyed;
+use cells::Tally;
 use fields::Fault;
 use fields::Offset;
 use fields::Refusal;
@@ -21,7 +22,7 @@ ghost use Rattle.fields.specs.declared.Verdict.the-variants.{Sound};
 ghost use Rattle.records.specs.Keys.{keyOf};
 ghost use Rattle.records.specs.Lists.{leafChildren, leafFault, childrenBelow, listsFault};
 ghost use Rattle.tree.specs.Tree.{parentFault, orderFault, placeFault, hashFault, restFault, ownFault, tally as tallyOf, keyAnswer, listAnswer, checkAnswer};
-ghost use Rattle.tree.specs.Steps.{NameLies, Fits, ListedFits, listingFault, lastOf};
+ghost use Rattle.tree.specs.Steps.{NameLies, Fits, ListedFits, listingFault, lastOf, Ready, walkAnswer};
 
 // "The check reports bins, keys reached, values (one for each value list element of those keys), used bytes and free bytes"
 pub struct Report {
@@ -292,4 +293,50 @@ fn check_leaf(
         i += 1;
     }
     Walk::Counted(t)
+}
+
+// The tree from the root, on bins that were surveyed: "The root is level 0; level 512 is the last."
+fn walk_tree(hive: &[u8], map: &[u8], t: Tally) -> Checked
+    requires { ⌜ Ready (now hive) (now map) ⌝ }
+    ensures { λ r. ⌜ r ≡ walkAnswer (now (hive .entry)) (now (map .entry)) t ⌝ }
+{
+    let s = &hive[0..512];
+    let minor = fields::u32_at(s, 24);
+    let root = Offset(fields::u32_at(s, 36));
+    let end = 4096 + fields::u32_at(s, 40) as usize;
+    let start = Child {
+        at: root,
+        hashed: false,
+        hash: 0,
+    };
+    let none = Count { keys: 0, values: 0 };
+    match check_key(
+        &hive[4096..end],
+        map,
+        Hive { minor, root },
+        start,
+        Listed::Start,
+        513,
+        none,
+    ) {
+        Walk::Refused(f) => Checked::Refused(f),
+        Walk::Counted(n) => Checked::Accepted(Report {
+            bins: t.bins,
+            keys: n.keys,
+            values: n.values,
+            used: t.used,
+            free: t.free,
+        }),
+    }
+}
+
+// The check of a hive, with a work map of at least bins size / 64 bytes.
+pub fn check(hive: &[u8], map: &mut [u8]) -> Checked
+    ensures { λ r. ⌜ r ≡ checkAnswer (now (hive .entry)) (now (map .entry)) ⌝ }
+    ensures { λ _. ⌜ now (map .exit) ≡ mapLeft (now (hive .entry)) (now (map .entry)) ⌝ }
+{
+    match cells::survey(hive, map) {
+        Surveyed::Refused(f) => Checked::Refused(fields::refused(f)),
+        Surveyed::Tiled(t) => walk_tree(hive, map, t),
+    }
 }

@@ -1,0 +1,70 @@
+-- From the root: the walk's counts are the report's, and the check is the survey followed by the walk.
+use Prim.Native.Nat.{ℕ, _+_, _-_, _≤_}
+use native.Mathlib.Omega.{arith}
+use mathlib.Core.Path.{_≡_, refl, sym, ap, ap₂, _∙_}
+use mathlib.Core.Bool.{false}
+use mathlib.Core.List.{List}
+use lib.ListN.{length, take, drop, length-take, length-drop}
+use Rattle.fields.specs.declared.Flaw.{Flaw}
+use Rattle.fields.specs.declared.Refusal.{Refusal}
+use Rattle.fields.specs.Faults.{refusalOf}
+use Rattle.base.specs.Block.{sector, minorOf, rootOf, binsOf, binsLimit, binsData}
+use Rattle.base.proofs.Laws.{base-facts}
+use Rattle.cells.specs.declared.Tally.{Tally}
+use Rattle.cells.specs.declared.Surveyed.the-variants.{Tiled, Refused as Untiled}
+use Rattle.cells.specs.Survey.{surveyAnswer, mapLeft}
+use Rattle.cells.proofs.Fronts.{front-facts}
+use Rattle.cells.proofs.Mapped.{surveyed}
+use Rattle.tree.specs.declared.Checked.the-variants.{Accepted, Refused}
+use Rattle.tree.specs.declared.Count.{Count}
+use Rattle.tree.specs.declared.Listed.the-variants.{Start}
+use Rattle.tree.specs.declared.Report.{Report}
+use Rattle.tree.specs.declared.Walk.{Walk}
+use Rattle.tree.specs.declared.Walk.the-variants.{Counted, Refused as Stopped}
+use Rattle.tree.specs.Tree.{Charge, Free, Of, treeCharge, keysIn, tallied, walked, keyAnswer, answer, levels, hiveOf, rootChild, keysOf, valuesIn, reportOf, checkAnswer}
+use Rattle.tree.specs.Steps.{Ready, walkAnswer}
+use Rattle.tree.proofs.Accepted.{root-stands}
+use Rattle.tree.proofs.Counted.{counted}
+use Rattle.tree.proofs.Walks.{refused-of, counted-free}
+
+abbrev pub none : Count
+none = record { keys = 0; values = 0 }
+
+-- the walk's arguments, as they are read from the base block
+pub root-is : (h m : List ℕ) {minor root bins : ℕ} → minor ≡ minorOf (sector h) → root ≡ rootOf (sector h) → bins ≡ binsOf (sector h)
+    → keyAnswer (take (4096 + bins - 4096) (drop 4096 h)) m (record { minor = minor; root = record { 0 = root } }) levels
+    (record { at = record { 0 = root }; hashed = false; hash = 0 }) Start none
+    ≡ keyAnswer (binsData h) m (hiveOf h) levels (rootChild (hiveOf h)) Start none
+root-is h m {minor} {root} {bins} p q r = let e : 4096 + bins - 4096 ≡ bins = omega arith in rw (e, r, p, q)
+
+module _ (h m : List ℕ) (r : Ready h m) where
+  pub bins-small : length (binsData h) ≤ binsLimit
+  bins-small = let b = base-facts h (r .base) in simp (length-take, length-drop) (omega (arith, b .size .limit))
+
+  pub walk-refused : (t : Tally) {f : Refusal} → keyAnswer (binsData h) m (hiveOf h) levels (rootChild (hiveOf h)) Start none ≡ Stopped f → walkAnswer h m t ≡ Refused f
+  unfolding walkAnswer keyAnswer
+  walk-refused t e = rw (refused-of (treeCharge (binsData h) m (hiveOf h) levels (rootChild (hiveOf h)) Start) _ e)
+
+  pub walk-counted : (t : Tally) {n : Count} → keyAnswer (binsData h) m (hiveOf h) levels (rootChild (hiveOf h)) Start none ≡ Counted n
+      → walkAnswer h m t ≡ Accepted (record { bins = t .bins; keys = n .keys; values = n .values; used = t .used; free = t .free })
+  unfolding walkAnswer keyAnswer
+  walk-counted t {n} e =
+      let x = counted-free (treeCharge (binsData h) m (hiveOf h) levels (rootChild (hiveOf h)) Start) (tallied (binsData h) none (keysIn (binsData h) levels (hiveOf h .root))) e in
+      let s = root-stands (binsData h) m (hiveOf h) (r .tiles) (r .mapped) (x .0) in
+      let c = counted (binsData h) (hiveOf h) (r .tiles) bins-small levels s in
+      let q : _≡_ {A = Count} n (record { keys = length (keysOf h); values = valuesIn (binsData h) (keysOf h) }) = sym (x .1) ∙ c in
+      rw (x .0, q)
+
+module _ (h m : List ℕ) where
+  pub check-refused : {f : Flaw} {r : Refusal} → surveyAnswer h (length m) ≡ Untiled f → r ≡ refusalOf f → checkAnswer h m ≡ Refused r
+  unfolding checkAnswer
+  check-refused e q = rw (e, q)
+
+  pub check-walk : {t : Tally} → surveyAnswer h (length m) ≡ Tiled t → checkAnswer h m ≡ walkAnswer h (mapLeft h m) t
+  unfolding checkAnswer walkAnswer
+  check-walk e = rw e
+
+  pub check-ready : {t : Tally} → surveyAnswer h (length m) ≡ Tiled t → Ready h (mapLeft h m)
+  check-ready {t} e =
+      let s = surveyed h m t e in
+      record { base = front-facts h (length m) (s .0) .0; tiles = s .1 .tiles; mapped = s .1 .mapped }
