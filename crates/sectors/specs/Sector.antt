@@ -1,7 +1,7 @@
 -- Files in sectors of 512 bytes.
-use Prim.Native.Nat.{ℕ, _+_, _*_}
+use Prim.Native.Nat.{ℕ, _+_, _*_, _<_}
 use mathlib.Core.List.{List, _++_}
-use lib.ListN.{take, drop}
+use lib.ListN.{take, drop, getD}
 
 abbrev pub sectorAt : List ℕ → ℕ → List ℕ
 sectorAt f i = take 512 (drop i f)
@@ -16,3 +16,7 @@ pagePlace p = 4096 + 512 * p
 
 unfoldable pub page : List ℕ → ℕ → List ℕ
 page h p = sectorAt h (pagePlace p)
+
+-- a file is a list of bytes
+abbrev pub Bytes : List ℕ → Type 0
+Bytes f = (i : ℕ) → getD f i 0 < 256

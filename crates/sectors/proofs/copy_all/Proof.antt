@@ -15,11 +15,11 @@ same-length : tie.Need-same-length
 same-length c = search needs
 
 returns : tie.Need-returns
-returns c = 
-      let s = c .before .before .before .before .before .before in
-      let short : length (s .args .dst .now) ≤ length (s .args .src .now) = omega arith in
-      c .before .before .copy .ensures .1 ∙ ap₂ _++_ (take-length (s .args .src .now)) (drop-of-length-le (s .args .dst .now) short)
-      ∙ append-nil (s .args .src .now)
+returns c =
+    let s = c .before .before .before .before .before .before in
+    let short : length (s .args .dst .now) ≤ length (s .args .src .now) = omega arith in
+    c .before .before .copy .ensures .1 ∙ ap₂ _++_ (take-length (s .args .src .now)) (drop-of-length-le (s .args .dst .now) short)
+    ∙ append-nil (s .args .src .now)
 
 pub copy-all-spec : {M : Type 1} → statement M
 copy-all-spec = tie.close (tie.spec copy-requires same-length returns)

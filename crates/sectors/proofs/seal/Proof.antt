@@ -21,11 +21,11 @@ same-length c = search needs
 
 returns : tie.Need-returns
 unfolding closingSector
-returns c = 
-      let p2 = c .before .before in
-      let k = p2 .before .before in
-      let p1 = k .before .before .before .before in
-      p2 .put-u322 .ensures ∙ ap₂ (λ (l : List ℕ) (v : ℕ). put32 l 508 v) (p1 .put-u32 .ensures) (k .stored-checksum .ensures ∙ ap storedChecksum (p1 .put-u32 .ensures))
+returns c =
+    let p2 = c .before .before in
+    let k = p2 .before .before in
+    let p1 = k .before .before .before .before in
+    p2 .put-u322 .ensures ∙ ap₂ (λ (l : List ℕ) (v : ℕ). put32 l 508 v) (p1 .put-u32 .ensures) (k .stored-checksum .ensures ∙ ap storedChecksum (p1 .put-u32 .ensures))
 
 pub seal-spec : {M : Type 1} → statement M
 seal-spec =

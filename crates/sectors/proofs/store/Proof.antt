@@ -39,15 +39,15 @@ same-length : tie.Need-same-length
 same-length c = search needs
 
 returns : tie.Need-returns
-returns c = 
-      let s = c .before .before .before .before .before .before .before in
-      let h = s .args .hive .now in
-      let l = s .args .log .now in
-      let a = s .args .to .0 in
-      let b = s .args .from .0 in
-      let e : b + 512 - b ≡ 512 = omega arith in
-      ap₂ (λ (ys zs : List ℕ). take a h ++ (ys ++ zs)) (c .before .before .copy-all .ensures ∙ ap (λ (n : ℕ). take n (drop b l)) e)
-      (post-is a (a + 512) h (omega arith))
+returns c =
+    let s = c .before .before .before .before .before .before .before in
+    let h = s .args .hive .now in
+    let l = s .args .log .now in
+    let a = s .args .to .0 in
+    let b = s .args .from .0 in
+    let e : b + 512 - b ≡ 512 = omega arith in
+    ap₂ (λ (ys zs : List ℕ). take a h ++ (ys ++ zs)) (c .before .before .copy-all .ensures ∙ ap (λ (n : ℕ). take n (drop b l)) e)
+    (post-is a (a + 512) h (omega arith))
 
 pub store-spec : {M : Type 1} → statement M
 store-spec =
