@@ -1,3 +1,5 @@
 pub mod Ways
 pub mod ByStart
 pub mod Accepts
+pub mod Within
+pub mod Repair
