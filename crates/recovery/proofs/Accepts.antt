@@ -78,21 +78,22 @@ module _ (h l : List ℕ) where
       let b = begun h l n e in
       let p = passed h l (b .tests) in
       let f = head-facts l (head-of l (p .log)) in
-      let s = log-base (sector l) (f .base) in
-      (record {
-        hive-long = b .long;
-        unclean = b .unclean;
-        log-long = f .long;
-        log-type = log-type (sector l) (f .base);
-        log-usable = s .0;
-        log-settled = eqb-true _ _ (s .1);
-        map-fits = f .map-fits;
-        pages-fit = pages-fit l (p .log);
-        is-dirt = same-true (take 4 (drop 512 l)) dirt (f .is-dirt);
-        room = p .room;
-        stamps = stamped (p .stamps);
-      },
-      b .count)
+      let s = log-base (sector l) (f .base) in (
+        record {
+          hive-long = b .long;
+          unclean = b .unclean;
+          log-long = f .long;
+          log-type = log-type (sector l) (f .base);
+          log-usable = s .0;
+          log-settled = eqb-true _ _ (s .1);
+          map-fits = f .map-fits;
+          pages-fit = pages-fit l (p .log);
+          is-dirt = same-true (take 4 (drop 512 l)) dirt (f .is-dirt);
+          room = p .room;
+          stamps = stamped (p .stamps);
+        },
+        b .count,
+      )
 
   -- ---- and back
 

@@ -3,3 +3,4 @@ pub mod ByStart
 pub mod Accepts
 pub mod Within
 pub mod Repair
+pub mod Ended
