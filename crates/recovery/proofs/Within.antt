@@ -106,6 +106,14 @@ module _ (h l : List ℕ) (n : ℕ) (ok : startAnswer h l ≡ Pages n) where
     page-done p e =
         page-answer d l (Pages n) reached p ∙ ap (λ (b : Bool). cond b Done (Refused (refusalOf (flaw NotDirty nowhere)))) e
 
+    -- and only where the page is logged
+    pub done-logged : (p : ℕ) → pageAnswer d l p ≡ Done → isLogged l p ≡ true
+    done-logged p e = go (isLogged l p) (sym (page-answer d l (Pages n) reached p) ∙ e)
+      where
+        go : (b : Bool) → cond b Done (Refused (refusalOf (flaw NotDirty nowhere))) ≡ Done → b ≡ true
+        go true e = refl
+        go false e = absurd (let z : _≡_ {A = ℕ} 0 1 = cc in omega arith)
+
     pub page-stores : (p : ℕ) → isLogged l p ≡ true → pageHive d l p ≡ stored d (pagePlace p) (logged l p)
     page-stores p e =
         page-hive d l (Pages n) reached p
