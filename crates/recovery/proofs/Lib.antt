@@ -4,3 +4,4 @@ pub mod Accepts
 pub mod Within
 pub mod Repair
 pub mod Ended
+pub mod Figures
