@@ -1,15 +1,14 @@
 -- What the counts of set bits keep to, and what the next marked page is.
 use Prim.Native.Nat.{ℕ, zero, suc, _+_, _-_, _*_, _/_, _%_, _^_, _≤_, _<_, zero-le}
-use native.Mathlib.Nat.{zero-div, zero-mod, le-refl}
+use native.Mathlib.Nat.{zero-div, le-refl}
 use native.Mathlib.Decide.{le-ind, decLt, ℕ-discrete}
 use native.Mathlib.Omega.{arith}
 use mathlib.Core.Path.{_≡_, refl, sym, ap, _∙_}
 use mathlib.Core.Bool.{Bool, true, false, cond}
 use mathlib.Core.List.{List}
-use lib.ListN.{length, getD, List·getD-eq-default}
+use lib.ListN.{length, List·getD-eq-default}
 use lib.Dec.{eqb}
-use borrow.Author.Tests.{eqb-true, eq-eqb, ne-eqb}
-use Rattle.bitmap.specs.declared.Next.{Next}
+use borrow.Author.Tests.{eqb-true}
 use Rattle.bitmap.specs.declared.Next.the-variants.{At, Nothing}
 use Rattle.bitmap.specs.Bits.{bit, isMarked, bitsBefore, nextAmong, nextMarked}
 

@@ -1,23 +1,22 @@
 -- Demand 3, proved over every trace.
-use Prim.Native.Nat.{ℕ, _+_, _*_, _≤_, _<_}
+use Prim.Native.Nat.{ℕ}
 use native.Mathlib.Omega.{arith}
-use mathlib.Core.Path.{_≡_, refl, sym, ap, ap₂, subst, _∙_}
+use mathlib.Core.Path.{_≡_, sym, ap, ap₂, _∙_}
 use mathlib.Core.Logic.{_⊎_, inl, inr}
 use mathlib.Core.Bool.{Bool, true, false}
 use mathlib.Core.List.{List, [], _∷_, List·Memᴰ, List·Memᴰ·cases-cons, List·Memᴰ·not-nil}
 use lib.ListN.{length}
-use Rattle.base.specs.Block.{sector}
 use Rattle.base.proofs.Laws.{unclean-refused}
 use Rattle.sectors.specs.Sector.{sectorAt, stored, pagePlace, page, Bytes}
 use Rattle.sectors.proofs.Stored.{stored-again}
-use Rattle.old_log.specs.Layout.{pageCount, isLogged, logged}
+use Rattle.old_log.specs.Layout.{isLogged, logged}
 use Rattle.old_log.proofs.Facts.{logged-below, logged-length}
 use Rattle.recovery.specs.declared.Started.the-variants.{Pages}
 use Rattle.recovery.specs.declared.Started.the-variants as start
 use Rattle.recovery.specs.declared.Stepped.the-variants.{Clean, Done}
 use Rattle.recovery.specs.Calls.{startAnswer, pageAnswer, pageHive, closeAnswer, closeHive}
 use Rattle.recovery.specs.Finished.{finished, AllIn}
-use Rattle.recovery.proofs.Within.{Version, Within, within-self, good, within-store, unclean, reached, within-page, done-logged, page-is, close-all, all-close}
+use Rattle.recovery.proofs.Within.{Within, within-self, good, within-store, unclean, reached, within-page, page-done, done-logged, page-is, close-all, all-close}
 use Rattle.recovery.proofs.Repair.{finished-is, close-finishes}
 use Rattle.recovery.proofs.Ended.{end-lid, end-page, end-clean, clean-page, clean-close}
 use Rattle.crash.specs.Trace.{Sent, send, land, Open, Closed}
@@ -131,6 +130,16 @@ module _ (h l : List ℕ) (n : ℕ) (ok : startAnswer h l ≡ Pages n) (bytes : 
       let i = closed-keeps x in
       let j = i .1 s k in
       (i .0, i .1, ap (land s) (i .2) ∙ again-lands s (j .0) (j .1))
+
+  -- the closing call on the disk's own bytes tells whether every page store has landed
+  pub may-seal : {m : List ℕ} {q : List Sent} {d : List ℕ} → Open h l true m q d → closeAnswer d l ≡ Done → Closed h l m q (stored d 0 (sectorAt m 0))
+  may-seal {m = m} {d = d} o e =
+      let i = open-keeps o in
+      Closed.seals o (λ p k. close-all h l n ok d (i .2) e p k ∙ sym (ap (λ (x : List ℕ). page x p) (i .0) ∙ end-page h l n ok p k))
+
+  -- a page call in a run is done where the page is logged
+  pub may-store : {m : List ℕ} {q : List Sent} {d : List ℕ} → Open h l false m q d → (p : ℕ) → isLogged l p ≡ true → pageAnswer m l p ≡ Done
+  may-store {m = m} o p k = page-done h l n ok m (open-keeps o .0) p k
 
   -- Theorem 3, second half.
   pub landed : {m : List ℕ} {q : List Sent} {d : List ℕ} → Closed h l m q d → Landed h l d

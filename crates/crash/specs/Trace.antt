@@ -7,7 +7,7 @@
 -- when the power fails, what has not landed is lost, and the next run reads the disk into memory;
 -- the closing sector is sent only when every page store has landed, and only after a closing call that said "done";
 -- nobody else writes to the hive, and the log stays as it is.
-use Prim.Native.Nat.{ℕ, zero, suc, _+_}
+use Prim.Native.Nat.{ℕ, suc, _+_}
 use mathlib.Core.Path.{_≡_}
 use mathlib.Core.Bool.{Bool, true, false, cond}
 use mathlib.Core.List.{List, [], _∷_, List·Memᴰ}

@@ -1,25 +1,24 @@
 -- What the log's tests say once they are passed, and where its pages then lie.
-use Prim.Native.Nat.{ℕ, zero, suc, _+_, _-_, _*_, _/_, _%_, _^_, _≤_, _<_}
+use Prim.Native.Nat.{ℕ, _+_, _-_, _*_, _/_, _^_, _≤_, _<_}
 use native.Mathlib.Omega.{arith}
-use mathlib.Core.Path.{_≡_, refl, sym, ap, ap₂, _∙_}
-use mathlib.Core.Bool.{Bool, true, false, not, _&&_, _||_}
+use mathlib.Core.Path.{_≡_, refl, sym, ap, _∙_}
+use mathlib.Core.Bool.{Bool, true, _||_}
 use mathlib.Core.List.{List}
-use lib.Dec.{eqb, leb}
+use lib.Dec.{leb}
 use lib.ListN.{length, take, drop, length-take, length-drop}
-use borrow.Author.Tests.{leb-true, le-leb, eqb-true, eq-eqb, ne-eqb}
+use borrow.Author.Tests.{leb-true, ne-eqb}
 use Rattle.fields.specs.declared.Fault.the-variants.{LogBase, LogShort, NoDirt}
 use Rattle.fields.specs.declared.Verdict.the-variants.{Sound}
 use Rattle.fields.specs.Bytes.{standsAt}
-use Rattle.fields.specs.Faults.{flaw, nowhere, unless, _next_}
-use Rattle.fields.proofs.Firsts.{both, sound, held, holds}
-use Rattle.fields.proofs.Bools.{and-inv, and-both}
-use Rattle.base.specs.Block.{sector, typeOf, binsOf, usable, isSettled, binsLimit}
+use Rattle.fields.specs.Faults.{flaw, nowhere, unless}
+use Rattle.fields.proofs.Firsts.{both, held}
+use Rattle.fields.proofs.Bools.{and-inv}
+use Rattle.base.specs.Block.{sector, typeOf, usable, isSettled}
 use Rattle.base.proofs.Laws.{Sized, usable-sized}
-use Rattle.bitmap.specs.Bits.{isMarked, bitsBefore}
 use Rattle.bitmap.proofs.Laws.{before-le, before-later, marked-inside}
 use Rattle.sectors.specs.Sector.{pagePlace}
 use Rattle.sectors.proofs.Stored.{sector-length}
-use Rattle.old_log.specs.Layout.{logBins, pageCount, dirt, mapSize, bitmap, isLogged, loggedBefore, loggedCount, pagesAt, loggedPlace, logged}
+use Rattle.old_log.specs.Layout.{logBins, pageCount, dirt, mapSize, bitmap, isLogged, loggedCount, pagesAt, loggedPlace, logged}
 use Rattle.old_log.specs.Tests.{isLogType, isLogBase, pagesFit, headFault, logFault}
 
 -- a log whose first tests are passed: where its bitmap lies

@@ -1,21 +1,20 @@
 -- The log's tests, a law for each way out.
-use Prim.Native.Nat.{ℕ, zero, suc, _+_, _*_, _<_, _≤_}
+use Prim.Native.Nat.{ℕ, zero, suc, _+_, _<_, _≤_}
 use native.Mathlib.Omega.{arith}
-use mathlib.Core.Path.{_≡_, refl, sym, ap, _∙_}
-use mathlib.Core.Bool.{Bool, true, false, _&&_, _||_}
+use mathlib.Core.Path.{_≡_, refl, ap, _∙_}
+use mathlib.Core.Bool.{Bool, true, false, _&&_}
 use mathlib.Core.List.{List}
-use lib.Dec.{eqb, leb}
 use lib.ListN.{length}
-use borrow.Author.Tests.{lt-leb, le-leb, eq-eqb, ne-eqb}
+use borrow.Author.Tests.{lt-leb, le-leb, ne-eqb}
 use Rattle.fields.specs.declared.Flaw.{Flaw}
 use Rattle.fields.specs.declared.Fault.the-variants.{LogBase, LogShort, NoDirt}
 use Rattle.fields.specs.declared.Verdict.the-variants.{Sound, Flawed}
 use Rattle.fields.specs.Bytes.{standsAt}
-use Rattle.fields.specs.Faults.{flaw, nowhere, unless, _next_}
+use Rattle.fields.specs.Faults.{flaw, nowhere, unless}
 use Rattle.fields.proofs.Firsts.{on, stop, holds, fails}
 use Rattle.base.specs.Block.{sector, typeOf, usable, isSettled}
-use Rattle.old_log.specs.Layout.{dirt, mapSize, loggedCount}
-use Rattle.old_log.specs.Tests.{isLogType, isLogBase, pagesFit, headFault, logFault, counted}
+use Rattle.old_log.specs.Layout.{dirt, mapSize}
+use Rattle.old_log.specs.Tests.{isLogType, isLogBase, pagesFit, headFault, logFault}
 
 -- ---- its base block
 

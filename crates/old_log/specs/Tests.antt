@@ -1,6 +1,6 @@
 -- The tests of an old log: 21, 22 for the bitmap, 23, 22 for the pages; and the stamps, and whether the logged pages are in.
 use Prim.Native.Nat.{ℕ, zero, suc, _+_, _*_}
-use mathlib.Core.Bool.{Bool, true, false, not, cond, _&&_, _||_}
+use mathlib.Core.Bool.{Bool, true, not, cond, _&&_, _||_}
 use mathlib.Core.List.{List}
 use lib.Dec.{eqb, leb}
 use lib.ListN.{length}

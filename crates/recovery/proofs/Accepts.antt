@@ -1,23 +1,22 @@
 -- A log is accepted exactly when document 01 lists no fault for the two files.
-use Prim.Native.Nat.{ℕ, _+_, _*_, _≤_, _<_}
+use Prim.Native.Nat.{ℕ, _+_, _*_}
 use native.Mathlib.Omega.{arith}
 use native.Mathlib.Decide.{ℕ-discrete}
 use mathlib.Core.Path.{_≡_, refl, sym, ap, _∙_}
 use mathlib.Core.Logic.{_⊎_, inl, inr, _↔_}
-use mathlib.Core.Bool.{Bool, true, false, not, _&&_, _||_, false≢true}
+use mathlib.Core.Bool.{Bool, true, false, not, _||_, false≢true}
 use mathlib.Core.List.{List}
 use lib.Dec.{eqb, leb}
 use lib.ListN.{length, take, drop}
 use borrow.Author.Tests.{le-leb, eqb-true, eq-eqb}
 use Rattle.fields.specs.declared.Verdict.{Verdict}
 use Rattle.fields.specs.declared.Verdict.the-variants.{Sound}
-use Rattle.fields.specs.Number.{u32At}
 use Rattle.fields.specs.Bytes.{sameBytes, standsAt}
 use Rattle.fields.proofs.Firsts.{sound, holds}
 use Rattle.fields.proofs.Bools.{and-inv, and-both}
-use Rattle.base.specs.Block.{sector, typeOf, usable, isSettled, clean}
+use Rattle.base.specs.Block.{sector, typeOf, usable}
 use Rattle.sectors.specs.Sector.{page}
-use Rattle.old_log.specs.Layout.{logBins, dirt, mapSize, isLogged, loggedCount, pagesAt, logged}
+use Rattle.old_log.specs.Layout.{dirt, isLogged, loggedCount, pagesAt, logged}
 use Rattle.old_log.specs.Tests.{isLogType, isLogBase, pagesFit, headFault, logFault, stampOf, binStamp, zeroAgrees, stampsAgree}
 use Rattle.old_log.proofs.Facts.{head-of, head-facts, log-base, pages-fit}
 use Rattle.old_log.proofs.Hive.{by-base, by-bin}

@@ -1,6 +1,6 @@
 -- The calls by the start's answer.
 use Prim.Native.Nat.{ℕ}
-use mathlib.Core.Path.{_≡_, refl, sym, ap, _∙_}
+use mathlib.Core.Path.{_≡_, ap}
 use mathlib.Core.List.{List}
 use Rattle.base.specs.Block.{sector}
 use Rattle.sectors.specs.Sector.{stored, pagePlace}

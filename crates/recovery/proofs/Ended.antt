@@ -1,12 +1,12 @@
 -- The finished file: its closing sector is clean, its logged pages are in, and every later call leaves it alone.
-use Prim.Native.Nat.{ℕ, zero, suc, _+_, _*_, _≤_, _<_}
+use Prim.Native.Nat.{ℕ, zero, suc, _≤_, _<_}
 use native.Mathlib.Decide.{ℕ-discrete}
 use native.Mathlib.Nat.{not-suc-le-zero}
 use native.Mathlib.Omega.{arith}
-use mathlib.Core.Path.{_≡_, refl, sym, ap, subst, _∙_}
+use mathlib.Core.Path.{_≡_, sym, ap, _∙_}
 use mathlib.Core.Bool.{true}
 use mathlib.Core.List.{List, [], _∷_, List·Memᴰ, List·Memᴰ·head, List·Memᴰ·tail}
-use lib.ListN.{length, take, getD}
+use lib.ListN.{length, take}
 use lib.Seq.{length-take-le}
 use Rattle.base.specs.Block.{sector, typeOf, clean}
 use Rattle.sectors.specs.Sector.{sectorAt, stored, page, Bytes}
@@ -18,7 +18,7 @@ use Rattle.old_log.proofs.Facts.{head-of, head-facts, log-base, logged-below}
 use Rattle.recovery.specs.declared.Started.the-variants as start
 use Rattle.recovery.specs.declared.Stepped.the-variants as step
 use Rattle.recovery.specs.Calls.{startAnswer, pageAnswer, pageHive, closeAnswer, closeHive}
-use Rattle.recovery.specs.Finished.{finished, afterPages, Covers, AllIn}
+use Rattle.recovery.specs.Finished.{finished, afterPages, AllIn}
 use Rattle.recovery.proofs.Ways.{is-clean}
 use Rattle.recovery.proofs.ByStart.{page-answer, page-hive, close-answer, close-hive}
 use Rattle.recovery.proofs.Within.{Within, within-self, said, good}

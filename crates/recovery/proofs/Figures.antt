@@ -1,16 +1,14 @@
 -- Figures of document 01, proved by computation.
 use Prim.Native.Nat.{ℕ, _+_, _*_, _/_}
-use mathlib.Core.Path.{_≡_, refl, sym, ap, _∙_}
-use mathlib.Core.Bool.{Bool, true, false, cond, _&&_}
+use mathlib.Core.Path.{_≡_, refl, ap}
 use mathlib.Core.List.{List, [], _∷_, _++_}
-use lib.Dec.{eqb}
-use lib.ListN.{length, replicate, take}
+use lib.ListN.{length, replicate}
 use Rattle.fields.specs.Number.{u16At, u32At, u64At}
 use Rattle.fields.specs.Bytes.{sameBytes, standsAt}
 use Rattle.fields.specs.declared.Fault.the-variants.{LogShort}
 use Rattle.fields.specs.Faults.{flaw, nowhere, refusalOf, _next_}
-use Rattle.base.specs.Block.{sector, xors, storedChecksum, isSummed, isVersion, isBinsSize, usable, isSettled, clean}
-use Rattle.sectors.specs.Sector.{pagePlace, page}
+use Rattle.base.specs.Block.{xors, storedChecksum, isVersion, isBinsSize, usable, clean}
+use Rattle.sectors.specs.Sector.{page}
 use Rattle.bitmap.specs.Bits.{bitsBefore, nextAmong}
 use Rattle.old_log.specs.Layout.{logBins, bitmap, pagesAt, logged}
 use Rattle.old_log.specs.Tests.{isLogBase, headFault, logFault, stampsAgree}

@@ -6,19 +6,19 @@ use native.Mathlib.Omega.{arith}
 use mathlib.Core.Path.{_≡_, refl, sym, ap, subst, _∙_}
 use mathlib.Core.Logic.{_⊎_, inl, inr}
 use mathlib.Core.Bool.{Bool, true, false, cond, false≢true}
-use mathlib.Core.List.{List, [], _∷_, _++_, List·Memᴰ, List·Memᴰ·head, List·Memᴰ·tail, List·Memᴰ·cases-cons, List·Memᴰ·not-nil}
+use mathlib.Core.List.{List, [], _∷_, List·Memᴰ, List·Memᴰ·cases-cons, List·Memᴰ·not-nil}
 use lib.Dec.{ltb}
 use lib.ListN.{length, take, drop, getD, List·getD-append}
 use lib.Seq.{length-take-le, getD-take, getD-drop, ext-getD}
 use borrow.Author.Tests.{lt-ltb, le-ltb}
 use Rattle.base.specs.Block.{sector}
-use Rattle.sectors.specs.Sector.{stored, pagePlace, page}
+use Rattle.sectors.specs.Sector.{stored, page}
 use Rattle.sectors.specs.Closing.{closingSector}
 use Rattle.sectors.proofs.Stored.{stored-length, stored-drop}
 use Rattle.sectors.proofs.Pages.{page-byte}
 use Rattle.sectors.proofs.Closed.{closing-length}
 use Rattle.old_log.specs.Layout.{pageCount, isLogged, logged}
-use Rattle.old_log.proofs.Facts.{head-of, head-facts, logged-below}
+use Rattle.old_log.proofs.Facts.{head-of, head-facts}
 use Rattle.recovery.specs.declared.Started.the-variants.{Pages}
 use Rattle.recovery.specs.Calls.{startAnswer, pageHive, closeHive}
 use Rattle.recovery.specs.Finished.{finishedByte, listed, finished, afterPages, Covers, AllIn, Repaired}

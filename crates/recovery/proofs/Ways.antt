@@ -1,7 +1,7 @@
 -- The tests that every call makes first, a law for each way out, and what an accepted start says.
 use Prim.Native.Nat.{ℕ, _+_, _<_, _≤_}
 use native.Mathlib.Omega.{arith}
-use mathlib.Core.Path.{_≡_, refl, sym, ap, ap₂, _∙_}
+use mathlib.Core.Path.{_≡_, refl}
 use mathlib.Core.Bool.{Bool, true, false, cond}
 use mathlib.Core.List.{List}
 use lib.Dec.{leb, ltb}
@@ -11,13 +11,12 @@ use Rattle.fields.specs.declared.Flaw.{Flaw}
 use Rattle.fields.specs.declared.Fault.the-variants.{HiveShort, HiveCut, Stamps}
 use Rattle.fields.specs.declared.Verdict.{Verdict}
 use Rattle.fields.specs.declared.Verdict.the-variants.{Sound, Flawed}
-use Rattle.fields.specs.Faults.{flaw, nowhere, refusalOf, unless, _next_}
+use Rattle.fields.specs.Faults.{flaw, nowhere, refusalOf, unless}
 use Rattle.fields.proofs.Firsts.{on, stop, both, held, holds, fails}
 use Rattle.base.specs.Block.{sector, clean}
 use Rattle.old_log.specs.declared.Tested.the-variants as log
 use Rattle.old_log.specs.Layout.{logBins, loggedCount}
 use Rattle.old_log.specs.Tests.{logFault, stampsAgree, counted}
-use Rattle.recovery.specs.declared.Started.{Started}
 use Rattle.recovery.specs.declared.Started.the-variants.{Clean, Pages, Refused}
 use Rattle.recovery.specs.Calls.{hiveFault, testFault, started, startAnswer}
 

@@ -1,5 +1,5 @@
 -- The files that a repair can reach: the hive with some of the logged pages in. The tests answer for them as for the hive.
-use Prim.Native.Nat.{ℕ, _+_, _*_, _/_, _≤_, _<_}
+use Prim.Native.Nat.{ℕ, _+_, _*_, _≤_, _<_}
 use native.Mathlib.Decide.{ℕ-discrete}
 use native.Mathlib.Omega.{arith}
 use mathlib.Core.Path.{_≡_, refl, sym, ap, subst, _∙_}
@@ -27,10 +27,10 @@ use Rattle.old_log.proofs.Same.{below-in, in-below}
 use Rattle.recovery.specs.declared.Started.the-variants.{Pages}
 use Rattle.recovery.specs.declared.Stepped.{Stepped}
 use Rattle.recovery.specs.declared.Stepped.the-variants.{Done, Refused}
-use Rattle.recovery.specs.Calls.{hiveFault, testFault, started, startAnswer, changed, installed, pageAnswer, pageHive, closed, closeAnswer, closeHive}
+use Rattle.recovery.specs.Calls.{hiveFault, testFault, started, startAnswer, changed, pageAnswer, pageHive, closed, closeAnswer, closeHive}
 use Rattle.recovery.specs.Finished.{AllIn}
 use Rattle.recovery.proofs.Ways.{Passed, passed, Begun, begun, by-tests}
-use Rattle.recovery.proofs.ByStart.{page-answer, page-hive, close-answer, close-hive}
+use Rattle.recovery.proofs.ByStart.{page-answer, page-hive, close-answer}
 
 -- page p as the hive has it, or as it is logged
 abbrev pub Version : List ℕ → List ℕ → ℕ → List ℕ → Type 0

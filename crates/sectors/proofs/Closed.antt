@@ -3,16 +3,16 @@ use Prim.Native.Nat.{ℕ, zero, suc, _+_, _*_, _^_, _≤_, _<_}
 use native.Mathlib.Omega.{arith}
 use mathlib.Core.Path.{_≡_, refl, sym, ap, ap₂, _∙_}
 use mathlib.Core.Logic.{_⊎_, inl, inr}
-use mathlib.Core.Bool.{Bool, true, false, not, _&&_}
+use mathlib.Core.Bool.{true}
 use mathlib.Core.List.{List, [], _∷_}
 use lib.Bits.{bitXor, xor-lt}
 use lib.Dec.{eqb, leb, lit<}
-use lib.ListN.{length, take}
+use lib.ListN.{length}
 use borrow.Author.Tests.{eq-eqb}
 use Rattle.fields.specs.Number.{u32At}
 use Rattle.fields.specs.Bytes.{sameBytes, standsAt}
 use Rattle.fields.proofs.Bools.{and-inv, and-both}
-use Rattle.base.specs.Block.{isRegf, xors, storedChecksum, isSummed, minorOf, typeOf, isVersion, binsOf, isBinsSize, usable, isSettled, clean}
+use Rattle.base.specs.Block.{isRegf, xors, storedChecksum, isSummed, minorOf, typeOf, isVersion, isBinsSize, usable, isSettled, clean}
 use Rattle.sectors.specs.Sector.{Bytes}
 use Rattle.sectors.specs.Closing.{put32, asHive, closingSector}
 use Rattle.sectors.proofs.Words.{u32-lt, put-length, put-take, u32-other, u32-same, put-bytes}

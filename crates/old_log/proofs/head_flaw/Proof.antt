@@ -2,7 +2,7 @@ use Rattle.old_log.proofs.Ways.{short, bad-base, cut-map, by-dirt}
 use Rattle.fields.proofs.Firsts.{holds, fails}
 use borrow.Author.Tests.{not-true, not-false}
 use native.Mathlib.Omega.{arith}
-use mathlib.Core.Path.{_≡_, sym, ap, _∙_}
+use mathlib.Core.Path.{sym, _∙_}
 use borrow.Author.Needs.{needs}
 use Rattle.old_log.proofs.head_flaw.Statement.{statement}
 use Rattle.old_log.proofs.head_flaw.Tie as tie

@@ -1,15 +1,14 @@
 use Rattle.old_log.proofs.Hive.{not-logged, by-bytes}
 use Rattle.old_log.proofs.Facts.{head-of, head-facts, logged-below, logged-fits, logged-inside}
 use Rattle.old_log.specs.Layout.{isLogged, logged}
-use Rattle.sectors.specs.Sector.{pagePlace, page}
+use Rattle.sectors.specs.Sector.{page}
 use Rattle.fields.specs.Bytes.{sameBytes}
 use borrow.Author.Tests.{not-true, not-false}
 use lib.ListN.{length, take, drop}
 use native.Mathlib.Omega.{arith}
-use Prim.Native.Nat.{ℕ, _+_, _-_, _*_, _≤_}
-use mathlib.Core.List.{List}
+use Prim.Native.Nat.{ℕ, _+_, _-_, _≤_}
 use mathlib.Core.Bool.{true}
-use mathlib.Core.Path.{_≡_, sym, ap, ap₂, _∙_}
+use mathlib.Core.Path.{_≡_, sym, ap₂, _∙_}
 use borrow.Author.Needs.{needs}
 use Rattle.old_log.proofs.is_in.Statement.{statement}
 use Rattle.old_log.proofs.is_in.Tie as tie

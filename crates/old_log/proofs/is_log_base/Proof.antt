@@ -2,9 +2,8 @@ use Rattle.old_log.proofs.Ways.{zero-base, high-base, by-usable}
 use Rattle.base.specs.Block.{usable, isSettled}
 use borrow.Author.Tests.{not-true, not-false}
 use native.Mathlib.Omega.{arith}
-use Prim.Native.Nat.{ℕ}
 use mathlib.Core.Bool.{Bool, _&&_}
-use mathlib.Core.Path.{_≡_, sym, ap, _∙_}
+use mathlib.Core.Path.{sym, ap, _∙_}
 use borrow.Author.Needs.{needs}
 use Rattle.old_log.proofs.is_log_base.Statement.{statement}
 use Rattle.old_log.proofs.is_log_base.Tie as tie

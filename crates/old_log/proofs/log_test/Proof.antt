@@ -4,8 +4,7 @@ use Rattle.old_log.specs.Tests.{counted}
 use Rattle.old_log.specs.Layout.{loggedCount}
 use Rattle.fields.specs.declared.Verdict.{Verdict}
 use Rattle.fields.proofs.Firsts.{holds, fails}
-use Prim.Native.Nat.{ℕ}
-use mathlib.Core.Path.{_≡_, sym, ap, ap₂, _∙_}
+use mathlib.Core.Path.{sym, ap, _∙_}
 use borrow.Author.Needs.{needs}
 use Rattle.old_log.proofs.log_test.Statement.{statement}
 use Rattle.old_log.proofs.log_test.Tie as tie

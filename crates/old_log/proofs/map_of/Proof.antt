@@ -1,4 +1,3 @@
-use mathlib.Core.Path.{_≡_, ap, _∙_}
 use Rattle.old_log.proofs.Facts.{head-facts, map-part}
 use native.Mathlib.Omega.{arith}
 use borrow.Author.Needs.{needs}

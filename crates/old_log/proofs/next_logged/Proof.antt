@@ -5,7 +5,6 @@ use lib.ListN.{length}
 use native.Mathlib.Omega.{arith}
 use mathlib.Core.List.{List}
 use mathlib.Core.Path.{ap, _∙_}
-use borrow.Author.Needs.{needs}
 use Rattle.old_log.proofs.next_logged.Statement.{statement}
 use Rattle.old_log.proofs.next_logged.Tie as tie
 

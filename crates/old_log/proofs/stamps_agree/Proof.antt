@@ -4,12 +4,10 @@ use Rattle.old_log.specs.Tests.{stampOf, binStamp, zeroAgrees}
 use Rattle.sectors.specs.Sector.{page}
 use Rattle.base.specs.Block.{sector}
 use borrow.Author.Tests.{ne-eqb, eq-eqb}
-use lib.ListN.{length}
 use lib.Dec.{eqb}
 use native.Mathlib.Omega.{arith}
-use Prim.Native.Nat.{ℕ, _+_, _≤_}
 use mathlib.Core.Bool.{Bool, _&&_}
-use mathlib.Core.Path.{_≡_, sym, ap, ap₂, _∙_}
+use mathlib.Core.Path.{sym, ap, ap₂, _∙_}
 use borrow.Author.Needs.{needs}
 use Rattle.old_log.proofs.stamps_agree.Statement.{statement}
 use Rattle.old_log.proofs.stamps_agree.Tie as tie

@@ -1,13 +1,12 @@
 use Rattle.recovery.proofs.ByStart.{close-answer, close-hive}
 use Rattle.recovery.proofs.Ways.{begun}
-use Rattle.recovery.specs.Calls.{startAnswer, changed}
+use Rattle.recovery.specs.Calls.{changed}
 use Rattle.recovery.specs.declared.Stepped.{Stepped}
 use Rattle.recovery.specs.declared.Started.the-variants.{Clean, Pages, Refused}
 use Rattle.sectors.specs.Closing.{closingSector}
 use Rattle.sectors.specs.Sector.{stored}
 use Rattle.base.specs.Block.{sector}
-use mathlib.Core.List.{List}
-use mathlib.Core.Path.{_≡_, sym, ap, _∙_}
+use mathlib.Core.Path.{sym, ap, _∙_}
 use borrow.Author.Needs.{needs}
 use Rattle.recovery.proofs.close.Statement.{statement}
 use Rattle.recovery.proofs.close.Tie as tie

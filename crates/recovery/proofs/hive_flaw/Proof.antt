@@ -3,7 +3,7 @@ use Rattle.old_log.proofs.Facts.{head-of, head-facts}
 use Rattle.fields.proofs.Firsts.{holds, fails}
 use borrow.Author.Tests.{not-true, not-false}
 use native.Mathlib.Omega.{arith}
-use mathlib.Core.Path.{_≡_, sym, ap, _∙_}
+use mathlib.Core.Path.{sym, _∙_}
 use borrow.Author.Needs.{needs}
 use Rattle.recovery.proofs.hive_flaw.Statement.{statement}
 use Rattle.recovery.proofs.hive_flaw.Tie as tie

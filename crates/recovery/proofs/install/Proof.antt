@@ -1,15 +1,13 @@
 use Rattle.recovery.proofs.Ways.{passed}
 use Rattle.recovery.specs.declared.Stepped.the-variants.{Done, Refused}
 use Rattle.old_log.proofs.Facts.{head-of, head-facts, logged-below, logged-fits, logged-inside}
-use Rattle.old_log.specs.Layout.{isLogged, loggedPlace, logged}
-use Rattle.sectors.specs.Sector.{sectorAt, stored, pagePlace}
+use Rattle.old_log.specs.Layout.{isLogged, logged}
+use Rattle.sectors.specs.Sector.{sectorAt, stored}
 use Rattle.fields.specs.Faults.{flaw, nowhere, refusalOf}
 use Rattle.fields.specs.declared.Fault.the-variants.{NotDirty}
 use borrow.Author.Tests.{not-true, not-false}
-use lib.ListN.{length}
 use native.Mathlib.Omega.{arith}
-use Prim.Native.Nat.{ℕ, _+_, _*_, _<_, _≤_}
-use mathlib.Core.List.{List}
+use Prim.Native.Nat.{ℕ}
 use mathlib.Core.Bool.{Bool, true, cond}
 use mathlib.Core.Path.{_≡_, refl, sym, ap, ap₂, _∙_}
 use borrow.Author.Needs.{needs}

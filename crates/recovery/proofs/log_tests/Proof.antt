@@ -4,8 +4,7 @@ use Rattle.recovery.specs.declared.Started.the-variants.{Pages, Refused}
 use Rattle.old_log.specs.Tests.{logFault}
 use Rattle.old_log.specs.Layout.{loggedCount}
 use Rattle.fields.specs.declared.Verdict.{Verdict}
-use Prim.Native.Nat.{ℕ}
-use mathlib.Core.Path.{_≡_, sym, ap, _∙_}
+use mathlib.Core.Path.{sym, ap, _∙_}
 use borrow.Author.Needs.{needs}
 use Rattle.recovery.proofs.log_tests.Statement.{statement}
 use Rattle.recovery.proofs.log_tests.Tie as tie

@@ -1,9 +1,8 @@
 use Rattle.recovery.specs.Calls.{nextOf}
 use Rattle.recovery.specs.declared.NextPage.the-variants.{At}
 use Rattle.old_log.proofs.Facts.{head-of, head-facts, logged-below}
-use Rattle.old_log.specs.Layout.{bitmap, isLogged, nextLogged}
+use Rattle.old_log.specs.Layout.{bitmap, isLogged}
 use Rattle.bitmap.proofs.Laws.{next-least}
-use Rattle.bitmap.specs.declared.Next.{Next}
 use Rattle.fields.specs.declared.Place.{Place}
 use native.Mathlib.Omega.{arith}
 use Prim.Native.Nat.{ℕ}

@@ -4,7 +4,7 @@ use Rattle.recovery.specs.declared.NextPage.the-variants.{Refused}
 use Rattle.old_log.specs.Tests.{logFault}
 use Rattle.old_log.specs.Layout.{loggedCount, nextLogged}
 use Rattle.fields.specs.declared.Verdict.{Verdict}
-use mathlib.Core.Path.{_≡_, sym, ap, _∙_}
+use mathlib.Core.Path.{sym, ap, _∙_}
 use borrow.Author.Needs.{needs}
 use Rattle.recovery.proofs.next_page.Statement.{statement}
 use Rattle.recovery.proofs.next_page.Tie as tie

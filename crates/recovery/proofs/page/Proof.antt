@@ -1,12 +1,11 @@
 use Rattle.recovery.proofs.ByStart.{page-answer, page-hive}
 use Rattle.recovery.proofs.Ways.{begun}
-use Rattle.recovery.specs.Calls.{startAnswer, changed}
+use Rattle.recovery.specs.Calls.{changed}
 use Rattle.recovery.specs.declared.Stepped.{Stepped}
 use Rattle.recovery.specs.declared.Started.the-variants.{Clean, Pages, Refused}
 use Rattle.old_log.specs.Layout.{logged}
 use Rattle.sectors.specs.Sector.{stored, pagePlace}
-use mathlib.Core.List.{List}
-use mathlib.Core.Path.{_≡_, sym, ap, _∙_}
+use mathlib.Core.Path.{sym, ap, _∙_}
 use borrow.Author.Needs.{needs}
 use Rattle.recovery.proofs.page.Statement.{statement}
 use Rattle.recovery.proofs.page.Tie as tie

@@ -6,7 +6,7 @@ use Rattle.fields.specs.declared.Fault.the-variants.{NotIn}
 use borrow.Author.Tests.{not-true, not-false}
 use native.Mathlib.Omega.{arith}
 use mathlib.Core.Bool.{Bool, cond}
-use mathlib.Core.Path.{_≡_, refl, sym, ap, _∙_}
+use mathlib.Core.Path.{refl, sym, ap, _∙_}
 use borrow.Author.Needs.{needs}
 use Rattle.recovery.proofs.seal.Statement.{statement}
 use Rattle.recovery.proofs.seal.Tie as tie

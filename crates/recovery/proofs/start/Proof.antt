@@ -1,6 +1,6 @@
 use Rattle.recovery.proofs.Ways.{short, is-clean, by-tests}
 use Rattle.recovery.specs.declared.Started.the-variants.{Refused}
-use mathlib.Core.Path.{_≡_, sym, ap, _∙_}
+use mathlib.Core.Path.{sym, ap, _∙_}
 use borrow.Author.Needs.{needs}
 use Rattle.recovery.proofs.start.Statement.{statement}
 use Rattle.recovery.proofs.start.Tie as tie

@@ -3,7 +3,7 @@ use lib.ListN.{length, drop-of-length-le}
 use native.Mathlib.Omega.{arith}
 use Prim.Native.Nat.{_≤_}
 use mathlib.Core.List.{_++_, append-nil}
-use mathlib.Core.Path.{_≡_, ap₂, _∙_}
+use mathlib.Core.Path.{ap₂, _∙_}
 use borrow.Author.Needs.{needs}
 use Rattle.sectors.proofs.copy_all.Statement.{statement}
 use Rattle.sectors.proofs.copy_all.Tie as tie

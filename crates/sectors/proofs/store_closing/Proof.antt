@@ -1,7 +1,7 @@
+use mathlib.Core.List.{_++_}
 use Rattle.sectors.specs.Closing.{closingSector}
 use lib.Seq.{length-take-le, take-at, drop-at}
 use lib.ListN.{length, take, drop}
-use mathlib.Core.List.{_++_}
 use mathlib.Core.Path.{_≡_, ap, ap₂, _∙_}
 use borrow.Author.Needs.{needs}
 use Rattle.sectors.proofs.store_closing.Statement.{statement}
