@@ -7,10 +7,10 @@ use fields::Place;
 use fields::Verdict;
 ghost use mathlib.Core.Path.{_≡_};
 ghost use mathlib.Core.Bool.{true};
-ghost use Prim.Native.Nat.{_+_, _*_, _≤_, _<_};
+ghost use Prim.Native.Nat.{_+_, _≤_, _<_};
 ghost use lib.ListN.{length};
 ghost use Rattle.fields.specs.declared.Verdict.the-variants.{Sound};
-ghost use Rattle.old_log.specs.Layout.{logBins, mapSize, bitmap as bitmapOf, pagesAt, isLogged, loggedBefore, loggedPlace, loggedCount, nextLogged};
+ghost use Rattle.old_log.specs.Layout.{logBins, bitmap as bitmapOf, pagesAt, isLogged, loggedPlace, loggedCount, nextLogged};
 ghost use Rattle.old_log.specs.Tests.{isLogBase, pagesFit, headFault, logFault, counted, zeroAgrees, stampsAgree, isIn, allIn};
 
 // What the log's own tests give.
