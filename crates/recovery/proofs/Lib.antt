@@ -5,3 +5,4 @@ pub mod Within
 pub mod Repair
 pub mod Ended
 pub mod Figures
+pub mod Asked

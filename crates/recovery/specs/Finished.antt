@@ -10,7 +10,9 @@ use Rattle.sectors.specs.Sector.{page}
 use Rattle.sectors.specs.Closing.{closingSector}
 use Rattle.old_log.specs.Layout.{isLogged, logged}
 use Rattle.recovery.specs.declared.Stepped.the-variants.{Done}
-use Rattle.recovery.specs.Calls.{pageAnswer, pageHive, closeAnswer, closeHive}
+use Rattle.recovery.specs.declared.NextPage.{NextPage}
+use Rattle.recovery.specs.declared.NextPage.the-variants as next
+use Rattle.recovery.specs.Calls.{pageAnswer, pageHive, closeAnswer, closeHive, nextAnswer}
 
 -- byte i of the finished file: of the closing sector in the first 512, of a logged page in its place, and elsewhere as it was
 abbrev pub finishedByte : List ℕ → List ℕ → ℕ → ℕ
@@ -35,6 +37,16 @@ afterPages h l (p ∷ ps) = afterPages (pageHive h l p) l ps
 -- "One page call for each set bit": each logged page is named at least once
 abbrev pub Covers : List ℕ → List ℕ → Type 0
 Covers l ps = (p : ℕ) → isLogged l p ≡ true → List·Memᴰ p ps
+
+-- the pages that a host is given that asks for the next page from a number on, then from one past the page it was given, at most k times
+abbrev pub given : NextPage → (ℕ → List ℕ) → List ℕ
+given (next.At p from to) more = p ∷ more (suc p)
+given next.NoMore more = []
+given (next.Refused r) more = []
+
+unfoldable pub asked : ℕ → List ℕ → ℕ → List ℕ
+asked zero l from = []
+asked (suc k) l from = given (nextAnswer l from) (asked k l)
 
 -- each logged page is in
 abbrev pub AllIn : List ℕ → List ℕ → Type 0
