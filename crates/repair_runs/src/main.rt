@@ -87,6 +87,20 @@ fn land_page(disk: &mut [u8], mem: &[u8], n: usize) {
     }
 }
 
+// The orders that bytes follow.
+fn take_in(mem: &mut [u8], disk: &mut [u8], log: &mut [u8], part: &[u8], kind: u8) {
+    match kind {
+        0 => {
+            io::write_all(1, part);
+        }
+        3 => {
+            put(mem, part);
+            put(disk, part);
+        }
+        _ => put(log, part),
+    }
+}
+
 // The orders that set up a case.
 fn set_up(
     mem: &mut [u8],
@@ -97,41 +111,26 @@ fn set_up(
     kind: u8,
     n: usize,
 ) -> Lengths {
-    match kind {
-        1 => {
-            clear(mem);
-            clear(disk);
-            Lengths {
-                hive: n,
-                log: l.log,
-            }
-        }
-        2 => {
-            clear(log);
-            Lengths {
-                hive: l.hive,
-                log: n,
-            }
-        }
-        _ => {
-            let got = follow(buf, n);
-            if got <= buf.len() {
-                match kind {
-                    0 => {
-                        io::write_all(1, &buf[0..got]);
-                    }
-                    3 => {
-                        put(mem, &buf[0..got]);
-                        put(disk, &buf[0..got]);
-                    }
-                    _ => {
-                        put(log, &buf[0..got]);
-                    }
-                }
-            }
-            l
-        }
+    if kind == 1 {
+        clear(mem);
+        clear(disk);
+        return Lengths {
+            hive: n,
+            log: l.log,
+        };
     }
+    if kind == 2 {
+        clear(log);
+        return Lengths {
+            hive: l.hive,
+            log: n,
+        };
+    }
+    let got = follow(buf, n);
+    if got <= buf.len() {
+        take_in(mem, disk, log, &buf[0..got], kind);
+    }
+    l
 }
 
 // The orders of a repair, on files of their own length.
