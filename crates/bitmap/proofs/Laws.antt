@@ -1,0 +1,113 @@
+-- What the counts of set bits keep to, and what the next marked page is.
+use Prim.Native.Nat.{ℕ, zero, suc, _+_, _-_, _*_, _/_, _%_, _^_, _≤_, _<_, zero-le}
+use native.Mathlib.Nat.{zero-div, le-refl}
+use native.Mathlib.Decide.{le-ind, decLt, ℕ-discrete}
+use native.Mathlib.Omega.{arith}
+use mathlib.Core.Path.{_≡_, refl, sym, ap, _∙_}
+use mathlib.Core.Bool.{Bool, true, false, cond}
+use mathlib.Core.List.{List}
+use lib.ListN.{length, List·getD-eq-default}
+use lib.Dec.{eqb}
+use borrow.Author.Tests.{eqb-true}
+use Rattle.bitmap.specs.declared.Next.the-variants.{At, Nothing}
+use Rattle.bitmap.specs.Bits.{bit, isMarked, bitsBefore, nextAmong, nextMarked}
+
+module _ (map : List ℕ) where
+  -- at most p of the bits before page p are set
+  pub before-le : (p : ℕ) → bitsBefore map p ≤ p
+  unfolding bitsBefore
+  before-le zero = zero-le
+  before-le (suc p) = omega (arith, before-le p)
+
+  pub before-mono : (p q : ℕ) → p ≤ q → bitsBefore map p ≤ bitsBefore map q
+  unfolding bitsBefore
+  before-mono p q h = le-ind (λ (m : ℕ). bitsBefore map p ≤ bitsBefore map m) (le-refl (bitsBefore map p)) (λ m k e. omega arith) q h
+
+  -- a marked page adds one
+  pub before-marked : (p : ℕ) → isMarked map p ≡ true → bitsBefore map (suc p) ≡ bitsBefore map p + 1
+  unfolding bitsBefore
+  before-marked p e = ap (λ (n : ℕ). bitsBefore map p + n) (eqb-true (bit map p) 1 e)
+
+  -- so it is counted before every later page
+  pub before-later : (p q : ℕ) → isMarked map p ≡ true → p < q → bitsBefore map p + 1 ≤ bitsBefore map q
+  before-later p q e h = omega (arith, before-marked p e, before-mono (suc p) q h)
+
+  -- past the map's end nothing is marked
+  pub bit-past : (p : ℕ) → length map ≤ p / 8 → bit map p ≡ 0
+  bit-past p h =
+      ap (λ (x : ℕ). x / 2 ^ (p % 8) % 2) (List·getD-eq-default map 0 h) ∙ ap (λ (x : ℕ). x % 2) (zero-div (2 ^ (p % 8)))
+
+  pub marked-inside : (p : ℕ) → isMarked map p ≡ true → p < 8 * length map
+  marked-inside p e = go (decLt p (8 * length map))
+    where
+      go : Dec (p < 8 * length map) → p < 8 * length map
+      go (yes g) = g
+      go (no g) =
+          let z : bit map p ≡ 0 = bit-past p (omega arith) in
+          let bad : _≡_ {A = ℕ} 0 1 = sym z ∙ eqb-true (bit map p) 1 e in
+          omega arith
+
+  -- ---- the next marked page
+
+  -- one more page is left where p is inside the map
+  left : (p : ℕ) → p < 8 * length map → 8 * length map - p ≡ suc (8 * length map - suc p)
+  left p h = omega arith
+
+  pub next-here : (p : ℕ) → p < 8 * length map → isMarked map p ≡ true → nextMarked map p ≡ At p
+  unfolding nextAmong
+  next-here p h e = rw (left p h, e)
+
+  pub next-on : (p : ℕ) → p < 8 * length map → isMarked map p ≡ false → nextMarked map p ≡ nextMarked map (suc p)
+  unfolding nextAmong
+  next-on p h e = ap (λ (n : ℕ). nextAmong n map p) (left p h) ∙ ap (λ (b : Bool). cond b (At p) (nextMarked map (suc p))) e
+
+  pub next-end : (p : ℕ) → 8 * length map ≤ p → nextMarked map p ≡ Nothing
+  unfolding nextAmong
+  next-end p h = let e : 8 * length map - p ≡ 0 = omega arith in ap (λ (n : ℕ). nextAmong n map p) e
+
+  -- what the answer says: the page is marked, and it is the least one
+  pub record Least (from p : ℕ) : Type 0 where
+    pub marked : isMarked map p ≡ true
+    pub after : from ≤ p
+    pub least : (q : ℕ) → from ≤ q → q < p → isMarked map q ≡ false
+
+  among-least : (n from p : ℕ) → nextAmong n map from ≡ At p → Least from p
+  unfolding nextAmong
+  among-least zero from p e = absurd (let z : _≡_ {A = ℕ} 0 1 = cc in omega arith)
+  among-least (suc n) from p e = by (isMarked map from) refl e (among-least n (suc from) p)
+    where
+      here : isMarked map from ≡ false → Least (suc from) p → (q : ℕ) → from ≤ q → q < p → Dec (q ≡ from) → isMarked map q ≡ false
+      here m k q g h (yes s) = ap (isMarked map) s ∙ m
+      here m k q g h (no s) = k .least q (omega arith) h
+
+      by : (b : Bool) → isMarked map from ≡ b → cond b (At from) (nextAmong n map (suc from)) ≡ At p
+          → (nextAmong n map (suc from) ≡ At p → Least (suc from) p) → Least from p
+      by true m e r =
+          let s : from ≡ p = cc in
+          record { marked = ap (isMarked map) (sym s) ∙ m; after = omega arith; least = λ q g h. absurd (omega arith) }
+      by false m e r =
+          let k = r e in
+          record { marked = k .marked; after = omega (arith, k .after); least = λ q g h. here m k q g h (ℕ-discrete q from) }
+
+  pub next-least : (from p : ℕ) → nextMarked map from ≡ At p → Least from p
+  next-least from p e = among-least (8 * length map - from) from p e
+
+  -- and where there is none, no page from there on is marked
+  among-none : (n from : ℕ) → nextAmong n map from ≡ Nothing → (q : ℕ) → from ≤ q → q < from + n → isMarked map q ≡ false
+  unfolding nextAmong
+  among-none zero from e q g h = absurd (omega arith)
+  among-none (suc n) from e q g h = by (isMarked map from) refl e (λ k. among-none n (suc from) k q) (ℕ-discrete q from)
+    where
+      by : (b : Bool) → isMarked map from ≡ b → cond b (At from) (nextAmong n map (suc from)) ≡ Nothing
+          → (nextAmong n map (suc from) ≡ Nothing → suc from ≤ q → q < suc from + n → isMarked map q ≡ false)
+          → Dec (q ≡ from) → isMarked map q ≡ false
+      by true m e r d = absurd (let z : _≡_ {A = ℕ} 0 1 = cc in omega arith)
+      by false m e r (yes s) = ap (isMarked map) s ∙ m
+      by false m e r (no s) = r e (omega arith) (omega arith)
+
+  pub next-none : (from : ℕ) → nextMarked map from ≡ Nothing → (q : ℕ) → from ≤ q → isMarked map q ≡ false
+  next-none from e q g = go (decLt q (8 * length map))
+    where
+      go : Dec (q < 8 * length map) → isMarked map q ≡ false
+      go (yes h) = among-none (8 * length map - from) from e q g (omega arith)
+      go (no h) = ap (λ (n : ℕ). eqb n 1) (bit-past q (omega arith))

@@ -1,0 +1,85 @@
+-- The traces are not empty: a repair that two power failures interrupt, in which page 0 lands twice and a store of page 15 is lost, ends in the
+-- finished file. Hive and log are those of the figures.
+use Prim.Native.Nat.{ℕ, zero, suc}
+use mathlib.Core.Path.{_≡_, refl}
+use mathlib.Core.Bool.{Bool, true, false, _&&_}
+use mathlib.Core.List.{List, [], _∷_, List·Memᴰ·head, List·Memᴰ·tail}
+use lib.Dec.{ltb, lit<}
+use borrow.Author.Tests.{ltb-true}
+use Rattle.fields.specs.Number.{u16At, u32At, u64At}
+use Rattle.fields.specs.Bytes.{sameBytes, standsAt}
+use Rattle.fields.specs.Faults.{_next_}
+use Rattle.fields.proofs.Bools.{and-inv}
+use Rattle.base.specs.Block.{xors, storedChecksum, isVersion, isBinsSize, usable, clean}
+use Rattle.bitmap.specs.Bits.{bitsBefore}
+use Rattle.sectors.specs.Sector.{sectorAt, stored, page, Bytes}
+use Rattle.old_log.specs.Layout.{bitmap, isLogged, logged}
+use Rattle.old_log.specs.Tests.{isLogBase, headFault, logFault, stampsAgree, inBelow}
+use Rattle.recovery.specs.declared.Started.the-variants.{Pages}
+use Rattle.recovery.specs.declared.Stepped.the-variants.{Done}
+use Rattle.recovery.specs.Calls.{hiveFault, testFault, startAnswer, pageAnswer, pageHive, closeAnswer}
+use Rattle.recovery.proofs.Figures.{head, log, hive, long-log}
+use Rattle.crash.specs.Trace.{Sent, Open, failures, landings}
+use Rattle.crash.specs.Demand.{Landed}
+use Rattle.crash.proofs.Demand3.{may-store, may-seal, landed}
+
+-- a list of bytes, by a test that computes
+areBytes : List ℕ → Bool
+areBytes [] = true
+areBytes (x ∷ s) = ltb x 256 && areBytes s
+
+bytes-of : (s : List ℕ) → areBytes s ≡ true → Bytes s
+unfolding areBytes
+bytes-of [] e i = lit< tt
+bytes-of (x ∷ s) e zero = ltb-true x 256 (and-inv (ltb x 256) (areBytes s) e .0)
+bytes-of (x ∷ s) e (suc i) = bytes-of s (and-inv (ltb x 256) (areBytes s) e .1) i
+
+abbrev pub l : List ℕ
+l = log 512
+
+ok : startAnswer hive l ≡ Pages 2
+ok = long-log .1
+
+bytes : Bytes l
+unfolding areBytes log head
+bytes = bytes-of l refl
+
+zero-logged : isLogged l 0 ≡ true
+unfolding log head bitmap u32At u16At
+zero-logged = refl
+
+last-logged : isLogged l 15 ≡ true
+unfolding log head bitmap u32At u16At
+last-logged = refl
+
+-- ---- the trace
+
+-- a trace whose closing call is done, and whose closing sector may be sent
+pub record Cut (h l : List ℕ) : Type 0 where
+  pub memory : List ℕ
+  pub stores : List Sent
+  pub disk : List ℕ
+  pub trace : Open h l true memory stores disk
+  pub failed : failures trace ≡ 2
+  pub twice : landings 0 trace ≡ 2
+  pub all-landed : closeAnswer disk l ≡ Done
+
+cut : {h l m : List ℕ} {q : List Sent} {d : List ℕ} (o : Open h l true m q d) → failures o ≡ 2 → landings 0 o ≡ 2 → closeAnswer d l ≡ Done → Cut h l
+cut {m = m} {q = q} {d = d} o a b c = record { memory = m; stores = q; disk = d; trace = o; failed = a; twice = b; all-landed = c }
+
+pub cut-twice : Cut hive l
+unfolding failures landings closeAnswer startAnswer pageHive pageAnswer testFault hiveFault clean stampsAgree inBelow page logged log head hive logFault headFault isLogBase usable isVersion isBinsSize storedChecksum xors u64At u32At u16At standsAt sameBytes bitmap bitsBefore _next_
+cut-twice =
+    let o₀ : Open hive l false hive [] hive = Open.begin in
+    let o₁ = Open.stores 0 (may-store hive l 2 ok bytes o₀ 0 zero-logged) o₀ in
+    let o₂ = Open.fails (Open.lands _ (List·Memᴰ·head refl) o₁) in
+    let o₃ = Open.stores 0 (may-store hive l 2 ok bytes o₂ 0 zero-logged) o₂ in
+    let o₄ = Open.stores 15 (may-store hive l 2 ok bytes o₃ 15 last-logged) o₃ in
+    let o₅ = Open.fails (Open.lands _ (List·Memᴰ·tail (List·Memᴰ·head refl)) o₄) in
+    let o₆ = Open.stores 15 (may-store hive l 2 ok bytes o₅ 15 last-logged) o₅ in
+    let o₇ = Open.lands _ (List·Memᴰ·head refl) o₆ in
+    cut (Open.closes refl o₇) refl refl refl
+
+-- Theorem 4.
+pub ends : Landed hive l (stored (cut-twice .disk) 0 (sectorAt (cut-twice .memory) 0))
+ends = landed hive l 2 ok bytes (may-seal hive l 2 ok bytes (cut-twice .trace) (cut-twice .all-landed))

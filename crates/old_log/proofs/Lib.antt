@@ -1,0 +1,5 @@
+pub mod Ways
+pub mod Facts
+pub mod Hive
+pub mod Same
+pub mod Half

@@ -1,0 +1,28 @@
+-- The calls by the start's answer.
+use Prim.Native.Nat.{ℕ}
+use mathlib.Core.Path.{_≡_, ap}
+use mathlib.Core.List.{List}
+use Rattle.base.specs.Block.{sector}
+use Rattle.sectors.specs.Sector.{stored, pagePlace}
+use Rattle.sectors.specs.Closing.{closingSector}
+use Rattle.old_log.specs.Layout.{logged}
+use Rattle.recovery.specs.declared.Started.{Started}
+use Rattle.recovery.specs.declared.Stepped.{Stepped}
+use Rattle.recovery.specs.Calls.{startAnswer, tested, changed, installed, pageAnswer, pageHive, closed, closeAnswer, closeHive}
+
+module _ (h l : List ℕ) (a : Started) (e : startAnswer h l ≡ a) where
+  pub page-answer : (p : ℕ) → pageAnswer h l p ≡ tested a (installed l p)
+  unfolding pageAnswer
+  page-answer p = ap (λ (x : Started). tested x (installed l p)) e
+
+  pub page-hive : (p : ℕ) → pageHive h l p ≡ changed (tested a (installed l p)) (stored h (pagePlace p) (logged l p)) h
+  unfolding pageHive
+  page-hive p = ap (λ (x : Stepped). changed x (stored h (pagePlace p) (logged l p)) h) (page-answer p)
+
+  pub close-answer : closeAnswer h l ≡ tested a (closed h l)
+  unfolding closeAnswer
+  close-answer = ap (λ (x : Started). tested x (closed h l)) e
+
+  pub close-hive : closeHive h l ≡ changed (tested a (closed h l)) (stored h 0 (closingSector (sector l))) h
+  unfolding closeHive
+  close-hive = ap (λ (x : Stepped). changed x (stored h 0 (closingSector (sector l))) h) close-answer

@@ -1,0 +1,8 @@
+pub mod Ways
+pub mod ByStart
+pub mod Accepts
+pub mod Within
+pub mod Repair
+pub mod Ended
+pub mod Figures
+pub mod Asked

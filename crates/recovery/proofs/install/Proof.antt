@@ -1,0 +1,77 @@
+use Rattle.recovery.proofs.Ways.{passed}
+use Rattle.recovery.specs.declared.Stepped.the-variants.{Done, Refused}
+use Rattle.old_log.proofs.Facts.{head-of, head-facts, logged-below, logged-fits, logged-inside}
+use Rattle.old_log.specs.Layout.{isLogged, logged}
+use Rattle.sectors.specs.Sector.{sectorAt, stored}
+use Rattle.fields.specs.Faults.{flaw, nowhere, refusalOf}
+use Rattle.fields.specs.declared.Fault.the-variants.{NotDirty}
+use borrow.Author.Tests.{not-true, not-false}
+use native.Mathlib.Omega.{arith}
+use Prim.Native.Nat.{ℕ}
+use mathlib.Core.Bool.{Bool, true, cond}
+use mathlib.Core.Path.{_≡_, refl, sym, ap, ap₂, _∙_}
+use borrow.Author.Needs.{needs}
+use Rattle.recovery.proofs.install.Statement.{statement}
+use Rattle.recovery.proofs.install.Tie as tie
+
+marked : (c : tie.Else1) → isLogged (c .before .before .before .before .args .log .now) (c .before .before .before .before .args .n) ≡ true
+marked c = sym (c .before .is-logged .ensures) ∙ not-false _ (c .if1 .left)
+
+is-logged-requires : tie.Need-is-logged-requires
+is-logged-requires c κs = passed (c .before .before .args .hive .now) (c .before .before .args .log .now) (c .before .before .pre) .log
+
+refuse-requires : tie.Need-refuse-requires
+refuse-requires c κs = search needs
+
+returns : tie.Need-returns
+returns c = (
+  ap Refused (c .refuse .ensures)
+      ∙ sym (ap (λ (b : Bool). cond b Done (Refused (refusalOf (flaw NotDirty nowhere)))) (sym (c .before .before .is-logged .ensures) ∙ not-true _ (c .before .if1 .taken))),
+  refl,
+)
+
+page-place-requires : tie.Need-page-place-requires
+page-place-requires c κs =
+    let s = c .before .before .before .before in
+    let l = s .args .log .now in
+    let g = passed (s .args .hive .now) l (s .pre) .log in
+    omega (arith, logged-below l g (s .args .n) (marked c), head-facts l (head-of l g) .size .limit)
+
+logged-place-requires : tie.Need-logged-place-requires
+logged-place-requires c κs = (passed (c .before .before .before .before .before .args .hive .now) (c .before .before .before .before .before .args .log .now) (c .before .before .before .before .before .pre) .log, marked (c .before))
+
+store-requires : tie.Need-store-requires
+store-requires c κs =
+    let s = c .before .before .before .before .before .before .before in
+    let h = s .args .hive .now in
+    let l = s .args .log .now in
+    let g = passed h l (s .pre) in (
+      omega (arith, c .before .before .page-place .ensures, logged-inside l (g .log) h (g .room) (s .args .n) (marked (c .before .before .before))),
+      omega (arith, c .before .logged-place .ensures, logged-fits l (g .log) (s .args .n) (marked (c .before .before .before))),
+    )
+
+same-length : tie.Need-same-length
+same-length c = search needs
+
+returns-2 : tie.Need-returns-2
+unfolding logged
+returns-2 c =
+    let s = c .before .before .before .before .before .before .before .before .before .before in
+    let h = s .args .hive .now in
+    let l = s .args .log .now in (
+      sym (ap (λ (b : Bool). cond b Done (Refused (refusalOf (flaw NotDirty nowhere)))) (marked (c .before .before .before .before .before .before))),
+      c .before .before .store .ensures ∙ ap₂ (λ (a b : ℕ). stored h a (sectorAt l b)) (c .before .before .before .before .before .page-place .ensures) (c .before .before .before .before .logged-place .ensures),
+    )
+
+pub install-spec : {M : Type 1} → statement M
+install-spec =
+    tie.close
+    (tie.spec
+    is-logged-requires
+    refuse-requires
+    returns
+    page-place-requires
+    logged-place-requires
+    store-requires
+    same-length
+    returns-2)

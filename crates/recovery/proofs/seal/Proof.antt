@@ -1,0 +1,56 @@
+use Rattle.recovery.proofs.Ways.{passed}
+use Rattle.recovery.specs.declared.Stepped.the-variants.{Done, Refused}
+use Rattle.old_log.proofs.Facts.{head-of, head-facts}
+use Rattle.fields.specs.Faults.{flaw, nowhere, refusalOf}
+use Rattle.fields.specs.declared.Fault.the-variants.{NotIn}
+use borrow.Author.Tests.{not-true, not-false}
+use native.Mathlib.Omega.{arith}
+use mathlib.Core.Bool.{Bool, cond}
+use mathlib.Core.Path.{refl, sym, ap, _∙_}
+use borrow.Author.Needs.{needs}
+use Rattle.recovery.proofs.seal.Statement.{statement}
+use Rattle.recovery.proofs.seal.Tie as tie
+
+all-in-requires : tie.Need-all-in-requires
+all-in-requires c κs = let g = passed (c .before .before .before .args .hive .now) (c .before .before .before .args .log .now) (c .before .before .before .pre) in (g .log, g .room)
+
+refuse-requires : tie.Need-refuse-requires
+refuse-requires c κs = search needs
+
+same-length : tie.Need-same-length
+same-length c = search needs
+
+returns : tie.Need-returns
+returns c = (
+  ap Refused (c .refuse .ensures)
+      ∙ sym (ap (λ (b : Bool). cond b Done (Refused (refusalOf (flaw NotIn nowhere)))) (sym (c .before .before .all-in .ensures) ∙ not-true _ (c .before .if1 .taken))),
+  refl,
+)
+
+store-closing-requires : tie.Need-store-closing-requires
+store-closing-requires c κs =
+    let s = c .before .before .before .before .before .before in
+    let l = s .args .log .now in
+    let g = passed (s .args .hive .now) l (s .pre) in
+    (omega (arith, g .room), head-facts l (head-of l (g .log)) .long)
+
+same-length-2 : tie.Need-same-length-2
+same-length-2 c = search needs
+
+returns-2 : tie.Need-returns-2
+returns-2 c = (
+  sym (ap (λ (b : Bool). cond b Done (Refused (refusalOf (flaw NotIn nowhere)))) (sym (c .before .before .before .before .before .all-in .ensures) ∙ not-false _ (c .before .before .before .before .if1 .left))),
+  c .before .before .store-closing .ensures,
+)
+
+pub seal-spec : {M : Type 1} → statement M
+seal-spec =
+    tie.close
+    (tie.spec
+    all-in-requires
+    refuse-requires
+    same-length
+    returns
+    store-closing-requires
+    same-length-2
+    returns-2)

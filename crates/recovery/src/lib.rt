@@ -1,0 +1,167 @@
+// Recovery from an old log: start, one page, close; and which page comes next. No call keeps any state.
+use bitmap::Next;
+use fields::Fault;
+use fields::Flaw;
+use fields::Offset;
+use fields::Place;
+use fields::Refusal;
+use fields::Verdict;
+use old_log::Tested;
+ghost use mathlib.Core.Path.{_≡_};
+ghost use Rattle.fields.specs.declared.Verdict.the-variants.{Sound};
+ghost use Rattle.fields.specs.Faults.{flaw, nowhere, refusalOf};
+ghost use Rattle.base.specs.Block.{sector};
+ghost use Rattle.sectors.specs.Sector.{stored, pagePlace};
+ghost use Rattle.sectors.specs.Closing.{closingSector};
+ghost use Rattle.old_log.specs.Layout.{loggedCount, logged, nextLogged};
+ghost use Rattle.old_log.specs.Tests.{logFault};
+ghost use Rattle.recovery.specs.Calls.{hiveFault, testFault, started, startAnswer, installed, closed, changed, pageAnswer, pageHive, closeAnswer, closeHive, nextOf, nextAnswer};
+
+pub enum Started {
+    // The hive needs no repair.
+    Clean,
+    // The log is accepted, and has this many set bits.
+    Pages(usize),
+    Refused(Refusal),
+}
+
+pub enum Stepped {
+    // The hive needs no repair, and nothing has changed.
+    Clean,
+    Done,
+    // Nothing has changed.
+    Refused(Refusal),
+}
+
+pub enum NextPage {
+    // A logged page, where its bytes lie in the log, and where they go in the hive.
+    At { page: usize, from: Place, to: Place },
+    NoMore,
+    Refused(Refusal),
+}
+
+// A refusal of recovery: its place is always 0.
+fn refuse(fault: Fault) -> Refusal
+    ensures { λ r. ⌜ r ≡ refusalOf (flaw fault nowhere) ⌝ }
+{
+    fields::refused(Flaw {
+        fault,
+        place: Offset(0),
+    })
+}
+
+// 24; 25.
+fn hive_flaw(hive: &[u8], log: &[u8]) -> Verdict
+    requires { ⌜ logFault (now log) ≡ Sound ⌝ }
+    ensures { λ r. ⌜ r ≡ hiveFault (now (hive .entry)) (now (log .entry)) ⌝ }
+{
+    if hive.len() < 4096 + old_log::bins_size(log) {
+        return fields::flawed(Fault::HiveCut, Offset(0));
+    }
+    if !old_log::stamps_agree(hive, log) {
+        return fields::flawed(Fault::Stamps, Offset(0));
+    }
+    Verdict::Sound
+}
+
+// 21; 22 for the bitmap; 23; 22 for the pages; 24; 25.
+fn log_tests(hive: &[u8], log: &[u8]) -> Started
+    ensures { λ r. ⌜ r ≡ started (testFault (now (hive .entry)) (now (log .entry))) (loggedCount (now (log .entry))) ⌝ }
+{
+    match old_log::log_test(log) {
+        Tested::Flawed(f) => Started::Refused(fields::refused(f)),
+        Tested::Logged(n) => match hive_flaw(hive, log) {
+            Verdict::Flawed(f) => Started::Refused(fields::refused(f)),
+            Verdict::Sound => Started::Pages(n),
+        },
+    }
+}
+
+// The tests that every call makes first.
+pub fn start(hive: &[u8], log: &[u8]) -> Started
+    ensures { λ r. ⌜ r ≡ startAnswer (now (hive .entry)) (now (log .entry)) ⌝ }
+{
+    if hive.len() < 4096 {
+        return Started::Refused(refuse(Fault::HiveShort));
+    }
+    if base::clean(&hive[0..512]) {
+        return Started::Clean;
+    }
+    log_tests(hive, log)
+}
+
+// A page call whose tests are passed.
+fn install(hive: &mut [u8], log: &[u8], n: usize) -> Stepped
+    requires { ⌜ testFault (now hive) (now log) ≡ Sound ⌝ }
+    ensures { λ r. ⌜ r ≡ installed (now (log .entry)) n ⌝ }
+    ensures { λ r. ⌜ now (hive .exit) ≡ changed r (stored (now (hive .entry)) (pagePlace n) (logged (now (log .entry)) n)) (now (hive .entry)) ⌝ }
+{
+    if !old_log::is_logged(log, n) {
+        return Stepped::Refused(refuse(Fault::NotDirty));
+    }
+    let to = sectors::page_place(n);
+    let from = old_log::logged_place(log, n);
+    sectors::store(hive, to, log, from);
+    Stepped::Done
+}
+
+// A closing call whose tests are passed. The closing sector comes after the pages: before them "the file looks clean and is half old".
+fn seal(hive: &mut [u8], log: &[u8]) -> Stepped
+    requires { ⌜ testFault (now hive) (now log) ≡ Sound ⌝ }
+    ensures { λ r. ⌜ r ≡ closed (now (hive .entry)) (now (log .entry)) ⌝ }
+    ensures { λ r. ⌜ now (hive .exit) ≡ changed r (stored (now (hive .entry)) 0 (closingSector (sector (now (log .entry))))) (now (hive .entry)) ⌝ }
+{
+    if !old_log::all_in(hive, log) {
+        return Stepped::Refused(refuse(Fault::NotIn));
+    }
+    sectors::store_closing(hive, log);
+    Stepped::Done
+}
+
+// Installs the logged page n, its 512 bytes and no others.
+pub fn page(hive: &mut [u8], log: &[u8], n: usize) -> Stepped
+    ensures { λ r. ⌜ r ≡ pageAnswer (now (hive .entry)) (now (log .entry)) n ⌝ }
+    ensures { λ r. ⌜ now (hive .exit) ≡ pageHive (now (hive .entry)) (now (log .entry)) n ⌝ }
+{
+    match start(hive, log) {
+        Started::Clean => Stepped::Clean,
+        Started::Pages(_) => install(hive, log, n),
+        Started::Refused(r) => Stepped::Refused(r),
+    }
+}
+
+// Writes the closing sector, once every logged page is in.
+pub fn close(hive: &mut [u8], log: &[u8]) -> Stepped
+    ensures { λ r. ⌜ r ≡ closeAnswer (now (hive .entry)) (now (log .entry)) ⌝ }
+    ensures { λ r. ⌜ now (hive .exit) ≡ closeHive (now (hive .entry)) (now (log .entry)) ⌝ }
+{
+    match start(hive, log) {
+        Started::Clean => Stepped::Clean,
+        Started::Pages(_) => seal(hive, log),
+        Started::Refused(r) => Stepped::Refused(r),
+    }
+}
+
+fn next_of(log: &[u8], from: usize) -> NextPage
+    requires { ⌜ logFault (now log) ≡ Sound ⌝ }
+    ensures { λ r. ⌜ r ≡ nextOf (now (log .entry)) (nextLogged (now (log .entry)) from) ⌝ }
+{
+    match old_log::next_logged(log, from) {
+        Next::Nothing => NextPage::NoMore,
+        Next::At(n) => NextPage::At {
+            page: n,
+            from: old_log::logged_place(log, n),
+            to: sectors::page_place(n),
+        },
+    }
+}
+
+// The least logged page at or after `from`, so that a host need not ask every page number.
+pub fn next_page(log: &[u8], from: usize) -> NextPage
+    ensures { λ r. ⌜ r ≡ nextAnswer (now (log .entry)) from ⌝ }
+{
+    match old_log::log_test(log) {
+        Tested::Flawed(f) => NextPage::Refused(fields::refused(f)),
+        Tested::Logged(_) => next_of(log, from),
+    }
+}

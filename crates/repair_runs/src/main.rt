@@ -1,0 +1,221 @@
+// Repairs with power failures: does what the orders of its input say, on a memory and a disk, and writes what each call answers.
+//
+// An order is a byte and a 4-byte number n:
+//   0  writes out the n bytes that follow
+//   1  a hive of n zero bytes, in memory and on the disk
+//   2  a log of n zero bytes
+//   3  of the n bytes that follow, a 4-byte place and what goes there, in memory and on the disk
+//   4  the same in the log
+//   5  start
+//   6  page n
+//   7  close
+//   8  the next page from n on
+//   9  page n of memory lands on the disk
+//   10 the first sector of memory lands on the disk
+//   11 the power fails, and the disk is read into memory
+//   12 writes what the disk holds, as one number
+mod say;
+
+// How long hive and log are.
+struct Lengths {
+    hive: usize,
+    log: usize,
+}
+
+fn order_number(head: &[u8; 5]) -> usize {
+    fields::u32_at(head, 1) as usize
+}
+
+fn clear(buf: &mut [u8]) {
+    let mut i: usize = 0;
+    while i < buf.len() {
+        buf[i] = 0;
+        i += 1;
+    }
+}
+
+// The bytes that follow an order.
+fn follow(buf: &mut [u8], n: usize) -> usize {
+    if buf.len() < n {
+        return 0;
+    }
+    io::read_full(0, &mut buf[0..n]);
+    n
+}
+
+// src is a 4-byte place and what goes there.
+fn put(dst: &mut [u8], src: &[u8]) {
+    if src.len() < 4 {
+        return;
+    }
+    let at = fields::u32_at(src, 0) as usize;
+    let n = src.len() - 4;
+    if dst.len() < n {
+        return;
+    }
+    if dst.len() - n < at {
+        return;
+    }
+    bytes::copy(&src[4..], &mut dst[at..at + n]);
+}
+
+// Puts a part of one file at a place of another.
+fn put_part(dst: &mut [u8], part: &[u8], at: usize) {
+    let n = part.len();
+    if dst.len() < n {
+        return;
+    }
+    if dst.len() - n < at {
+        return;
+    }
+    bytes::copy(part, &mut dst[at..at + n]);
+}
+
+fn land(disk: &mut [u8], mem: &[u8], at: usize) {
+    if mem.len() < 512 {
+        return;
+    }
+    if mem.len() - 512 < at {
+        return;
+    }
+    put_part(disk, &mem[at..at + 512], at);
+}
+
+fn land_page(disk: &mut [u8], mem: &[u8], n: usize) {
+    if n < 8388608 {
+        land(disk, mem, 4096 + 512 * n);
+    }
+}
+
+// The orders that bytes follow.
+fn take_in(mem: &mut [u8], disk: &mut [u8], log: &mut [u8], part: &[u8], kind: u8) {
+    match kind {
+        0 => {
+            io::write_all(1, part);
+        }
+        3 => {
+            put(mem, part);
+            put(disk, part);
+        }
+        _ => put(log, part),
+    }
+}
+
+// The orders that set up a case.
+fn set_up(
+    mem: &mut [u8],
+    disk: &mut [u8],
+    log: &mut [u8],
+    buf: &mut [u8],
+    l: Lengths,
+    kind: u8,
+    n: usize,
+) -> Lengths {
+    if kind == 1 {
+        clear(mem);
+        clear(disk);
+        return Lengths {
+            hive: n,
+            log: l.log,
+        };
+    }
+    if kind == 2 {
+        clear(log);
+        return Lengths {
+            hive: l.hive,
+            log: n,
+        };
+    }
+    let got = follow(buf, n);
+    if got <= buf.len() {
+        take_in(mem, disk, log, &buf[0..got], kind);
+    }
+    l
+}
+
+// The orders of a repair, on files of their own length.
+fn repair(mem: &mut [u8], disk: &mut [u8], log: &[u8], kind: u8, n: usize) {
+    match kind {
+        5 => say::started(recovery::start(mem, log)),
+        6 => say::stepped(recovery::page(mem, log, n)),
+        7 => say::stepped(recovery::close(mem, log)),
+        8 => say::next(recovery::next_page(log, n)),
+        9 => land_page(disk, mem, n),
+        10 => land(disk, mem, 0),
+        11 => put_part(mem, disk, 0),
+        _ => say::disk(disk),
+    }
+}
+
+fn obey(
+    mem: &mut [u8],
+    disk: &mut [u8],
+    log: &mut [u8],
+    buf: &mut [u8],
+    l: Lengths,
+    kind: u8,
+    n: usize,
+) -> Lengths {
+    if kind < 5 {
+        return set_up(mem, disk, log, buf, l, kind, n);
+    }
+    let hive_end = l.hive;
+    let log_end = l.log;
+    if mem.len() < hive_end {
+        return l;
+    }
+    if disk.len() < hive_end {
+        return l;
+    }
+    if log.len() < log_end {
+        return l;
+    }
+    repair(
+        &mut mem[0..hive_end],
+        &mut disk[0..hive_end],
+        &log[0..log_end],
+        kind,
+        n,
+    );
+    l
+}
+
+enum Went {
+    On(Lengths),
+    Ended,
+}
+
+fn turn(mem: &mut [u8], disk: &mut [u8], log: &mut [u8], buf: &mut [u8], l: Lengths) -> Went {
+    let mut head = [0u8; 5];
+    let got = io::read_full(0, &mut head);
+    if got < 5 {
+        return Went::Ended;
+    }
+    let n = order_number(&head);
+    Went::On(obey(mem, disk, log, buf, l, head[0], n))
+}
+
+// Nothing says that the input ends, so the turns are counted down from a number that no run uses up.
+fn run(mem: &mut [u8], disk: &mut [u8], log: &mut [u8], buf: &mut [u8]) {
+    let mut l = Lengths { hive: 0, log: 0 };
+    let mut left = u64::MAX;
+    while 0 < left {
+        match turn(mem, disk, log, buf, l) {
+            Went::Ended => {
+                return;
+            }
+            Went::On(m) => {
+                l = m;
+            }
+        }
+        left -= 1;
+    }
+}
+
+fn main() {
+    let mut mem = [0u8; 20480];
+    let mut disk = [0u8; 20480];
+    let mut log = [0u8; 4096];
+    let mut buf = [0u8; 4096];
+    run(&mut mem, &mut disk, &mut log, &mut buf);
+}

@@ -1,0 +1,100 @@
+-- The closing sector is a clean base block, and its fields but the type and the checksum are the log's.
+use Prim.Native.Nat.{ℕ, zero, suc, _+_, _*_, _^_, _≤_, _<_}
+use native.Mathlib.Omega.{arith}
+use mathlib.Core.Path.{_≡_, refl, sym, ap, ap₂, _∙_}
+use mathlib.Core.Logic.{_⊎_, inl, inr}
+use mathlib.Core.Bool.{true}
+use mathlib.Core.List.{List, [], _∷_}
+use lib.Bits.{bitXor, xor-lt}
+use lib.Dec.{eqb, leb, lit<}
+use lib.ListN.{length}
+use borrow.Author.Tests.{eq-eqb}
+use Rattle.fields.specs.Number.{u32At}
+use Rattle.fields.specs.Bytes.{sameBytes, standsAt}
+use Rattle.fields.proofs.Bools.{and-inv, and-both}
+use Rattle.base.specs.Block.{isRegf, xors, storedChecksum, isSummed, minorOf, typeOf, isVersion, isBinsSize, usable, isSettled, clean}
+use Rattle.sectors.specs.Sector.{Bytes}
+use Rattle.sectors.specs.Closing.{put32, asHive, closingSector}
+use Rattle.sectors.proofs.Words.{u32-lt, put-length, put-take, u32-other, u32-same, put-bytes}
+
+-- ---- the checksum
+
+xors-lt : (s : List ℕ) → Bytes s → (n : ℕ) → xors s n < 2 ^ 32
+unfolding xors
+xors-lt s h zero = lit< tt
+xors-lt s h (suc n) = xor-lt 32 (xors s n) (u32At s (n * 4)) (xors-lt s h n) (u32-lt s h (n * 4))
+
+pub checksum-lt : (s : List ℕ) → Bytes s → storedChecksum s < 4294967296
+unfolding storedChecksum
+checksum-lt s h = xors-lt s h 127
+
+-- the field at 508 is no part of it
+xors-put : (s : List ℕ) (v n : ℕ) → n ≤ 127 → xors (put32 s 508 v) n ≡ xors s n
+unfolding xors
+xors-put s v zero h = refl
+xors-put s v (suc n) h = ap₂ bitXor (xors-put s v n (omega arith)) (u32-other s 508 v (n * 4) (inl (omega arith)))
+
+checksum-put : (s : List ℕ) (v : ℕ) → storedChecksum (put32 s 508 v) ≡ storedChecksum s
+unfolding storedChecksum
+checksum-put s v = xors-put s v 127 (omega arith)
+
+-- ---- the closing sector
+
+pub closing-length : (s : List ℕ) → length (closingSector s) ≡ length s
+unfolding closingSector
+closing-length s = put-length (asHive s) 508 (storedChecksum (asHive s)) ∙ put-length s 28 0
+
+module _ (s : List ℕ) (n : length s ≡ 512) (h : Bytes s) where
+  -- every number but the type and the checksum is the log's
+  pub closing-u32 : (j : ℕ) → (j + 4 ≤ 28) ⊎ (32 ≤ j) → j + 4 ≤ 508 → u32At (closingSector s) j ≡ u32At s j
+  unfolding closingSector
+  closing-u32 j a b = u32-other (asHive s) 508 (storedChecksum (asHive s)) j (inl b) ∙ u32-other s 28 0 j a
+
+  closing-type : typeOf (closingSector s) ≡ 0
+  unfolding closingSector
+  closing-type = u32-other (asHive s) 508 (storedChecksum (asHive s)) 28 (inl (omega arith)) ∙ u32-same s 28 0 (lit< tt) (omega arith)
+
+  closing-regf : isRegf (closingSector s) ≡ isRegf s
+  unfolding closingSector standsAt
+  closing-regf =
+      ap (λ (x : List ℕ). sameBytes x (114 ∷ 101 ∷ 103 ∷ 102 ∷ []))
+      (put-take (asHive s) 508 (storedChecksum (asHive s)) 4 (omega arith) ∙ put-take s 28 0 4 (omega arith))
+
+  closing-summed : isSummed (closingSector s) ≡ true
+  unfolding closingSector
+  closing-summed =
+      eq-eqb _ _
+      (u32-same (asHive s) 508 (storedChecksum (asHive s)) (checksum-lt (asHive s) (put-bytes s 28 0 h)) (omega (arith, put-length s 28 0))
+      ∙ sym (checksum-put (asHive s) (storedChecksum (asHive s))))
+
+  closing-version : (type : ℕ) → isVersion s type ≡ true → isVersion (closingSector s) 0 ≡ true
+  unfolding isVersion
+  closing-version type e =
+      let w : (j : ℕ) → (j + 4 ≤ 28) ⊎ (32 ≤ j) → j + 4 ≤ 508 → u32At (closingSector s) j ≡ u32At s j = closing-u32 in
+      let a = and-inv (eqb (u32At s 20) 1) _ e in
+      let b = and-inv (leb 3 (minorOf s)) _ (a .1) in
+      let d = and-inv (leb (minorOf s) 5) _ (b .1) in
+      let f = and-inv (eqb (typeOf s) type) _ (d .1) in
+      let g = and-inv (eqb (u32At s 32) 1) _ (f .1) in
+      let minor = w 24 (inl (omega arith)) (omega arith) in
+      and-both (ap (λ (x : ℕ). eqb x 1) (w 20 (inl (omega arith)) (omega arith)) ∙ a .0)
+      (and-both (ap (leb 3) minor ∙ b .0)
+      (and-both (ap (λ (x : ℕ). leb x 5) minor ∙ d .0)
+      (and-both (ap (λ (x : ℕ). eqb x 0) closing-type)
+      (and-both (ap (λ (x : ℕ). eqb x 1) (w 32 (inr (omega arith)) (omega arith)) ∙ g .0)
+      (ap (λ (x : ℕ). eqb x 1) (w 44 (inr (omega arith)) (omega arith)) ∙ g .1)))))
+
+  -- the closing sector of a usable log's base block with equal sequence numbers
+  pub closing-clean : (type : ℕ) → usable s type ≡ true → isSettled s ≡ true → clean (closingSector s) ≡ true
+  unfolding usable clean
+  closing-clean type u e =
+      let a = and-inv (isRegf s) _ u in
+      let b = and-inv (isSummed s) _ (a .1) in
+      let d = and-inv (isVersion s type) _ (b .1) in
+      let first : u32At (closingSector s) 4 ≡ u32At s 4 = closing-u32 4 (inl (omega arith)) (omega arith) in
+      let second : u32At (closingSector s) 8 ≡ u32At s 8 = closing-u32 8 (inl (omega arith)) (omega arith) in
+      and-both
+      (and-both (closing-regf ∙ a .0)
+      (and-both closing-summed
+      (and-both (closing-version type (d .0)) (ap isBinsSize (closing-u32 40 (inr (omega arith)) (omega arith)) ∙ d .1))))
+      (ap₂ eqb first second ∙ e)

@@ -1,0 +1,4 @@
+pub mod Stored
+pub mod Words
+pub mod Closed
+pub mod Pages
