@@ -9,4 +9,5 @@ pub mod Turns
 pub mod Cleared
 pub mod Tiles
 pub mod Mapped
+pub mod Refusals
 pub mod Figures

@@ -8,3 +8,4 @@ pub mod Tests
 pub mod Walks
 pub mod Elements
 pub mod Roots
+pub mod Tells
