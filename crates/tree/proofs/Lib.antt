@@ -9,3 +9,4 @@ pub mod Walks
 pub mod Elements
 pub mod Roots
 pub mod Tells
+pub mod Maps
