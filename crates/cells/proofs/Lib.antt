@@ -10,4 +10,3 @@ pub mod Cleared
 pub mod Tiles
 pub mod Mapped
 pub mod Refusals
-pub mod Figures

@@ -23,19 +23,7 @@ child-capitals = codes true (67 ∷ 72 ∷ 73 ∷ 76 ∷ 68 ∷ [])
 abbrev children : List ℕ
 children = codes true (67 ∷ 104 ∷ 105 ∷ 108 ∷ 100 ∷ 114 ∷ 101 ∷ 110 ∷ [])
 
--- "hash of "A" 65; "ab" 2,471; "child" 129,318,620"
-hash-A : hashOf (codes true (65 ∷ [])) ≡ 65
-unfolding codes uppers upper hashOf mixedAll mixed
-hash-A = refl
-
-hash-ab : hashOf (codes true (97 ∷ 98 ∷ [])) ≡ 2471
-unfolding codes uppers upper hashOf mixedAll mixed
-hash-ab = refl
-
-hash-child : hashOf child ≡ 129318620
-unfolding codes uppers upper hashOf mixedAll mixed
-hash-child = refl
-
+-- UTF-16 storage does not change the hash
 hash-child-16 : hashOf child-16 ≡ 129318620
 unfolding codes uppers upper hashOf mixedAll mixed
 hash-child-16 = refl

