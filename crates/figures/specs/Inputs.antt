@@ -22,3 +22,17 @@ lowest = header ++ (0 ∷ 0 ∷ 0 ∷ 0x80 ∷ replicate 4060 0)
 -- a first sector that gives a bins size in four bytes
 unfoldable pub sized : ℕ → ℕ → ℕ → List ℕ
 sized a b c = replicate 40 0 ++ (a ∷ b ∷ c ∷ 0 ∷ replicate 468 0)
+
+-- the minimal hive: its base block, and one bin with the root, named by one byte
+unfoldable pub baseBlock : List ℕ
+baseBlock =
+    114 ∷ 101 ∷ 103 ∷ 102 ∷ 1 ∷ 0 ∷ 0 ∷ 0 ∷ 1 ∷ 0 ∷ 0 ∷ 0
+    ∷ replicate 8 0 ++ (1 ∷ 0 ∷ 0 ∷ 0 ∷ 5 ∷ 0 ∷ 0 ∷ 0 ∷ 0 ∷ 0 ∷ 0 ∷ 0 ∷ 1 ∷ 0 ∷ 0 ∷ 0 ∷ 32 ∷ 0 ∷ 0 ∷ 0 ∷ 0 ∷ 16 ∷ 0 ∷ 0 ∷ 1 ∷ 0 ∷ 0 ∷ 0
+    ∷ (replicate 460 0 ++ (0x56 ∷ 0x75 ∷ 0x67 ∷ 0x66 ∷ replicate 3584 0)))
+
+-- an `nk` with flags 0x0020, no subkeys, no values, and the name "R"
+unfoldable pub rootCell : List ℕ
+rootCell = 0xa8 ∷ 0xff ∷ 0xff ∷ 0xff ∷ 110 ∷ 107 ∷ 0x20 ∷ 0 ∷ replicate 68 0 ++ (1 ∷ 0 ∷ 0 ∷ 0 ∷ 82 ∷ replicate 7 0)
+
+unfoldable pub minimal : List ℕ
+minimal = baseBlock ++ (header ++ (rootCell ++ (0x88 ∷ 0x0f ∷ 0 ∷ 0 ∷ replicate 3972 0)))

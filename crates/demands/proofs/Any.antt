@@ -1,0 +1,159 @@
+-- Demand 1 is met.
+use Prim.Native.Nat.{ℕ, _+_, _*_, _≤_}
+use native.Mathlib.Omega.{arith}
+use mathlib.Core.Path.{_≡_, refl, sym, ap, _∙_}
+use mathlib.Core.Bool.{Bool, true, false, cond}
+use mathlib.Core.List.{List, _++_}
+use lib.Dec.{leb, ltb}
+use lib.ListN.{length, drop}
+use Rattle.fields.specs.declared.Fault.{Fault}
+use Rattle.fields.specs.declared.Fault.the-variants as named
+use Rattle.fields.specs.declared.Flaw.{Flaw}
+use Rattle.fields.specs.declared.Refusal.{Refusal}
+use Rattle.fields.specs.declared.Verdict.{Verdict}
+use Rattle.fields.specs.declared.Verdict.the-variants.{Sound, Flawed}
+use Rattle.fields.specs.Bytes.{standsAt}
+use Rattle.fields.specs.Faults.{numberOf, flaw, nowhere, unless, _next_, refusalOf}
+use Rattle.base.specs.Block.{sector, clean, binsData}
+use Rattle.tree.proofs.Tells.{check-tells}
+use Rattle.tree.proofs.Maps.{map-untouched, map-zero, map-complete, map-beyond}
+use Rattle.lookup.specs.declared.Copied.the-variants as copied
+use Rattle.lookup.specs.declared.Info.{Info}
+use Rattle.lookup.specs.declared.ValueFound.{ValueFound}
+use Rattle.lookup.specs.declared.ValueFound.the-variants as value
+use Rattle.lookup.specs.Answers.{infoAnswer, copiedTo, copyAnswer, written, copyOut}
+use Rattle.old_log.specs.Layout.{mapSize, isLogged, logBins, loggedCount, dirt}
+use Rattle.old_log.specs.Tests.{isLogBase, pagesFit, headFault, logFault, stampsAgree, allIn}
+use Rattle.recovery.specs.declared.Started.{Started}
+use Rattle.recovery.specs.declared.Started.the-variants as started
+use Rattle.recovery.specs.declared.Stepped.{Stepped}
+use Rattle.recovery.specs.declared.Stepped.the-variants as stepped
+use Rattle.recovery.specs.Calls.{hiveFault, testFault, started as startedBy, startAnswer, tested, changed, pageAnswer, pageHive, closeAnswer, closeHive}
+use Rattle.demands.specs.First.{Demand1}
+
+listed : (f : Fault) → (1 ≤ numberOf f) × (numberOf f ≤ 27)
+listed named.HiveShort = (omega arith, omega arith)
+listed named.NoRegf = (omega arith, omega arith)
+listed named.Checksum = (omega arith, omega arith)
+listed named.Version = (omega arith, omega arith)
+listed named.BinsSize = (omega arith, omega arith)
+listed named.BinsCut = (omega arith, omega arith)
+listed named.Sequences = (omega arith, omega arith)
+listed named.MapSmall = (omega arith, omega arith)
+listed named.BinHeader = (omega arith, omega arith)
+listed named.CellSize = (omega arith, omega arith)
+listed named.NoCell = (omega arith, omega arith)
+listed named.Record = (omega arith, omega arith)
+listed named.Order = (omega arith, omega arith)
+listed named.Parent = (omega arith, omega arith)
+listed named.Level = (omega arith, omega arith)
+listed named.PathParts = (omega arith, omega arith)
+listed named.NoKey = (omega arith, omega arith)
+listed named.NoValue = (omega arith, omega arith)
+listed named.Segmented = (omega arith, omega arith)
+listed named.OutputShort = (omega arith, omega arith)
+listed named.LogBase = (omega arith, omega arith)
+listed named.LogShort = (omega arith, omega arith)
+listed named.NoDirt = (omega arith, omega arith)
+listed named.HiveCut = (omega arith, omega arith)
+listed named.Stamps = (omega arith, omega arith)
+listed named.NotDirty = (omega arith, omega arith)
+listed named.NotIn = (omega arith, omega arith)
+
+-- ---- recovery's places are 0
+
+abbrev Zero : Verdict → Type 0
+Zero v = (f : Flaw) → v ≡ Flawed f → f .place .0 ≡ 0
+
+zero-next : (a b : Verdict) → Zero a → Zero b → Zero (a next b)
+unfolding _next_
+zero-next Sound b p q f e = q f e
+zero-next (Flawed g) b p q f e = p f e
+
+zero-unless : (t : Bool) (n : Fault) → Zero (unless t (flaw n nowhere))
+zero-unless true n f e = absurd (let z : _≡_ {A = ℕ} 0 1 = cc in omega arith)
+zero-unless false n f e = let z : flaw n nowhere ≡ f = cc in ap (λ (x : Flaw). x .place .0) (sym z)
+
+tests-zero : (h l : List ℕ) → Zero (testFault h l)
+unfolding testFault logFault headFault hiveFault
+tests-zero h l =
+    zero-next _ _
+    (zero-next _ _
+    (zero-next _ _ (zero-unless (leb 512 (length l)) named.LogBase)
+    (zero-next _ _ (zero-unless (isLogBase (sector l)) named.LogBase)
+    (zero-next _ _ (zero-unless (leb (516 + mapSize l) (length l)) named.LogShort) (zero-unless (standsAt l 512 dirt) named.NoDirt))))
+    (zero-unless (pagesFit l) named.LogShort))
+    (zero-next _ _ (zero-unless (leb (4096 + logBins l) (length h)) named.HiveCut) (zero-unless (stampsAgree h l) named.Stamps))
+
+start-place : (h l : List ℕ) (r : Refusal) → startAnswer h l ≡ started.Refused r → r .place .0 ≡ 0
+unfolding startAnswer
+start-place h l r e = by (ltb (length h) 4096) (clean (sector h)) (testFault h l) refl e
+  where
+    by : (a b : Bool) (v : Verdict) → testFault h l ≡ v
+        → cond a (started.Refused (refusalOf (flaw named.HiveShort nowhere))) (cond b started.Clean (startedBy v (loggedCount l))) ≡ started.Refused r
+        → r .place .0 ≡ 0
+    by true b v p q = let z : refusalOf (flaw named.HiveShort nowhere) ≡ r = cc in ap (λ (x : Refusal). x .place .0) (sym z)
+    by false true v p q = absurd (let z : _≡_ {A = ℕ} 0 1 = cc in omega arith)
+    by false false Sound p q = absurd (let z : _≡_ {A = ℕ} 0 1 = cc in omega arith)
+    by false false (Flawed f) p q =
+        let z : refusalOf f ≡ r = cc in
+        ap (λ (x : Refusal). x .place .0) (sym z) ∙ tests-zero h l f p
+
+-- a call's own refusal has place 0, and one of the tests' is theirs
+step-place : (h l : List ℕ) (t : Bool) (n : Fault) (r : Refusal)
+    → tested (startAnswer h l) (cond t stepped.Done (stepped.Refused (refusalOf (flaw n nowhere)))) ≡ stepped.Refused r → r .place .0 ≡ 0
+step-place h l t n r e = by (startAnswer h l) refl t e
+  where
+    by : (s : Started) → startAnswer h l ≡ s → (t : Bool) → tested s (cond t stepped.Done (stepped.Refused (refusalOf (flaw n nowhere)))) ≡ stepped.Refused r
+        → r .place .0 ≡ 0
+    by started.Clean p t q = absurd (let z : _≡_ {A = ℕ} 0 1 = cc in omega arith)
+    by (started.Pages k) p true q = absurd (let z : _≡_ {A = ℕ} 0 1 = cc in omega arith)
+    by (started.Pages k) p false q = let z : refusalOf (flaw n nowhere) ≡ r = cc in ap (λ (x : Refusal). x .place .0) (sym z)
+    by (started.Refused s) p t q = let z : s ≡ r = cc in start-place h l r (p ∙ ap started.Refused z)
+
+page-place : (h l : List ℕ) (p : ℕ) (r : Refusal) → pageAnswer h l p ≡ stepped.Refused r → r .place .0 ≡ 0
+unfolding pageAnswer
+page-place h l p r e = step-place h l (isLogged l p) named.NotDirty r e
+
+close-place : (h l : List ℕ) (r : Refusal) → closeAnswer h l ≡ stepped.Refused r → r .place .0 ≡ 0
+unfolding closeAnswer
+close-place h l r e = step-place h l (allIn h l) named.NotIn r e
+
+-- ---- what a refusal leaves
+
+page-stays : (h l : List ℕ) (p : ℕ) (r : Refusal) → pageAnswer h l p ≡ stepped.Refused r → pageHive h l p ≡ h
+unfolding pageHive
+page-stays h l p r e = rw e
+
+close-stays : (h l : List ℕ) (r : Refusal) → closeAnswer h l ≡ stepped.Refused r → closeHive h l ≡ h
+unfolding closeHive
+close-stays h l r e = rw e
+
+copy-stays : (h us x out : List ℕ) (r : Refusal) → copyAnswer h us x (length out) ≡ copied.Refused r → copyOut h us x out ≡ out
+unfolding copyAnswer copyOut
+copy-stays h us x out r e = by (infoAnswer h us x) refl e
+  where
+    by : (v : ValueFound) → infoAnswer h us x ≡ v → copiedTo (length out) v ≡ copied.Refused r → written (binsData h) out v ≡ out
+    by (value.Refused f) p q = refl
+    by (value.At i) p q = fits (leb (i .len) (length out)) refl q
+      where
+        fits : (t : Bool) → leb (i .len) (length out) ≡ t → copiedTo (length out) (value.At i) ≡ copied.Refused r → written (binsData h) out (value.At i) ≡ out
+        fits true s q = absurd (let w = rw s at q in let z : _≡_ {A = ℕ} 0 1 = cc in omega arith)
+        fits false s q = rw s
+
+pub demand1 : Demand1
+demand1 =
+    record {
+      listed = listed;
+      check-place = λ h m r e. check-tells h m e;
+      start-place = start-place;
+      page-place = page-place;
+      close-place = close-place;
+      copy-stays = copy-stays;
+      page-stays = page-stays;
+      close-stays = close-stays;
+      map-untouched = λ h m f e. map-untouched h m e;
+      map-zero = λ h m f e p. map-zero h m e p;
+      map-complete = λ h m t e. map-complete h m e;
+      map-beyond = λ h m t e. map-beyond h m e;
+    }

@@ -1,0 +1,19 @@
+-- Demand 2 is met.
+use Rattle.tree.proofs.Exactly.{accepted-exactly, report-adds, report-counts}
+use Rattle.lookup.proofs.Exact.{find-exactly, find-none, find-malformed}
+use Rattle.recovery.proofs.Accepts.{accepted-exactly as log-exactly}
+use Rattle.recovery.proofs.Repair.{repaired}
+use Rattle.demands.specs.Second.{Demand2}
+
+pub demand2 : Demand2
+demand2 =
+    record {
+      accepted = λ h m room. accepted-exactly h m room;
+      counts = λ h m r e. report-counts h m e;
+      adds = λ h m r e. report-adds h m e;
+      finds = λ h w us p o. find-exactly h w us p o;
+      none = λ h w us p f. find-none h w us p f;
+      malformed = λ h w us p. find-malformed h w us p;
+      log-accepted = λ h l. log-exactly h l;
+      repairs = λ h l n e ps c. repaired h l n e ps c;
+    }

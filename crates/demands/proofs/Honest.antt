@@ -1,0 +1,84 @@
+-- No program that meets its promise commits one of the five frauds.
+use Prim.Native.Nat.{ℕ}
+use native.Mathlib.Omega.{arith}
+use mathlib.Core.Path.{_≡_, refl, sym, ap, _∙_}
+use mathlib.Core.Bool.{true, false}
+use mathlib.Core.List.{List, [], _∷_}
+use lib.ListN.{length, getD, replicate}
+use Rattle.fields.specs.declared.Refusal.{Refusal}
+use Rattle.fields.specs.declared.Fault.the-variants.{HiveShort}
+use Rattle.fields.specs.Number.{u16At, u32At, u64At, sizeAt}
+use Rattle.fields.specs.Bytes.{sameBytes, standsAt}
+use Rattle.fields.specs.Faults.{_next_, faultOver, flaw, nowhere, refusalOf}
+use Rattle.base.specs.Block.{xors, storedChecksum, isVersion, isBinsSize, usable, clean, blockFault, baseFault}
+use Rattle.cells.specs.Tiling.{goodSize, tilingN, tiling, rowOf, binSize, layoutN, layout, addRow, surveyOf}
+use Rattle.cells.specs.Map.{markAt, marks, isBad, marksAll, zeros, mapAfter, bitOf, isMarked}
+use Rattle.cells.specs.Survey.{frontFault, surveyAnswer, mapLeft}
+use Rattle.cells.specs.Named.{isNamed, byHeader, cellOf, cellFault, dataOf, dataAt}
+use Rattle.names.specs.Codes.{codes, charactersIn, hasCode}
+use Rattle.records.specs.Keys.{isKeyName, isKey, keyFault, keyIn, keyOf, codesOf}
+use Rattle.records.specs.Lists.{childrenIn, leavesBelow, childrenBelow, listsFault}
+use Rattle.values.specs.Lists.{valuesOf, valueListFault, valuesFault}
+use Rattle.tree.specs.declared.Checked.{Checked}
+use Rattle.tree.specs.declared.Checked.the-variants as checked
+use Rattle.tree.specs.declared.Report.{Report}
+use Rattle.tree.specs.Tree.{_after_, placeFault, hashFault, levelFault, totalFault, restFault, ownFault, keyCharge, listCharge, treeCharge, joined, keysIn, valuesIn, checkAnswer}
+use Rattle.lookup.specs.declared.KeyFound.{KeyFound}
+use Rattle.lookup.specs.declared.KeyFound.the-variants as found
+use Rattle.lookup.specs.Paths.{split, partsOf, isPart, areParts, isPath, pathFault}
+use Rattle.lookup.specs.Search.{descend, lookupKey}
+use Rattle.lookup.specs.Answers.{openFault, keyLook, findAnswer}
+use Rattle.sectors.specs.Sector.{page}
+use Rattle.bitmap.specs.Bits.{bitsBefore, nextAmong}
+use Rattle.old_log.specs.Layout.{bitmap, isLogged, logged, loggedCount}
+use Rattle.old_log.specs.Tests.{isLogBase, headFault, logFault, stampsAgree}
+use Rattle.recovery.specs.declared.Started.{Started}
+use Rattle.recovery.specs.declared.Started.the-variants as started
+use Rattle.recovery.specs.Calls.{hiveFault, testFault, startAnswer, pageAnswer, pageHive}
+use Rattle.recovery.proofs.Accepts.{start-accepted}
+use Rattle.recovery.proofs.Figures.{head, log, hive, long-log}
+use Rattle.figures.specs.Inputs.{header, baseBlock, rootCell, minimal}
+use Rattle.demands.specs.Frauds.{NoFraud}
+
+-- "The minimal hive below gives exactly: [..] accepted bins 1 keys 1 values 0 used 88 free 3976"
+minimal-accepted : checkAnswer minimal (replicate 64 0) ≡ checked.Accepted (record { bins = 1; keys = 1; values = 0; used = 88; free = 3976 })
+unfolding checkAnswer surveyAnswer mapLeft frontFault baseFault blockFault isVersion isBinsSize storedChecksum xors u32At u16At sizeAt standsAt sameBytes _next_ goodSize tilingN tiling rowOf binSize layoutN layout addRow surveyOf markAt marks isBad marksAll zeros mapAfter bitOf isMarked isNamed byHeader cellOf cellFault dataOf dataAt codes charactersIn hasCode isKeyName isKey keyFault keyIn keyOf codesOf childrenIn leavesBelow childrenBelow listsFault valuesOf valueListFault valuesFault faultOver _after_ placeFault hashFault levelFault totalFault restFault ownFault keyCharge listCharge treeCharge joined keysIn valuesIn header baseBlock rootCell minimal
+minimal-accepted = refl
+
+minimal-root : findAnswer minimal [] ≡ found.At (record { 0 = 32 })
+unfolding findAnswer keyLook openFault lookupKey descend pathFault isPath areParts isPart partsOf split baseFault blockFault isVersion isBinsSize storedChecksum xors u32At u16At sizeAt standsAt sameBytes _next_ goodSize isNamed byHeader cellOf cellFault dataOf dataAt codes charactersIn hasCode isKeyName isKey keyFault header baseBlock rootCell minimal
+minimal-root = refl
+
+nothing-checked : checkAnswer [] [] ≡ checked.Refused (refusalOf (flaw HiveShort nowhere))
+unfolding checkAnswer surveyAnswer frontFault baseFault _next_
+nothing-checked = refl
+
+nothing-found : findAnswer [] [] ≡ found.Refused (refusalOf (flaw HiveShort nowhere))
+unfolding findAnswer keyLook openFault baseFault _next_
+nothing-found = refl
+
+-- the first call of the small repair: a byte of page 0 is the log's, and one of page 15 is still the hive's
+page-zero : getD (pageHive hive (log 512) 0) 4124 0 ≡ 7
+unfolding pageHive pageAnswer startAnswer testFault hiveFault clean hive stampsAgree page logged log head logFault headFault isLogBase usable isVersion isBinsSize storedChecksum xors u64At u32At u16At standsAt sameBytes bitmap bitsBefore nextAmong _next_
+page-zero = refl
+
+page-fifteen : getD (page (pageHive hive (log 512) 0) 15) 0 0 ≡ 0
+unfolding pageHive pageAnswer startAnswer testFault hiveFault clean hive stampsAgree page logged log head logFault headFault isLogBase usable isVersion isBinsSize storedChecksum xors u64At u32At u16At standsAt sameBytes bitmap bitsBefore nextAmong _next_
+page-fifteen = refl
+
+is-fifteen : (isLogged (log 512) 15 ≡ true) × (getD (logged (log 512) 15) 0 0 ≡ 9)
+unfolding logged log head u32At u16At bitmap bitsBefore
+is-fifteen = (refl, refl)
+
+pub no-fraud : NoFraud
+unfolding hive
+no-fraud =
+    record {
+      refuse-hives = λ check p f. let r = f minimal (replicate 64 0) in let e = sym (r .1) ∙ p minimal (replicate 64 0) ∙ minimal-accepted in let z : _≡_ {A = ℕ} 0 1 = cc in omega arith;
+      refuse-logs = λ start p f. let r = f hive (log 512) in let e = sym (r .1) ∙ p hive (log 512) ∙ long-log .1 in let z : _≡_ {A = ℕ} 0 1 = cc in omega arith;
+      constant-key = λ find p a f. let e = sym nothing-found ∙ sym (p [] []) ∙ f [] [] ∙ sym (f minimal []) ∙ p minimal [] ∙ minimal-root in let z : _≡_ {A = ℕ} 0 1 = cc in omega arith;
+      constant-check = λ check p a f. let e = sym nothing-checked ∙ sym (p [] []) ∙ f [] [] ∙ sym (f minimal (replicate 64 0)) ∙ p minimal (replicate 64 0) ∙ minimal-accepted in let z : _≡_ {A = ℕ} 0 1 = cc in omega arith;
+      do-nothing = λ left p f. let e = sym page-zero ∙ ap (λ (x : List ℕ). getD x 4124 0) (sym (p hive (log 512) 0) ∙ f hive (log 512) 0) in let z : _≡_ {A = ℕ} 7 0 = e in omega arith;
+      install-all = λ left p f. let e = sym page-fifteen ∙ ap (λ (x : List ℕ). getD x 0 0) (ap (λ (x : List ℕ). page x 15) (sym (p hive (log 512) 0)) ∙ f hive (log 512) 0 15 (is-fifteen .0)) ∙ is-fifteen .1 in let z : _≡_ {A = ℕ} 0 9 = e in omega arith;
+      invent-pages = λ start p h l n e. sym (start-accepted h l n (sym (p h l) ∙ e) .1);
+    }

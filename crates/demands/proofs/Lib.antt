@@ -1,0 +1,5 @@
+pub mod Any
+pub mod Exactly
+pub mod Power
+pub mod One
+pub mod Honest

@@ -1,0 +1,22 @@
+-- No promise has a second outcome: it is an equation, for the answer and for each byte that is written.
+use mathlib.Core.Path.{_≡_, sym, _∙_}
+use Rattle.demands.specs.Promises.{Unique}
+
+one : {A : Type 0} {a x y : A} → x ≡ a → y ≡ a → x ≡ y
+one p q = p ∙ sym q
+
+pub unique : Unique
+unique =
+    record {
+      survey = λ h m a a′ b b′ p q. (one (p .0) (q .0), one (p .1) (q .1));
+      check = λ h m a a′ b b′ p q. (one (p .0) (q .0), one (p .1) (q .1));
+      find-key = λ h us r r′ p q. one p q;
+      value-info = λ h us x r r′ p q. one p q;
+      view-info = λ h us x r r′ p q. one p q;
+      value-view = λ h us x s s′ p q. one p q;
+      value-copy = λ h us x out a a′ b b′ p q. (one (p .0) (q .0), one (p .1) (q .1));
+      start = λ h l r r′ p q. one p q;
+      page = λ h l n a a′ b b′ p q. (one (p .0) (q .0), one (p .1) (q .1));
+      close = λ h l a a′ b b′ p q. (one (p .0) (q .0), one (p .1) (q .1));
+      next-page = λ l from r r′ p q. one p q;
+    }

@@ -1,0 +1,51 @@
+-- "Every public call's promise determines its answer and each byte of hive, map and output after it, for all inputs; show that no second outcome could
+-- satisfy it." An outcome of each call is its answer and what it was lent to write; its promise is the call's contract.
+use Prim.Native.Nat.{ℕ}
+use mathlib.Core.Path.{_≡_}
+use mathlib.Core.List.{List}
+use lib.ListN.{length}
+use Rattle.cells.specs.declared.Surveyed.{Surveyed}
+use Rattle.cells.specs.Survey.{surveyAnswer, mapLeft}
+use Rattle.tree.specs.declared.Checked.{Checked}
+use Rattle.tree.specs.Tree.{checkAnswer}
+use Rattle.lookup.specs.declared.KeyFound.{KeyFound}
+use Rattle.lookup.specs.declared.ValueFound.{ValueFound}
+use Rattle.lookup.specs.declared.Copied.{Copied}
+use Rattle.lookup.specs.Answers.{findAnswer, infoAnswer, viewAnswer, viewBytes, copyAnswer, copyOut}
+use Rattle.recovery.specs.declared.Started.{Started}
+use Rattle.recovery.specs.declared.Stepped.{Stepped}
+use Rattle.recovery.specs.declared.NextPage.{NextPage}
+use Rattle.recovery.specs.Calls.{startAnswer, pageAnswer, pageHive, closeAnswer, closeHive, nextAnswer}
+
+-- a promise that no two outcomes satisfy
+abbrev pub Determines : {A B : Type 0} → (A → B → Type 0) → Type 0
+Determines {A} {B} promise = (a a′ : A) (b b′ : B) → promise a b → promise a′ b′ → (a ≡ a′) × (b ≡ b′)
+
+-- the promises: an answer and what is written
+abbrev pub Surveys : List ℕ → List ℕ → Surveyed → List ℕ → Type 0
+Surveys h m r after = (r ≡ surveyAnswer h (length m)) × (after ≡ mapLeft h m)
+
+abbrev pub Checks : List ℕ → List ℕ → Checked → List ℕ → Type 0
+Checks h m r after = (r ≡ checkAnswer h m) × (after ≡ mapLeft h m)
+
+abbrev pub Copies : List ℕ → List ℕ → List ℕ → List ℕ → Copied → List ℕ → Type 0
+Copies h us x out r after = (r ≡ copyAnswer h us x (length out)) × (after ≡ copyOut h us x out)
+
+abbrev pub Pages : List ℕ → List ℕ → ℕ → Stepped → List ℕ → Type 0
+Pages h l p r after = (r ≡ pageAnswer h l p) × (after ≡ pageHive h l p)
+
+abbrev pub Closes : List ℕ → List ℕ → Stepped → List ℕ → Type 0
+Closes h l r after = (r ≡ closeAnswer h l) × (after ≡ closeHive h l)
+
+pub record Unique : Type 0 where
+  pub survey : (h m : List ℕ) → Determines (Surveys h m)
+  pub check : (h m : List ℕ) → Determines (Checks h m)
+  pub find-key : (h us : List ℕ) (r r′ : KeyFound) → r ≡ findAnswer h us → r′ ≡ findAnswer h us → r ≡ r′
+  pub value-info : (h us x : List ℕ) (r r′ : ValueFound) → r ≡ infoAnswer h us x → r′ ≡ infoAnswer h us x → r ≡ r′
+  pub view-info : (h us x : List ℕ) (r r′ : ValueFound) → r ≡ viewAnswer h us x → r′ ≡ viewAnswer h us x → r ≡ r′
+  pub value-view : (h us x s s′ : List ℕ) → s ≡ viewBytes h us x → s′ ≡ viewBytes h us x → s ≡ s′
+  pub value-copy : (h us x out : List ℕ) → Determines (Copies h us x out)
+  pub start : (h l : List ℕ) (r r′ : Started) → r ≡ startAnswer h l → r′ ≡ startAnswer h l → r ≡ r′
+  pub page : (h l : List ℕ) (p : ℕ) → Determines (Pages h l p)
+  pub close : (h l : List ℕ) → Determines (Closes h l)
+  pub next-page : (l : List ℕ) (from : ℕ) (r r′ : NextPage) → r ≡ nextAnswer l from → r′ ≡ nextAnswer l from → r ≡ r′

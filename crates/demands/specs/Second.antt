@@ -1,0 +1,49 @@
+-- Demand 2. "Exactly."
+use Prim.Native.Nat.{ℕ, _+_, _*_, _/_, _≤_}
+use mathlib.Core.Path.{_≡_}
+use mathlib.Core.Bool.{true, false}
+use mathlib.Core.Logic.{_↔_}
+use mathlib.Core.List.{List}
+use lib.ListN.{length}
+use Rattle.fields.specs.declared.Fault.the-variants.{PathParts, NoKey}
+use Rattle.fields.specs.declared.Offset.{Offset}
+use Rattle.fields.specs.Faults.{flaw, nowhere, refusalOf}
+use Rattle.base.specs.Block.{sector, binsOf, minorOf, binsData}
+use Rattle.records.specs.declared.Key.{Key}
+use Rattle.records.specs.Keys.{keyOf}
+use Rattle.values.specs.Records.{dataIn}
+use Rattle.values.specs.Segments.{dataFault, bytesOf}
+use Rattle.values.specs.Lists.{valuesOf}
+use Rattle.tree.specs.declared.Checked.the-variants as checked
+use Rattle.tree.specs.declared.Report.{Report}
+use Rattle.tree.specs.Tree.{hiveOf, keysOf, valuesIn, checkAnswer}
+use Rattle.tree.specs.WellFormed.{CleanAndWellFormed}
+use Rattle.lookup.specs.declared.KeyFound.the-variants as found
+use Rattle.lookup.specs.Paths.{isPath, partsOf}
+use Rattle.lookup.specs.Answers.{findAnswer}
+use Rattle.lookup.specs.Reach.{Holds}
+use Rattle.old_log.specs.Layout.{loggedCount}
+use Rattle.recovery.specs.declared.Started.the-variants as started
+use Rattle.recovery.specs.Calls.{startAnswer}
+use Rattle.recovery.specs.Accepted.{Accepted}
+use Rattle.recovery.specs.Finished.{Covers, Repaired}
+
+pub record Demand2 : Type 0 where
+  -- "With a large enough work map, a hive is accepted exactly when it is clean and well formed (cells tile the bins; the keys reached from the root form a
+  -- sorted tree)."
+  pub accepted : (h m : List ℕ) → binsOf (sector h) / 64 ≤ length m → ((r : Report) × (checkAnswer h m ≡ checked.Accepted r)) ↔ CleanAndWellFormed h
+  -- the report: "keys reached, values (one for each value list element of those keys)", and "32 x bins + used + free = bins size"
+  pub counts : (h m : List ℕ) (r : Report) → checkAnswer h m ≡ checked.Accepted r
+      → (r .keys ≡ length (keysOf h)) × (r .values ≡ valuesIn (binsData h) (keysOf h))
+  pub adds : (h m : List ℕ) (r : Report) → checkAnswer h m ≡ checked.Accepted r → 32 * r .bins + r .used + r .free ≡ binsOf (sector h)
+  -- "In an accepted hive a path finds its key and is refused exactly if the tree holds none"
+  pub finds : (h : List ℕ) → CleanAndWellFormed h → (us : List ℕ) → isPath us ≡ true → (o : Offset)
+      → (findAnswer h us ≡ found.At o) ↔ Holds (binsData h) (hiveOf h .root) (partsOf us) o
+  pub none : (h : List ℕ) → CleanAndWellFormed h → (us : List ℕ) → isPath us ≡ true
+      → ((o : Offset) → Holds (binsData h) (hiveOf h .root) (partsOf us) o → ⊥) → findAnswer h us ≡ found.Refused (refusalOf (flaw NoKey nowhere))
+  pub malformed : (h : List ℕ) → CleanAndWellFormed h → (us : List ℕ) → isPath us ≡ false
+      → findAnswer h us ≡ found.Refused (refusalOf (flaw PathParts nowhere))
+  -- "A log is accepted exactly when no listed fault exists"
+  pub log-accepted : (h l : List ℕ) → (startAnswer h l ≡ started.Pages (loggedCount l)) ↔ Accepted h l
+  -- "recovery puts each logged page in place, then rewrites the first sector, and touches nothing else"
+  pub repairs : (h l : List ℕ) (n : ℕ) → startAnswer h l ≡ started.Pages n → (ps : List ℕ) → Covers l ps → Repaired h l ps
