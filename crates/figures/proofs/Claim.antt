@@ -21,18 +21,11 @@ use Rattle.sectors.specs.Sector.{page}
 use Rattle.bitmap.specs.Bits.{bitsBefore, nextAmong}
 use Rattle.old_log.specs.Layout.{bitmap, logged}
 use Rattle.old_log.specs.Tests.{isLogBase, headFault, logFault, stampsAgree}
+use Rattle.old_log.proofs.Same.{same-true}
 use Rattle.recovery.specs.Calls.{hiveFault, testFault, startAnswer, nextAnswer}
 use Rattle.recovery.proofs.Figures.{head, log, hive}
 use Rattle.figures.specs.Inputs.{bare, header, oneBin, lowest, sized}
 use Rattle.figures.specs.Table.{surveyNumbers, startNumbers, nextNumbers, Figure, table, Figures}
-
--- `sameBytes` is equality
-same-is : (xs ys : List ℕ) → sameBytes xs ys ≡ true → xs ≡ ys
-unfolding sameBytes
-same-is [] [] e = refl
-same-is [] (y ∷ ys) e = absurd (let z : _≡_ {A = ℕ} 0 1 = cc in omega arith)
-same-is (x ∷ xs) [] e = absurd (let z : _≡_ {A = ℕ} 0 1 = cc in omega arith)
-same-is (x ∷ xs) (y ∷ ys) e = let p = and-inv (eqb x y) _ e in ap₂ _∷_ (eqb-true x y (p .0)) (same-is xs ys (p .1))
 
 -- the test over a table
 right : List Figure → Bool
@@ -45,7 +38,7 @@ unfolding right
 rule [] e f i = absurd (List·Memᴰ·not-nil i)
 rule (g ∷ fs) e f i =
     let p = and-inv (sameBytes (g .computed) (g .stated)) _ e in
-    ⊎-elim (λ q. subst (λ (x : Figure). x .computed ≡ x .stated) (sym q) (same-is (g .computed) (g .stated) (p .0))) (λ j. rule fs (p .1) f j)
+    ⊎-elim (λ q. subst (λ (x : Figure). x .computed ≡ x .stated) (sym q) (same-true (g .computed) (g .stated) (p .0))) (λ j. rule fs (p .1) f j)
     (List·Memᴰ·cases-cons i)
 
 computed : right table ≡ true

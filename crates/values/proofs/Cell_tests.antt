@@ -17,6 +17,7 @@ use Rattle.cells.specs.declared.Found.{Found}
 use Rattle.cells.specs.declared.Found.the-variants.{Named, Missing}
 use Rattle.cells.specs.declared.Rule.{Rule}
 use Rattle.cells.specs.declared.Rule.the-variants.{Header}
+use Rattle.records.proofs.LawsRecord.{header-cell}
 use Rattle.cells.specs.Named.{cellOf, cellFault, dataOf, dataAt}
 use Rattle.cells.proofs.Naming.{Names, by-either, cell-sound, cell-flawed, cell-data-at, sound-names, cell-fault-is}
 
@@ -50,14 +51,6 @@ carries-over each other [] p e = refl
 carries-over each other (x ∷ xs) p e =
     carries-next (each x) (faultOver each xs) (other x) (faultOver other xs) (p x) (carries-over each other xs p) e
 
-pub cell-by-header : (rule : Rule) (d m n : List ℕ) (o : Offset) → cellFault rule d m o ≡ Sound → cellFault Header d n o ≡ Sound
-unfolding cellFault cellOf
-cell-by-header rule d m n o e = by (cellOf rule d m o) refl
-  where
-    by : (f : Found) → cellOf rule d m o ≡ f → cellFault Header d n o ≡ Sound
-    by (Named c) p = cell-sound Header d n o (by-either d o rule m p)
-    by (Missing f) p = let z : _≡_ {A = ℕ} 0 1 = cc in absurd (omega arith)
-
 -- ---- a test of a cell's data
 
 abbrev pub testFault : (List ℕ → Bool) → Rule → List ℕ → List ℕ → Offset → Verdict
@@ -87,4 +80,4 @@ module _ (test : List ℕ → Bool) (rule : Rule) (d m : List ℕ) (o : Offset) 
       by false = λ f e. inr (let q : flaw Record o ≡ f = cc in ap (λ (x : Flaw). x .fault) (sym q))
 
   pub by-header : (n : List ℕ) → testFault test rule d m o ≡ Sound → testFault test Header d n o ≡ Sound
-  by-header n = carries-next (cellFault rule d m o) _ (cellFault Header d n o) _ (cell-by-header rule d m n o) (λ e. e)
+  by-header n = carries-next (cellFault rule d m o) _ (cellFault Header d n o) _ (header-cell rule d m n o) (λ e. e)

@@ -1,15 +1,14 @@
--- Offsets that stand one after the other: how many, each one, and the same ones in a part of the bytes.
-use Prim.Native.Nat.{ℕ, zero, suc, _+_, _*_, _<_, _≤_}
+-- Offsets that stand one after the other: the same ones in a part of the bytes.
+use Prim.Native.Nat.{ℕ, zero, suc, _+_, _*_, _≤_}
 use native.Mathlib.Omega.{arith}
 use native.Mathlib.Nat.{add-assoc}
 use mathlib.Core.Path.{_≡_, refl, ap, ap₂, _∙_}
 use mathlib.Core.List.{List, _∷_}
-use lib.ListN.{length, getD, take, drop}
+use lib.ListN.{getD, take, drop}
 use lib.Seq.{getD-take, getD-drop}
 use Rattle.fields.specs.declared.Offset.{Offset}
 use Rattle.fields.specs.Number.{u16At, u32At}
-use Rattle.fields.specs.Faults.{nowhere}
-use Rattle.records.specs.Offsets.{offsetAt, offsetsAt}
+use Rattle.records.specs.Offsets.{offsetsAt}
 
 -- a number in a part of the bytes
 pub u16-take : (k p : ℕ) (s : List ℕ) → p + 2 ≤ k → u16At (take k s) p ≡ u16At s p
@@ -29,19 +28,6 @@ unfolding u32At
 u32-drop a p s = rw (u16-drop a p s, u16-drop a (p + 2) s, add-assoc a p 2)
 
 -- the offsets
-pub offsets-length : (r : List ℕ) (p n : ℕ) → length (offsetsAt r p n) ≡ n
-unfolding offsetsAt
-offsets-length r p zero = refl
-offsets-length r p (suc n) = ap suc (offsets-length r (p + 4) n)
-
-pub offsets-at : (r : List ℕ) (p n i : ℕ) → i < n → getD (offsetsAt r p n) i nowhere ≡ offsetAt r (p + 4 * i)
-unfolding offsetsAt
-offsets-at r p zero i h = absurd (omega arith)
-offsets-at r p (suc n) zero h = let e : p ≡ p + 4 * 0 = omega arith in ap (offsetAt r) e
-offsets-at r p (suc n) (suc i) h =
-    let e : p + 4 + 4 * i ≡ p + 4 * suc i = omega arith in
-    offsets-at r (p + 4) n i (omega arith) ∙ ap (offsetAt r) e
-
 pub offsets-take : (k p n : ℕ) (s : List ℕ) → p + 4 * n ≤ k → offsetsAt (take k s) p n ≡ offsetsAt s p n
 unfolding offsetsAt
 offsets-take k p zero s h = refl

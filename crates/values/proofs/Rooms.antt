@@ -24,7 +24,8 @@ use Rattle.values.specs.declared.Entries.{Entries}
 use Rattle.values.specs.Entries.{entriesAt, entriesOf}
 use Rattle.values.specs.Segments.{roomFault}
 use Rattle.values.proofs.Cell_tests.{lacks, passes, refuses, says}
-use Rattle.values.proofs.Offset_list.{offsets-length, offsets-at, offsets-take, offsets-drop}
+use Rattle.records.proofs.LawsSequence.{offsets-length, offsets-at}
+use Rattle.values.proofs.Offset_list.{offsets-take, offsets-drop}
 
 module _ (rule : Rule) (d m : List ℕ) (o : Offset) (n : ℕ) where
   pub room-lacks : {f : Flaw} → cellOf rule d m o ≡ Missing f → roomFault rule d m o n ≡ Flawed f
@@ -87,7 +88,7 @@ module _ (d : List ℕ) (e : Entries) where
 
   pub entries-at : (i : ℕ) → i < e .count → getD (entriesOf d e) i nowhere ≡ offsetAt d (e .at + 4 * i)
   unfolding entriesOf
-  entries-at i p = offsets-at d (e .at) (e .count) i p
+  entries-at i p = offsets-at d (e .at) (e .count) i nowhere p
 
 pub offsets-within : (d : List ℕ) (o : Offset) (n : ℕ) → Roomy d o (4 * n) → offsetsAt (dataAt d o) 0 n ≡ entriesOf d (entriesAt o n)
 unfolding entriesOf

@@ -12,7 +12,6 @@ ghost use lib.ListN.{length, getD, drop};
 ghost use lib.Seq.{paste};
 ghost use Rattle.fields.specs.Faults.{nowhere, faultOver};
 ghost use Rattle.base.specs.Block.{binsLimit};
-ghost use Rattle.records.specs.Keys.{isWhole};
 ghost use Rattle.records.specs.Offsets.{offsetAt};
 ghost use Rattle.values.specs.Records.{isValueName, isDataSize, valueNarrow, isValue, valueFault, isSegmented, contentOf, fieldsOf, valueOf, valued};
 ghost use Rattle.values.specs.Entries.{entriesAt, Room, entriesOf, listing};
@@ -20,21 +19,11 @@ ghost use Rattle.values.specs.Segments.{roomFault, segmentsFor, isDb, se
 ghost use Rattle.values.specs.Parts.{partOf, Lies, SegmentsLie};
 ghost use Rattle.values.specs.Lists.{valueListFault, valueEntries, wholeValueFault, valuesFault};
 
-// "even bytes if UTF-16"
-fn is_whole(len: usize, narrow: bool) -> bool
-    ensures { λ r. ⌜ r ≡ isWhole len narrow ⌝ }
-{
-    if narrow {
-        return true;
-    }
-    len % 2 == 0
-}
-
 // "at most 16,383 characters, even bytes if UTF-16"
 fn is_value_name(len: usize, narrow: bool) -> bool
     ensures { λ r. ⌜ r ≡ isValueName len narrow ⌝ }
 {
-    if !is_whole(len, narrow) {
+    if !records::is_whole(len, narrow) {
         return false;
     }
     names::characters(len, narrow) <= 16383
