@@ -26,12 +26,10 @@ use Rattle.records.specs.declared.Child.{Child}
 use Rattle.records.specs.declared.Key.{Key}
 use Rattle.records.specs.Keys.{keyFault, keyOf, codesOf}
 use Rattle.records.specs.Lists.{childrenBelow, children}
-use Rattle.tree.specs.declared.Charge.{Charge}
-use Rattle.tree.specs.declared.Charge.the-variants.{Free, Of}
 use Rattle.tree.specs.declared.Hive.{Hive}
 use Rattle.tree.specs.declared.Listed.{Listed}
 use Rattle.tree.specs.declared.Listed.the-variants.{Start, First, After}
-use Rattle.tree.specs.Tree.{_after_, chargeOf, nameAt, parentFault, isBefore, orderFault, placeFault, hashFault, levelFault, totalFault, ownFault, keyCharge, listCharge, treeCharge, levels, hiveOf, rootChild}
+use Rattle.tree.specs.Tree.{Charge, Free, Of, _after_, chargeOf, nameAt, parentFault, isBefore, orderFault, placeFault, hashFault, levelFault, totalFault, restFault, ownFault, keyCharge, listCharge, treeCharge, levels, hiveOf, rootChild}
 use Rattle.tree.specs.WellFormed.{KeyStands, ChildStands, Ascends, none, more, TreeStands, key}
 use Rattle.tree.proofs.Stands.{values-of, of-values, lists-of, of-lists, key-of, of-key}
 use Rattle.tree.proofs.Charges.{both-free, free, Own, own-parts, level-zero, key-parts, key-zero, key-free, lists-free, tree-free}
@@ -175,7 +173,7 @@ module _ (d m : List ℕ) (hive : Hive) (tiles : BinsTile d 0) (mapped : Mapped 
 
   of-stands : (n : ℕ) (c : Child) (l : Listed) → KeyStands d (hive .minor) (c .at) → placeFault d (hive .root) (keyOf d (c .at)) (c .at) l ≡ Sound
       → hashFault d (keyOf d (c .at)) c ≡ Sound → keyCharge d m hive (suc n) c l ≡ Free
-  unfolding keyCharge ownFault levelFault
+  unfolding keyCharge ownFault restFault levelFault
   of-stands n c l s p h =
       free _ _ (ap chargeOf (of-key Map d m (in-use-sound d tiles m mapped) (c .at) (s .in-use) (s .record-good)))
       (ap chargeOf

@@ -16,12 +16,10 @@ use Rattle.records.specs.declared.Key.{Key}
 use Rattle.records.specs.Keys.{keyFault, keyOf}
 use Rattle.records.specs.Lists.{children, listsFault}
 use Rattle.values.specs.Lists.{valuesFault}
-use Rattle.tree.specs.declared.Charge.{Charge}
-use Rattle.tree.specs.declared.Charge.the-variants.{Free, Of}
 use Rattle.tree.specs.declared.Hive.{Hive}
 use Rattle.tree.specs.declared.Listed.{Listed}
 use Rattle.tree.specs.declared.Listed.the-variants.{Start, First, After}
-use Rattle.tree.specs.Tree.{_after_, chargeOf, placeFault, hashFault, levelFault, totalFault, ownFault, keyCharge, listCharge, treeCharge}
+use Rattle.tree.specs.Tree.{Charge, Free, Of, _after_, chargeOf, placeFault, hashFault, levelFault, totalFault, restFault, ownFault, keyCharge, listCharge, treeCharge}
 
 pub both-free : (a b : Charge) → a after b ≡ Free → (a ≡ Free) × (b ≡ Free)
 unfolding _after_
@@ -52,7 +50,7 @@ pub record Own (d m : List ℕ) (hive : Hive) (n : ℕ) (k : Key) (c : Child) (l
 
 module _ (d m : List ℕ) (hive : Hive) where
   pub own-parts : (n : ℕ) (k : Key) (c : Child) (l : Listed) → ownFault d m hive n k c l ≡ Sound → Own d m hive n k c l
-  unfolding ownFault
+  unfolding ownFault restFault
   own-parts n k c l e =
       let p = both (placeFault d (hive .root) k (c .at) l) _ e in
       let h = both (hashFault d k c) _ (p .1) in

@@ -16,12 +16,10 @@ use Rattle.cells.specs.Survey.{frontFault, surveyAnswer, mapLeft}
 use Rattle.cells.proofs.Fronts.{front-facts, front-good, survey-on}
 use Rattle.cells.proofs.Tiles.{tiled-exactly}
 use Rattle.cells.proofs.Mapped.{After, surveyed}
-use Rattle.tree.specs.declared.Charge.{Charge}
-use Rattle.tree.specs.declared.Charge.the-variants.{Free, Of}
 use Rattle.tree.specs.declared.Checked.the-variants.{Accepted, Refused}
 use Rattle.tree.specs.declared.Listed.the-variants.{Start}
 use Rattle.tree.specs.declared.Report.{Report}
-use Rattle.tree.specs.Tree.{treeCharge, answer, onTiled, levels, hiveOf, rootChild, keysOf, valuesIn, reportOf, checkAnswer}
+use Rattle.tree.specs.Tree.{Charge, Free, Of, treeCharge, answer, onTiled, levels, hiveOf, rootChild, keysOf, valuesIn, reportOf, checkAnswer}
 use Rattle.tree.specs.WellFormed.{WellFormed, CleanAndWellFormed}
 use Rattle.tree.proofs.Accepted.{root-stands, root-free}
 

@@ -4,3 +4,4 @@ pub mod Accepted
 pub mod Once
 pub mod Counted
 pub mod Exactly
+pub mod Tests

@@ -27,7 +27,7 @@ use Rattle.values.specs.declared.Segment.{Segment}
 use Rattle.values.specs.declared.ValueData.{ValueData}
 use Rattle.values.specs.declared.ValueData.the-variants.{Inline, OneCell, Segments}
 use Rattle.values.specs.Records.{isValue, valueFault, dataIn}
-use Rattle.values.specs.Segments.{roomFault, segmentsFor, isDb, dbFault, segmentList, segmentsOf, segmentFault, segmentsFault, dataFault}
+use Rattle.values.specs.Segments.{roomFault, segmentsFor, isDb, dbFault, segmentList, segmentsOf, segmentFault, segmentListFault, segmentsFault, dataFault}
 use Rattle.values.specs.Lists.{valuesOf, valueListFault, wholeValueFault, valuesFault}
 use Rattle.tree.specs.WellFormed.{Room, Segmented, DataStands, ValueStands, ValuesStand, LeafStands, ListStands}
 
@@ -53,11 +53,10 @@ module _ (r : Rule) (d m : List ℕ) (named : (o : Offset) → InUse d o → cel
   of-room o n r = of-cell o (leb n (length (dataAt d o))) (flaw Record o) (r .in-use) (le-leb _ _ (r .room))
 
   pub of-segments : (o : Offset) (n : ℕ) → Segmented d o n → segmentsFault r d m o n ≡ Sound
-  unfolding segmentsFault dbFault segmentFault
+  unfolding segmentsFault segmentListFault dbFault segmentFault
   of-segments o n s =
-      sound _ _ (of-cell o (isDb (dataAt d o) n) (flaw Record o) (s .in-use) (s .db))
-      (sound _ _ (of-room _ _ (s .list))
-      (each-over (segmentFault r d m) (segmentsOf d o n) (λ x i. of-room (x .at) (x .len) (s .each x i))))
+      sound _ _ (sound _ _ (of-cell o (isDb (dataAt d o) n) (flaw Record o) (s .in-use) (s .db)) (of-room _ _ (s .list)))
+      (each-over (segmentFault r d m) (segmentsOf d o n) (λ x i. of-room (x .at) (x .len) (s .each x i)))
 
   pub of-data : (x : ValueData) → DataStands d x → dataFault r d m x ≡ Sound
   unfolding dataFault
@@ -109,16 +108,16 @@ module _ (d m : List ℕ) (tiles : BinsTile d 0) (mapped : Mapped d m) where
   room-of o n e = let x = cell-of o (leb n (length (dataAt d o))) (flaw Record o) e in record { in-use = x .0; room = leb-true _ _ (x .1) }
 
   segments-of : (o : Offset) (n : ℕ) → segmentsFault Map d m o n ≡ Sound → Segmented d o n
-  unfolding segmentsFault dbFault segmentFault
+  unfolding segmentsFault segmentListFault dbFault segmentFault
   segments-of o n e =
-      let x = both (dbFault Map d m o n) _ e in
-      let y = both (roomFault Map d m (segmentList d o) (4 * segmentsFor n)) _ (x .1) in
-      let z = cell-of o (isDb (dataAt d o) n) (flaw Record o) (x .0) in
+      let x = both (segmentListFault Map d m o n) _ e in
+      let y = both (dbFault Map d m o n) _ (x .0) in
+      let z = cell-of o (isDb (dataAt d o) n) (flaw Record o) (y .0) in
       record {
         in-use = z .0;
         db = z .1;
-        list = room-of _ _ (y .0);
-        each = λ s i. room-of (s .at) (s .len) (over-each (segmentFault Map d m) (segmentsOf d o n) (y .1) s i);
+        list = room-of _ _ (y .1);
+        each = λ s i. room-of (s .at) (s .len) (over-each (segmentFault Map d m) (segmentsOf d o n) (x .1) s i);
       }
 
   data-of : (x : ValueData) → dataFault Map d m x ≡ Sound → DataStands d x

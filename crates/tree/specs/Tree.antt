@@ -27,8 +27,6 @@ use Rattle.records.specs.declared.Key.{Key}
 use Rattle.records.specs.Keys.{keyFault, keyOf, codesOf}
 use Rattle.records.specs.Lists.{childrenBelow, children, listsFault}
 use Rattle.values.specs.Lists.{valuesFault}
-use Rattle.tree.specs.declared.Charge.{Charge}
-use Rattle.tree.specs.declared.Charge.the-variants.{Free, Of}
 use Rattle.tree.specs.declared.Checked.{Checked}
 use Rattle.tree.specs.declared.Checked.the-variants.{Accepted, Refused}
 use Rattle.tree.specs.declared.Count.{Count}
@@ -38,6 +36,11 @@ use Rattle.tree.specs.declared.Listed.the-variants.{Start, First, After}
 use Rattle.tree.specs.declared.Report.{Report}
 use Rattle.tree.specs.declared.Walk.{Walk}
 use Rattle.tree.specs.declared.Walk.the-variants.{Counted, Refused as Stopped}
+
+-- a refusal, or none
+pub data Charge : Type 0 where
+  Free : Charge
+  Of : Refusal → Charge
 
 -- a flaw as a refusal: each key's tests are charged in two groups, its own record and the rest
 abbrev pub chargeOf : Verdict → Charge
@@ -88,15 +91,20 @@ levelFault (suc n) at = Sound
 unfoldable pub totalFault : List ℕ → Key → Offset → Verdict
 totalFault d k at = unless (eqb (length (childrenBelow d k)) (k .subkeys)) (flaw Parent at)
 
--- all of a key's tests but that of its record, with so many levels left
+-- "level; values in order with their data; all its lists and the total", with so many levels left
+unfoldable pub restFault : List ℕ → List ℕ → ℕ → ℕ → Key → Offset → Verdict
+restFault d m minor n k at =
+    levelFault n at
+    next valuesFault Map d m minor k
+    next listsFault Map d m k
+    next totalFault d k at
+
+-- all of a key's tests but that of its record
 unfoldable pub ownFault : List ℕ → List ℕ → Hive → ℕ → Key → Child → Listed → Verdict
 ownFault d m hive n k c l =
     placeFault d (hive .root) k (c .at) l
     next hashFault d k c
-    next levelFault n (c .at)
-    next valuesFault Map d m (hive .minor) k
-    next listsFault Map d m k
-    next totalFault d k (c .at)
+    next restFault d m (hive .minor) n k (c .at)
 
 unfoldable pub keyCharge : List ℕ → List ℕ → Hive → ℕ → Child → Listed → Charge
 keyCharge d m hive n c l = chargeOf (keyFault Map d m (c .at)) after chargeOf (ownFault d m hive n (keyOf d (c .at)) c l)

@@ -2,6 +2,8 @@
 use fields::Offset;
 use fields::Refusal;
 ghost use mathlib.Core.Path.{_≡_};
+ghost use Prim.Native.Nat.{_+_, _≤_};
+ghost use lib.ListN.{length};
 
 // "The check reports bins, keys reached, values (one for each value list element of those keys), used bytes and free bytes"
 pub struct Report {
@@ -41,8 +43,3 @@ pub enum Walk {
     Refused(Refusal),
 }
 
-// A refusal, or none.
-pub enum Charge {
-    Free,
-    Of(Refusal),
-}
