@@ -10,4 +10,6 @@ pub mod Value_searches
 pub mod Value_answers
 pub mod Answered
 pub mod Exact
+pub mod Listed
+pub mod Agree
 pub mod ValueFinds
