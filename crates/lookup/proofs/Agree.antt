@@ -1,32 +1,27 @@
 -- On any bytes: a view and a copy agree, a refusal changes nothing, and a copy changes exactly the first bytes of its output.
-use Prim.Native.Nat.{ℕ, _+_, _-_, _≤_, _<_}
+use Prim.Native.Nat.{ℕ, _+_, _-_, _≤_}
 use native.Mathlib.Omega.{arith}
-use mathlib.Core.Path.{_≡_, refl, sym, ap, ap₂, _∙_}
-use mathlib.Core.Bool.{Bool, true, false, cond}
-use mathlib.Core.List.{List, [], _++_, append-nil}
+use mathlib.Core.Path.{_≡_, refl, sym, ap, _∙_}
+use mathlib.Core.Bool.{Bool, true, false}
+use mathlib.Core.List.{List, _++_, append-nil}
 use lib.Dec.{leb}
 use lib.ListN.{length, take, drop, length-append, length-drop}
 use lib.Seq.{take-at, drop-at}
 use borrow.Author.Tests.{leb-true}
 use Rattle.fields.specs.declared.Offset.{Offset}
 use Rattle.fields.specs.declared.Refusal.{Refusal}
-use Rattle.fields.specs.declared.Verdict.the-variants.{Sound}
-use Rattle.fields.specs.Faults.{_next_}
-use Rattle.fields.proofs.Firsts.{both}
 use Rattle.fields.proofs.Loops.{drop-all}
-use Rattle.base.specs.Block.{sector, minorOf, binsData}
+use Rattle.base.specs.Block.{binsData}
 use Rattle.values.specs.declared.ValueData.{ValueData}
 use Rattle.values.specs.declared.ValueData.the-variants.{Segments}
 use Rattle.values.specs.Segments.{segmentsOf, joinedBytes, bytesOf}
 use Rattle.values.proofs.LawsData.{bytes-length}
-use Rattle.lookup.specs.declared.Copied.{Copied}
 use Rattle.lookup.specs.declared.Copied.the-variants.{Done, Refused as Uncopied}
 use Rattle.lookup.specs.declared.Info.{Info}
 use Rattle.lookup.specs.declared.ValueFound.{ValueFound}
 use Rattle.lookup.specs.declared.ValueFound.the-variants.{At, Refused}
 use Rattle.lookup.specs.Answers.{infoAnswer, viewAnswer, viewBytes, copiedTo, copyAnswer, copyOut}
-use Rattle.lookup.proofs.Value_answers.{where-sound}
-use Rattle.lookup.proofs.Answered.{Answered, info-answered, view-answered, view-shown, view-part, copy-refused, copy-untouched, copy-short, short-untouched, copy-done, copy-written, view-info-same}
+use Rattle.lookup.proofs.Answered.{info-answered, view-answered, view-shown, view-part, copy-written, view-info-same}
 
 -- what a copy that is done says
 done-is : (n : ℕ) (i : Info) {k : ℕ} → copiedTo n (At i) ≡ Done k → (i .len ≤ n) × (i .len ≡ k)

@@ -68,7 +68,7 @@ pub record Answered (h us x : List ℕ) (i : Info) : Type 0 where
   pub long : i .len ≡ lengthOf (i .content)
   pub place : i .at ≡ placeIn (i .content)
 
-content-as : (d : List ℕ) (minor : ℕ) (i : Info) (v : Offset) → infoOf (valueOf d minor v) ≡ i → i .content ≡ dataIn d minor v
+pub content-as : (d : List ℕ) (minor : ℕ) (i : Info) (v : Offset) → infoOf (valueOf d minor v) ≡ i → i .content ≡ dataIn d minor v
 unfolding infoOf valueOf fieldsOf dataIn
 content-as d minor i v q = sym (ap (λ (j : Info). j .content) q)
 

@@ -12,4 +12,6 @@ pub mod Answered
 pub mod Exact
 pub mod Listed
 pub mod Agree
+pub mod In_accepted
+pub mod Refusals
 pub mod ValueFinds

@@ -1,7 +1,7 @@
 -- "Every key of the pre-order listing is found again by the path of its names: same cell."
-use Prim.Native.Nat.{ℕ, zero, suc, _<_, _≤_}
+use Prim.Native.Nat.{ℕ, zero, suc, _<_}
 use native.Mathlib.Omega.{arith}
-use mathlib.Core.Path.{_≡_, refl, sym, ap, _∙_, subst}
+use mathlib.Core.Path.{_≡_, sym, subst}
 use mathlib.Core.Bool.{true}
 use mathlib.Core.Logic.{⊎-elim}
 use mathlib.Core.List.{List, [], _∷_, List·Memᴰ, List·Memᴰ·cases-cons, List·Memᴰ·not-nil}
@@ -10,10 +10,8 @@ use Rattle.fields.specs.declared.Offset.{Offset}
 use Rattle.fields.specs.declared.Verdict.the-variants.{Sound}
 use Rattle.base.specs.Block.{binsData}
 use Rattle.cells.specs.declared.Rule.the-variants.{Header}
-use Rattle.cells.specs.Named.{dataAt}
 use Rattle.cells.specs.Tiled.{BinsTile}
 use Rattle.names.proofs.LawsOrder.{same-reflexive}
-use Rattle.records.specs.declared.Child.{Child}
 use Rattle.records.specs.Keys.{keyFault}
 use Rattle.records.specs.Lists.{children}
 use Rattle.records.proofs.LawsKey.{key-facts, name-codes}
@@ -22,7 +20,7 @@ use Rattle.tree.specs.Tree.{nameAt, keysIn, levels, hiveOf, keysOf}
 use Rattle.tree.specs.WellFormed.{CleanAndWellFormed, TreeStands, key}
 use Rattle.tree.proofs.Once.{in-joined}
 use Rattle.lookup.specs.declared.KeyFound.the-variants.{At}
-use Rattle.lookup.specs.Paths.{partsOf, isPath}
+use Rattle.lookup.specs.Paths.{isPath}
 use Rattle.lookup.specs.Answers.{findAnswer}
 use Rattle.lookup.specs.Reach.{Holds, here, below, Named, itself, child, joinedBy}
 use Rattle.lookup.proofs.Finds.{key-good}
@@ -63,6 +61,13 @@ module _ (d : List ℕ) (hive : Hive) (tiles : BinsTile d 0) where
   few-names (suc n) t itself = omega arith
   few-names (suc n) (key s a ch tree) (child {c = c} i r) = let f = few-names n (tree c i) r in omega arith
 
+-- found again: by the names along its way, joined by backslashes
+pub record FoundAgain (h : List ℕ) (k : Offset) : Type 0 where
+  pub names : List (List ℕ)
+  pub along : Named (binsData h) (hiveOf h .root) names k
+  pub is-path : isPath (joinedBy names) ≡ true
+  pub found : findAnswer h (joinedBy names) ≡ At k
+
 module _ (h : List ℕ) (w : CleanAndWellFormed h) where
   -- the names of a key, joined by backslashes, are a path, and it finds that key
   module _ (k : Offset) (xs : List (List ℕ)) (named : Named (binsData h) (hiveOf h .root) xs k) where
@@ -80,13 +85,7 @@ module _ (h : List ℕ) (w : CleanAndWellFormed h) where
         (rw (parts-joined xs good-names) (named-holds named))
 
   -- the theorem
-  pub record FoundAgain (k : Offset) : Type 0 where
-    pub names : List (List ℕ)
-    pub along : Named (binsData h) (hiveOf h .root) names k
-    pub is-path : isPath (joinedBy names) ≡ true
-    pub found : findAnswer h (joinedBy names) ≡ At k
-
-  pub listed-found : (k : Offset) → List·Memᴰ k (keysOf h) → FoundAgain k
+  pub listed-found : (k : Offset) → List·Memᴰ k (keysOf h) → FoundAgain h k
   listed-found k i =
       let r = listed-named (binsData h) levels (hiveOf h .root) k i in
       record { names = r .0; along = r .1; is-path = named-path k (r .0) (r .1); found = named-found k (r .0) (r .1) }

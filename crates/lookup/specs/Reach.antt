@@ -7,12 +7,9 @@ use Rattle.names.specs.declared.Order.the-variants.{Same}
 use Rattle.names.specs.Codes.{backslash}
 use Rattle.names.specs.Comparison.{compare}
 use Rattle.records.specs.declared.Child.{Child}
-use Rattle.records.specs.declared.Key.{Key}
 use Rattle.records.specs.Keys.{codesOf}
 use Rattle.records.specs.Lists.{children}
-use Rattle.values.specs.declared.Value.{Value}
 use Rattle.values.specs.Records.{valueOf}
-use Rattle.values.specs.Lists.{valuesOf}
 use Rattle.tree.specs.Tree.{nameAt}
 
 -- the tree holds a key under a path of names, from a key on: each name compared as the paper says
