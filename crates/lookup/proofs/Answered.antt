@@ -32,7 +32,7 @@ use Rattle.lookup.specs.declared.Look.{Look}
 use Rattle.lookup.specs.declared.Look.the-variants.{Found, Missing, Faulty}
 use Rattle.lookup.specs.declared.ValueFound.{ValueFound}
 use Rattle.lookup.specs.declared.ValueFound.the-variants.{At, Refused}
-use Rattle.lookup.specs.Answers.{valueLook, placeIn, infoOf, viewFault, infoWhere, valueFound, infoAnswer, viewAnswer, viewBytes, copyAnswer, copyOut}
+use Rattle.lookup.specs.Answers.{valueLook, placeIn, infoOf, viewFault, infoWhere, valueFound, infoAnswer, viewAnswer, viewStart, viewBytes, copyAnswer, copyOut}
 use Rattle.lookup.proofs.Value_searches.{value-facts}
 
 -- the data of a value that has passed its tests lie in the bins data
@@ -68,7 +68,7 @@ pub record Answered (h us x : List ℕ) (i : Info) : Type 0 where
   pub long : i .len ≡ lengthOf (i .content)
   pub place : i .at ≡ placeIn (i .content)
 
-content-as : (d : List ℕ) (minor : ℕ) (i : Info) (v : Offset) → infoOf (valueOf d minor v) ≡ i → i .content ≡ dataIn d minor v
+pub content-as : (d : List ℕ) (minor : ℕ) (i : Info) (v : Offset) → infoOf (valueOf d minor v) ≡ i → i .content ≡ dataIn d minor v
 unfolding infoOf valueOf fieldsOf dataIn
 content-as d minor i v q = sym (ap (λ (j : Info). j .content) q)
 
@@ -113,6 +113,15 @@ module _ (h us x : List ℕ) {i : Info} where
         answered-as h us x i (f .0) (f .1) (b .1) (w .1),
         ap isOne (content-as (binsData h) (minorOf (sector h)) i (f .0) (w .1)) ∙ one-case (f .0) y (b .0),
       )
+
+-- where the view's sister answers, value_info gives the same facts
+pub view-info-same : (h us x : List ℕ) {i : Info} → viewAnswer h us x ≡ At i → infoAnswer h us x ≡ At i
+unfolding viewAnswer infoAnswer
+view-info-same h us x e =
+    let f = found-at (valueLook h us x) _ e in
+    let y = dataIn (binsData h) (minorOf (sector h)) (f .0) in
+    let w = where-at (viewFault (f .0) y next dataFault Header (binsData h) [] y) _ (f .2) in
+    rw (f .1, both (viewFault (f .0) y) _ (w .0) .1) (ap At (w .1))
 
 -- the part of the hive that a view shows
 pub record Shown (h : List ℕ) (i : Info) : Type 0 where
@@ -164,6 +173,14 @@ module _ (h us x : List ℕ) where
   pub view-none : {f : Refusal} → viewAnswer h us x ≡ Refused f → viewBytes h us x ≡ []
   unfolding viewBytes
   view-none e = rw e
+
+  pub start-none : {f : Refusal} → viewAnswer h us x ≡ Refused f → viewStart h us x ≡ 0
+  unfolding viewStart
+  start-none e = rw e
+
+  pub start-part : {i : Info} → viewAnswer h us x ≡ At i → viewStart h us x ≡ i .at .0
+  unfolding viewStart
+  start-part e = rw e
 
   pub view-part : {i : Info} → viewAnswer h us x ≡ At i → viewBytes h us x ≡ take (i .len) (drop (i .at .0) h)
   unfolding viewBytes

@@ -2,27 +2,23 @@
 use Prim.Native.Nat.{ℕ}
 use native.Mathlib.Omega.{arith}
 use mathlib.Core.Path.{_≡_, refl, sym, ap, _∙_}
-use mathlib.Core.Bool.{Bool, true, false}
+use mathlib.Core.Bool.{true, false}
 use mathlib.Core.Logic.{_↔_}
-use mathlib.Core.List.{List, []}
+use mathlib.Core.List.{List}
 use Rattle.fields.specs.declared.Offset.{Offset}
-use Rattle.fields.specs.declared.Flaw.{Flaw}
 use Rattle.fields.specs.declared.Verdict.the-variants.{Sound, Flawed}
-use Rattle.fields.specs.declared.Fault.{Fault}
 use Rattle.fields.specs.declared.Fault.the-variants.{PathParts, NoKey}
-use Rattle.fields.specs.Faults.{numberOf, flaw, nowhere, refusalOf}
+use Rattle.fields.specs.Faults.{flaw, nowhere, refusalOf}
 use Rattle.fields.proofs.Firsts.{on, sound, holds, fails}
-use Rattle.base.specs.Block.{binsData, baseFault}
+use Rattle.base.specs.Block.{binsData}
 use Rattle.base.proofs.Laws.{facts-base}
-use Rattle.cells.specs.declared.Rule.the-variants.{Header}
-use Rattle.records.specs.Keys.{keyFault}
 use Rattle.tree.specs.Tree.{levels, hiveOf}
-use Rattle.tree.specs.WellFormed.{WellFormed, CleanAndWellFormed}
+use Rattle.tree.specs.WellFormed.{CleanAndWellFormed}
 use Rattle.lookup.specs.declared.KeyFound.the-variants.{At, Refused}
 use Rattle.lookup.specs.declared.Look.{Look}
 use Rattle.lookup.specs.declared.Look.the-variants.{Found, Missing, Faulty}
 use Rattle.lookup.specs.Paths.{partsOf, isPath, pathFault}
-use Rattle.lookup.specs.Search.{onSound, descend, lookupKey}
+use Rattle.lookup.specs.Search.{descend, lookupKey}
 use Rattle.lookup.specs.Answers.{openFault, keyLook, keyFound, findAnswer}
 use Rattle.lookup.specs.Reach.{Holds}
 use Rattle.lookup.proofs.Finds.{key-good, found-holds, holds-found, never-faulty}
@@ -82,7 +78,7 @@ module _ (h : List ℕ) (w : CleanAndWellFormed h) where
   look-malformed us p = rw (open-path us p)
 
 -- The call find_key, said of its own answer.
-found-look-is : (l : Look) {o : Offset} → keyFound l ≡ At o → l ≡ Found o
+pub found-look-is : (l : Look) {o : Offset} → keyFound l ≡ At o → l ≡ Found o
 found-look-is (Found y) e = cc
 found-look-is Missing e = absurd (let z : _≡_ {A = ℕ} 0 1 = cc in omega arith)
 found-look-is (Faulty f) e = absurd (let z : _≡_ {A = ℕ} 0 1 = cc in omega arith)

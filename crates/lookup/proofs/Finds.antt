@@ -1,12 +1,12 @@
 -- In a tree that stands, a search below a key finds the child of that name, and meets no fault.
-use Prim.Native.Nat.{ℕ, zero, suc}
+use Prim.Native.Nat.{ℕ, suc}
 use native.Mathlib.Omega.{arith}
 use mathlib.Core.Path.{_≡_, refl, sym, ap, _∙_, subst}
 use mathlib.Core.Bool.{Bool, true, false, cond}
 use mathlib.Core.Logic.{⊎-elim}
-use mathlib.Core.List.{List, [], _∷_, _++_, append-assoc, List·Memᴰ, List·Memᴰ·head, List·Memᴰ·tail, List·Memᴰ·cases-cons, List·Memᴰ·not-nil}
+use mathlib.Core.List.{List, [], _∷_, _++_, List·Memᴰ, List·Memᴰ·head, List·Memᴰ·tail, List·Memᴰ·cases-cons, List·Memᴰ·not-nil}
 use lib.Dec.{eqb}
-use borrow.Author.Tests.{eqb-true, eqb-false}
+use borrow.Author.Tests.{eqb-false}
 use Rattle.fields.specs.declared.Offset.{Offset}
 use Rattle.fields.specs.declared.Flaw.{Flaw}
 use Rattle.fields.specs.declared.Verdict.{Verdict}
@@ -15,17 +15,15 @@ use Rattle.cells.specs.declared.Rule.the-variants.{Header}
 use Rattle.cells.specs.Named.{cellFault, dataAt}
 use Rattle.cells.specs.Tiled.{BinsTile, InUse}
 use Rattle.cells.proofs.Mapped.{header-sound}
-use Rattle.names.specs.declared.Order.{Order}
-use Rattle.names.specs.declared.Order.the-variants.{Before, Same, After}
+use Rattle.names.specs.declared.Order.the-variants.{Before, Same}
 use Rattle.names.specs.Comparison.{compare, sameName}
-use Rattle.names.proofs.LawsOrder.{irreflexive, name-same, same-name, same-left, same-right, same-symmetric}
+use Rattle.names.proofs.LawsOrder.{name-same, same-name, same-right, same-symmetric}
 use Rattle.records.specs.declared.Child.{Child}
-use Rattle.records.specs.declared.Key.{Key}
-use Rattle.records.specs.Keys.{isKey, keyFault, keyOf}
+use Rattle.records.specs.Keys.{keyFault, keyOf}
 use Rattle.records.specs.Lists.{isRi, isLeaf, isList, leafChildren, leavesOf, childrenIn, leavesBelow, childrenBelow, children, leafFault, headFault}
 use Rattle.tree.specs.declared.Hive.{Hive}
 use Rattle.tree.specs.Tree.{nameAt}
-use Rattle.tree.specs.WellFormed.{LeafStands, ListStands, KeyStands, Ascends, none, more, TreeStands, key}
+use Rattle.tree.specs.WellFormed.{ListStands, KeyStands, Ascends, more, TreeStands, key}
 use Rattle.tree.proofs.Stands.{of-cell, of-leaf, of-key}
 use Rattle.lookup.specs.declared.Look.{Look}
 use Rattle.lookup.specs.declared.Look.the-variants.{Found, Missing, Faulty}

@@ -10,4 +10,8 @@ pub mod Value_searches
 pub mod Value_answers
 pub mod Answered
 pub mod Exact
+pub mod Listed
+pub mod Agree
+pub mod In_accepted
+pub mod Refusals
 pub mod ValueFinds

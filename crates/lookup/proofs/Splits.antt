@@ -1,15 +1,15 @@
 -- Names joined by backslashes split again into these names.
-use Prim.Native.Nat.{ℕ, suc, _≤_}
+use Prim.Native.Nat.{ℕ, _≤_}
 use native.Mathlib.Omega.{arith}
-use mathlib.Core.Path.{_≡_, refl, sym, ap, _∙_}
-use mathlib.Core.Bool.{Bool, true, false, cond, _||_, _&&_}
+use mathlib.Core.Path.{_≡_, refl, ap, _∙_}
+use mathlib.Core.Bool.{Bool, true, false, _||_}
 use mathlib.Core.List.{List, [], _∷_, _++_}
-use lib.Dec.{eqb, leb}
+use lib.Dec.{eqb}
 use lib.ListN.{length}
 use borrow.Author.Tests.{le-leb}
 use Rattle.fields.proofs.Bools.{and-both}
 use Rattle.names.specs.Codes.{hasCode, backslash}
-use Rattle.lookup.specs.Paths.{joinFirst, split, partsOf, isPart, areParts, isPath}
+use Rattle.lookup.specs.Paths.{split, partsOf, isPart, areParts, isPath}
 use Rattle.lookup.specs.Reach.{joinedBy}
 
 -- a name that may be a part: 1 to 255 characters and no backslash

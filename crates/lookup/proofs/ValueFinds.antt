@@ -1,34 +1,32 @@
 -- Below a key that stands, a search among its values finds the first of that name, and meets no fault.
 use Prim.Native.Nat.{ℕ}
 use native.Mathlib.Omega.{arith}
-use mathlib.Core.Path.{_≡_, refl, sym, ap, _∙_, subst}
+use mathlib.Core.Path.{_≡_, refl, sym, _∙_, subst}
 use mathlib.Core.Bool.{Bool, true, false, cond}
 use mathlib.Core.Logic.{_↔_}
 use mathlib.Core.List.{List, [], _∷_, List·Memᴰ, List·Memᴰ·head, List·Memᴰ·tail}
 use Rattle.fields.specs.declared.Offset.{Offset}
 use Rattle.fields.specs.declared.Flaw.{Flaw}
-use Rattle.fields.specs.declared.Verdict.{Verdict}
-use Rattle.fields.specs.declared.Verdict.the-variants.{Sound, Flawed}
+use Rattle.fields.specs.declared.Verdict.the-variants.{Sound}
 use Rattle.fields.proofs.Bools.{never}
 use Rattle.fields.proofs.Firsts.{both}
 use Rattle.cells.specs.declared.Rule.the-variants.{Header}
 use Rattle.cells.specs.Named.{cellFault}
 use Rattle.cells.specs.Tiled.{BinsTile, InUse}
 use Rattle.cells.proofs.Mapped.{header-sound}
-use Rattle.names.specs.declared.Order.the-variants.{Same}
-use Rattle.names.specs.Comparison.{compare, sameName}
+use Rattle.names.specs.Comparison.{sameName}
 use Rattle.names.proofs.LawsOrder.{name-same, same-name}
 use Rattle.records.specs.declared.Key.{Key}
 use Rattle.records.specs.Keys.{codesOf}
 use Rattle.values.specs.Records.{valueFault, dataIn, valueOf}
 use Rattle.values.specs.Segments.{dataFault}
 use Rattle.values.specs.Lists.{valuesOf, valueListFault, wholeValueFault, valuesFault}
-use Rattle.tree.specs.WellFormed.{ValueStands, ValuesStand}
+use Rattle.tree.specs.WellFormed.{ValuesStand}
 use Rattle.tree.proofs.Stands.{of-value, of-values}
 use Rattle.lookup.specs.declared.Look.{Look}
 use Rattle.lookup.specs.declared.Look.the-variants.{Found, Missing, Faulty}
-use Rattle.lookup.specs.Search.{onSound, orElse, firstOf, valueNamed, searchValues, lookupValue}
-use Rattle.lookup.specs.Reach.{HasName, FirstNamed, first, later}
+use Rattle.lookup.specs.Search.{orElse, firstOf, valueNamed, searchValues, lookupValue}
+use Rattle.lookup.specs.Reach.{FirstNamed, first, later}
 
 module _ (d : List ℕ) (minor : ℕ) (x : List ℕ) where
   -- one value, where its record is good

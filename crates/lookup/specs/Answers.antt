@@ -114,6 +114,14 @@ abbrev pub partOf : List ℕ → ValueFound → List ℕ
 partOf h (ValueAt i) = take (i .len) (drop (i .at .0) h)
 partOf h (Unvalued f) = []
 
+-- where in the hive that part starts; the empty part stands at its start
+abbrev pub partStart : ValueFound → ℕ
+partStart (ValueAt i) = i .at .0
+partStart (Unvalued f) = 0
+
+unfoldable pub viewStart : List ℕ → List ℕ → List ℕ → ℕ
+viewStart h us x = partStart (viewAnswer h us x)
+
 unfoldable pub viewBytes : List ℕ → List ℕ → List ℕ → List ℕ
 viewBytes h us x = partOf h (viewAnswer h us x)
 

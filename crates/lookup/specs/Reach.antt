@@ -7,12 +7,9 @@ use Rattle.names.specs.declared.Order.the-variants.{Same}
 use Rattle.names.specs.Codes.{backslash}
 use Rattle.names.specs.Comparison.{compare}
 use Rattle.records.specs.declared.Child.{Child}
-use Rattle.records.specs.declared.Key.{Key}
 use Rattle.records.specs.Keys.{codesOf}
 use Rattle.records.specs.Lists.{children}
-use Rattle.values.specs.declared.Value.{Value}
 use Rattle.values.specs.Records.{valueOf}
-use Rattle.values.specs.Lists.{valuesOf}
 use Rattle.tree.specs.Tree.{nameAt}
 
 -- the tree holds a key under a path of names, from a key on: each name compared as the paper says
@@ -20,6 +17,11 @@ pub data Holds (d : List ℕ) : Offset → List (List ℕ) → Offset → Type 0
   here : {o : Offset} → Holds d o [] o
   below : {o e : Offset} {c : Child} {x : List ℕ} {xs : List (List ℕ)} → List·Memᴰ c (children d o) → compare (nameAt d (c .at)) x ≡ Same
       → Holds d (c .at) xs e → Holds d o (x ∷ xs) e
+
+-- the names along the way from a key down to another, as they are stored
+pub data Named (d : List ℕ) : Offset → List (List ℕ) → Offset → Type 0 where
+  itself : {o : Offset} → Named d o [] o
+  child : {o e : Offset} {c : Child} {xs : List (List ℕ)} → List·Memᴰ c (children d o) → Named d (c .at) xs e → Named d o (nameAt d (c .at) ∷ xs) e
 
 abbrev pub HasName : List ℕ → ℕ → List ℕ → Offset → Type 0
 HasName d minor x v = compare (codesOf d (valueOf d minor v .name)) x ≡ Same

@@ -23,6 +23,7 @@ ghost use mathlib.Core.Bool.{true};
 ghost use mathlib.Core.List.{[]};
 ghost use Prim.Native.Nat.{_+_, _≤_};
 ghost use lib.ListN.{length, drop};
+ghost use denote.Ref.{ptr};
 ghost use Rattle.fields.specs.declared.Verdict.the-variants.{Sound};
 ghost use Rattle.base.specs.Block.{sector, minorOf, binsLimit, binsData, baseFault};
 ghost use Rattle.cells.specs.declared.Rule.the-variants.{Header};
@@ -35,7 +36,7 @@ ghost use Rattle.values.specs.Lists.{wholeValueFault};
 ghost use Rattle.tree.specs.Tree.{hiveOf};
 ghost use Rattle.lookup.specs.Paths.{firstPart, partsOf, isPath};
 ghost use Rattle.lookup.specs.Search.{keyNamed, elementsOf, searchKeys, searchLeaf, searchLeaves, searchBelow, descend as descendTo, lookupKey, valueNamed, searchValues, lookupValue};
-ghost use Rattle.lookup.specs.Answers.{openFault, keyLook, findAnswer, valueLook, placeIn, infoOf, viewFault, viewedFault, infoWhere, infoAnswer, viewAnswer, viewBytes, copyAnswer, copyOut};
+ghost use Rattle.lookup.specs.Answers.{openFault, keyLook, findAnswer, valueLook, placeIn, infoOf, viewFault, viewedFault, infoWhere, infoAnswer, viewAnswer, viewStart, viewBytes, copyAnswer, copyOut};
 
 const BACKSLASH: u16 = 92;
 
@@ -491,9 +492,10 @@ pub fn view_info(hive: &[u8], path: &[u16], name: &[u16]) -> ValueFound
     }
 }
 
-// "A view is the very part of the lent hive that holds the data, empty on refusal"
+// "A view is the very part of the lent hive that holds the data, empty on refusal": the bytes, and where they stand in memory.
 pub fn value_view<'a>(hive: &'a [u8], path: &[u16], name: &[u16]) -> &'a [u8]
     ensures { λ r. ⌜ now r ≡ viewBytes (now (hive .entry)) (now (path .entry)) (now (name .entry)) ⌝ }
+    ensures { λ r. ⌜ ptr r ≡ (ptr (hive .entry) .0, viewStart (now (hive .entry)) (now (path .entry)) (now (name .entry)) + ptr (hive .entry) .1) ⌝ }
 {
     match view_info(hive, path, name) {
         ValueFound::Refused(_) => &hive[0..0],

@@ -1,4 +1,4 @@
-use Rattle.lookup.proofs.Answered.{Shown, view-answered, view-shown, view-none, view-part}
+use Rattle.lookup.proofs.Answered.{Shown, view-answered, view-shown, view-none, start-none, start-part, view-part}
 use denote.Ref.{now}
 use native.Mathlib.Nat.{add-sub-cancel-left}
 use Prim.Native.Nat.{_-_}
@@ -43,10 +43,10 @@ part-result-end-2 : tie.Need-part-result-end-2
 part-result-end-2 c = let s = shown c in omega arith
 
 returns : tie.Need-returns
-returns c = sym (view-none _ _ _ (sym (c .before .before .before .view-info .ensures) ∙ c .before .enum-told .given .1))
+returns c = let e = sym (c .before .before .before .view-info .ensures) ∙ c .before .enum-told .given .1 in (sym (view-none _ _ _ e), rw (start-none _ _ _ e))
 
 returns-2 : tie.Need-returns-2
-returns-2 c = let i = c .before .before .before .i .given .0 .0 in rw (add-sub-cancel-left (i .at .0) (i .len)) (sym (view-part _ _ _ (sym (c .before .before .before .before .before .view-info .ensures) ∙ c .before .before .before .i .given .1)))
+returns-2 c = let i = c .before .before .before .i .given .0 .0 in let e = sym (c .before .before .before .before .before .view-info .ensures) ∙ c .before .before .before .i .given .1 in (rw (add-sub-cancel-left (i .at .0) (i .len)) (sym (view-part _ _ _ e)), rw (start-part _ _ _ e))
 
 pub value-view-spec : {M : Type 1} → statement M
 value-view-spec =

@@ -1,0 +1,203 @@
+-- Lookup in a hive that is clean and well formed, so in every hive that the check accepts: each call answers what the tree holds, and neither 11
+-- nor 12 can occur.
+use Prim.Native.Nat.{ℕ, suc, _+_, _≤_}
+use native.Mathlib.Omega.{arith}
+use mathlib.Core.Path.{_≡_, refl, sym, ap, _∙_}
+use mathlib.Core.Bool.{Bool, true, false, cond}
+use mathlib.Core.Logic.{_↔_, _⊎_, inl, inr, ⊎-elim}
+use mathlib.Core.List.{List, [], _∷_, _++_, List·Memᴰ, List·Memᴰ·head, List·Memᴰ·tail}
+use lib.Dec.{eqb}
+use lib.ListN.{length, take, drop}
+use borrow.Author.Tests.{eqb-true}
+use Rattle.fields.specs.declared.Fault.the-variants.{PathParts, NoKey, NoValue, Segmented}
+use Rattle.fields.specs.declared.Offset.{Offset}
+use Rattle.fields.specs.declared.Refusal.{Refusal}
+use Rattle.fields.specs.declared.Verdict.the-variants.{Sound}
+use Rattle.fields.specs.Faults.{numberOf, flaw, nowhere, refusalOf, _next_}
+use Rattle.fields.proofs.Firsts.{on}
+use Rattle.base.specs.Block.{sector, minorOf, binsData}
+use Rattle.cells.specs.declared.Rule.the-variants.{Header}
+use Rattle.cells.specs.Named.{dataAt}
+use Rattle.records.specs.Keys.{keyOf}
+use Rattle.values.specs.declared.ValueData.{ValueData}
+use Rattle.values.specs.declared.ValueData.the-variants.{Inline, OneCell, Segments}
+use Rattle.values.specs.Records.{dataIn, valueOf}
+use Rattle.values.specs.Segments.{dataFault, segmentsOf, joinedBytes, bytesOf, lengthOf}
+use Rattle.values.specs.Lists.{valuesOf}
+use Rattle.tree.specs.declared.Checked.the-variants.{Accepted}
+use Rattle.tree.specs.declared.Hive.{Hive}
+use Rattle.tree.specs.declared.Report.{Report}
+use Rattle.tree.specs.Tree.{levels, hiveOf, keysOf, checkAnswer}
+use Rattle.tree.specs.WellFormed.{CleanAndWellFormed, ValuesStand, KeyStands, TreeStands, key}
+use Rattle.tree.proofs.Exactly.{accepted-formed}
+use Rattle.lookup.specs.declared.Info.{Info}
+use Rattle.lookup.specs.declared.KeyFound.the-variants.{At, Refused}
+use Rattle.lookup.specs.declared.Look.the-variants.{Found}
+use Rattle.lookup.specs.declared.ValueFound.the-variants.{At as ValueAt, Refused as Unvalued}
+use Rattle.lookup.specs.Paths.{partsOf, isPath}
+use Rattle.lookup.specs.Answers.{keyLook, findAnswer, valueLook, infoOf, viewFault, infoAnswer, viewAnswer, viewBytes, copyOut}
+use Rattle.lookup.specs.Reach.{Holds, here, below, FirstNamed, first, later}
+use Rattle.lookup.proofs.Exact.{find-exactly, find-none, find-malformed, found-look-is}
+use Rattle.lookup.proofs.Listed.{FoundAgain, listed-found}
+use Rattle.lookup.proofs.ValueFinds.{value-exactly, value-none, data-good}
+use Rattle.lookup.proofs.Value_searches.{value-below}
+use Rattle.lookup.proofs.Value_answers.{info-missing}
+use Rattle.lookup.proofs.Answered.{content-as, info-answered, copy-written}
+use Rattle.lookup.proofs.Agree.{view-is}
+
+-- a key that is held under a path stands
+holds-stands : (d : List ℕ) (hive : Hive) (n : ℕ) (o e : Offset) (xs : List (List ℕ)) → TreeStands d hive n o → Holds d o xs e → KeyStands d (hive .minor) e
+holds-stands d hive (suc n) o e xs (key s a ch tree) here = s
+holds-stands d hive (suc n) o e (x ∷ xs) (key s a ch tree) (below {c = c} i q r) = holds-stands d hive n (c .at) e xs (tree c i) r
+
+-- the first value of a name is one of the values
+first-in : {d : List ℕ} {minor : ℕ} {x : List ℕ} {vs : List Offset} {v : Offset} → FirstNamed d minor x vs v → List·Memᴰ v vs
+first-in (first p) = List·Memᴰ·head refl
+first-in (later p f) = List·Memᴰ·tail (first-in f)
+
+module _ (h : List ℕ) (w : CleanAndWellFormed h) (us : List ℕ) where
+  -- ---- keys
+
+  -- a path that is no path is 16, one under which the tree holds no key is 17; nothing else is refused
+  pub find-refused : {f : Refusal} → findAnswer h us ≡ Refused f
+      → ((isPath us ≡ false) × (f ≡ refusalOf (flaw PathParts nowhere)))
+      ⊎ ((isPath us ≡ true) × ((o : Offset) → Holds (binsData h) (hiveOf h .root) (partsOf us) o → ⊥) × (f ≡ refusalOf (flaw NoKey nowhere)))
+  unfolding findAnswer
+  find-refused {f} e = by (isPath us) refl
+    where
+      by : (t : Bool) → isPath us ≡ t
+          → ((isPath us ≡ false) × (f ≡ refusalOf (flaw PathParts nowhere)))
+          ⊎ ((isPath us ≡ true) × ((o : Offset) → Holds (binsData h) (hiveOf h .root) (partsOf us) o → ⊥) × (f ≡ refusalOf (flaw NoKey nowhere)))
+      by false p =
+          let q = sym (find-malformed h w us p) ∙ e in
+          inl (p, let z : refusalOf (flaw PathParts nowhere) ≡ f = cc in sym z)
+      by true p =
+          let none : (o : Offset) → Holds (binsData h) (hiveOf h .root) (partsOf us) o → ⊥ =
+          λ o r. let q = sym (find-exactly h w us p o .1 r) ∙ e in let z : _≡_ {A = ℕ} 0 1 = cc in omega arith in
+          let q = sym (find-none h w us p none) ∙ e in
+          inr (p, none, let z : refusalOf (flaw NoKey nowhere) ≡ f = cc in sym z)
+
+  -- ---- values of the key that is found
+  module _ (o : Offset) (found : findAnswer h us ≡ At o) where
+    at : keyLook h us ≡ Found o
+    unfolding findAnswer
+    at = found-look-is (keyLook h us) found
+
+    path : isPath us ≡ true
+    path = by (isPath us) refl
+      where
+        by : (t : Bool) → isPath us ≡ t → isPath us ≡ true
+        by true p = p
+        by false p = absurd (let q = sym (find-malformed h w us p) ∙ found in let z : _≡_ {A = ℕ} 0 1 = cc in omega arith)
+
+    stands : ValuesStand (binsData h) (minorOf (sector h)) (keyOf (binsData h) o)
+    stands =
+        holds-stands (binsData h) (hiveOf h) levels (hiveOf h .root) o (partsOf us) (w .formed .tree) (find-exactly h w us path o .0 found) .values
+
+    module _ (x : List ℕ) where
+      look-first : {v : Offset} → FirstNamed (binsData h) (minorOf (sector h)) x (valuesOf (binsData h) (keyOf (binsData h) o)) v → valueLook h us x ≡ Found v
+      look-first {v} f =
+          value-below h us x at
+          ∙ value-exactly (binsData h) (w .formed .tiled) (minorOf (sector h)) (keyOf (binsData h) o) stands x v .1 f
+
+      whole : {v : Offset} → FirstNamed (binsData h) (minorOf (sector h)) x (valuesOf (binsData h) (keyOf (binsData h) o)) v
+          → dataFault Header (binsData h) [] (dataIn (binsData h) (minorOf (sector h)) v) ≡ Sound
+      whole {v} f = data-good (binsData h) (w .formed .tiled) (minorOf (sector h)) (keyOf (binsData h) o) stands v (first-in f)
+
+      -- the first value of that name answers
+      pub info-first : {v : Offset} → FirstNamed (binsData h) (minorOf (sector h)) x (valuesOf (binsData h) (keyOf (binsData h) o)) v
+          → infoAnswer h us x ≡ ValueAt (infoOf (valueOf (binsData h) (minorOf (sector h)) v))
+      unfolding infoAnswer
+      info-first f = rw (look-first f, whole f)
+
+      -- and 18 where there is none
+      pub info-none : ((v : Offset) → FirstNamed (binsData h) (minorOf (sector h)) x (valuesOf (binsData h) (keyOf (binsData h) o)) v → ⊥)
+          → infoAnswer h us x ≡ Unvalued (refusalOf (flaw NoValue nowhere))
+      info-none f =
+          info-missing h us x
+          (value-below h us x at ∙ value-none (binsData h) (w .formed .tiled) (minorOf (sector h)) (keyOf (binsData h) o) stands x f)
+
+      -- so the answer is the first value of that name, and 18 exactly if there is none: no other refusal can occur
+      pub info-says : {i : Info} → infoAnswer h us x ≡ ValueAt i
+          → (v : Offset) × FirstNamed (binsData h) (minorOf (sector h)) x (valuesOf (binsData h) (keyOf (binsData h) o)) v
+          × (i ≡ infoOf (valueOf (binsData h) (minorOf (sector h)) v))
+      info-says e =
+          let a = info-answered h us x e in (
+            a .value,
+            value-exactly (binsData h) (w .formed .tiled) (minorOf (sector h)) (keyOf (binsData h) o) stands x (a .value) .0
+                (sym (value-below h us x at) ∙ a .found),
+            a .info,
+          )
+
+      pub info-refused : {f : Refusal} → infoAnswer h us x ≡ Unvalued f
+          → ((v : Offset) → FirstNamed (binsData h) (minorOf (sector h)) x (valuesOf (binsData h) (keyOf (binsData h) o)) v → ⊥)
+          × (f ≡ refusalOf (flaw NoValue nowhere))
+      info-refused {f} e =
+          let none : (v : Offset) → FirstNamed (binsData h) (minorOf (sector h)) x (valuesOf (binsData h) (keyOf (binsData h) o)) v → ⊥ =
+          λ v g. let q = sym (info-first g) ∙ e in let z : _≡_ {A = ℕ} 0 1 = cc in omega arith in
+          let q = sym (info-none none) ∙ e in
+          (none, let z : refusalOf (flaw NoValue nowhere) ≡ f = cc in sym z)
+
+      -- ---- the bytes of the first value of that name
+      module _ (v : Offset) (named : FirstNamed (binsData h) (minorOf (sector h)) x (valuesOf (binsData h) (keyOf (binsData h) o)) v) where
+        viewed : viewFault v (dataIn (binsData h) (minorOf (sector h)) v) ≡ Sound
+            → viewAnswer h us x ≡ ValueAt (infoOf (valueOf (binsData h) (minorOf (sector h)) v))
+        unfolding viewAnswer
+        viewed q = rw (look-first named, on (viewFault v (dataIn (binsData h) (minorOf (sector h)) v)) (dataFault Header (binsData h) [] (dataIn (binsData h) (minorOf (sector h)) v)) q, whole named)
+
+        shows : viewFault v (dataIn (binsData h) (minorOf (sector h)) v) ≡ Sound → viewBytes h us x ≡ bytesOf (binsData h) (dataIn (binsData h) (minorOf (sector h)) v)
+        shows q =
+            view-is h us x [] (viewed q)
+            ∙ ap (bytesOf (binsData h)) (content-as (binsData h) (minorOf (sector h)) (infoOf (valueOf (binsData h) (minorOf (sector h)) v)) v refl)
+
+        -- inline: the bytes at 8 of the record
+        pub inline-viewed : (a : Offset) (n : ℕ) → dataIn (binsData h) (minorOf (sector h)) v ≡ Inline a n → viewBytes h us x ≡ take n (drop (a .0) (binsData h))
+        unfolding viewFault bytesOf
+        inline-viewed a n e = shows (rw e) ∙ rw e
+
+        -- in one cell: the start of the cell's data; size 0 shows nothing
+        pub cell-viewed : (a : Offset) (n : ℕ) → dataIn (binsData h) (minorOf (sector h)) v ≡ OneCell a n → viewBytes h us x ≡ take n (dataAt (binsData h) a)
+        unfolding viewFault bytesOf
+        cell-viewed a n e = shows (rw e) ∙ rw e (by (eqb n 0) refl)
+          where
+            by : (t : Bool) → eqb n 0 ≡ t → cond (eqb n 0) [] (take n (dataAt (binsData h) a)) ≡ take n (dataAt (binsData h) a)
+            by true q = rw (q, eqb-true n 0 q)
+            by false q = rw q
+
+        -- in segments: 19 at the value
+        pub segments-unviewed : (a : Offset) (n : ℕ) → dataIn (binsData h) (minorOf (sector h)) v ≡ Segments a n
+            → (viewAnswer h us x ≡ Unvalued (refusalOf (flaw Segmented v))) × (viewBytes h us x ≡ [])
+        unfolding viewAnswer viewBytes viewFault _next_
+        segments-unviewed a n e = (rw (look-first named, e), rw (look-first named, e))
+
+        -- the copy, of each case
+        pub copied : (out : List ℕ) → lengthOf (dataIn (binsData h) (minorOf (sector h)) v) ≤ length out
+            → copyOut h us x out
+            ≡ bytesOf (binsData h) (dataIn (binsData h) (minorOf (sector h)) v) ++ drop (lengthOf (dataIn (binsData h) (minorOf (sector h)) v)) out
+        unfolding infoOf
+        copied out p =
+            let c = content-as (binsData h) (minorOf (sector h)) (infoOf (valueOf (binsData h) (minorOf (sector h)) v)) v refl in
+            copy-written h us x out (info-first named) (rw (← c) at p)
+            ∙ ap (λ (y : ValueData). bytesOf (binsData h) y ++ drop (lengthOf y) out) c
+
+        pub segments-copied : (a : Offset) (n : ℕ) → dataIn (binsData h) (minorOf (sector h)) v ≡ Segments a n → (out : List ℕ) → n ≤ length out
+            → copyOut h us x out ≡ joinedBytes (binsData h) (segmentsOf (binsData h) a n) ++ drop n out
+        unfolding bytesOf
+        segments-copied a n e out p = copied out (rw e p) ∙ rw e
+
+-- ---- of a hive that the check accepts
+module _ (h m : List ℕ) {r : Report} (accepted : checkAnswer h m ≡ Accepted r) where
+  formed : CleanAndWellFormed h
+  formed = accepted-formed h m accepted
+
+  pub accepted-finds : (us : List ℕ) → isPath us ≡ true → (o : Offset) → (findAnswer h us ≡ At o) ↔ Holds (binsData h) (hiveOf h .root) (partsOf us) o
+  accepted-finds us = find-exactly h formed us
+
+  -- "No 11 or 12 can occur there."
+  pub accepted-refuses : (us : List ℕ) {f : Refusal} → findAnswer h us ≡ Refused f → (numberOf (f .fault) ≡ 16) ⊎ (numberOf (f .fault) ≡ 17)
+  accepted-refuses us e =
+      ⊎-elim (λ q. inl (ap (λ (g : Refusal). numberOf (g .fault)) (q .1))) (λ q. inr (ap (λ (g : Refusal). numberOf (g .fault)) (q .2)))
+      (find-refused h formed us e)
+
+  pub accepted-listed : (k : Offset) → List·Memᴰ k (keysOf h) → FoundAgain h k
+  accepted-listed k i = listed-found h formed k i
