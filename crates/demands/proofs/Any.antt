@@ -17,11 +17,8 @@ use Rattle.fields.specs.Faults.{numberOf, flaw, nowhere, unless, _next_, refusa
 use Rattle.base.specs.Block.{sector, clean, binsData}
 use Rattle.tree.proofs.Tells.{check-tells}
 use Rattle.tree.proofs.Maps.{map-untouched, map-zero, map-complete, map-beyond}
-use Rattle.lookup.specs.declared.Copied.the-variants as copied
-use Rattle.lookup.specs.declared.Info.{Info}
-use Rattle.lookup.specs.declared.ValueFound.{ValueFound}
-use Rattle.lookup.specs.declared.ValueFound.the-variants as value
-use Rattle.lookup.specs.Answers.{infoAnswer, copiedTo, copyAnswer, written, copyOut}
+use Rattle.lookup.proofs.Agree.{refused-untouched}
+use Rattle.lookup.proofs.Refusals.{find-refuses, info-refuses, view-refuses, copy-refuses}
 use Rattle.old_log.specs.Layout.{mapSize, isLogged, logBins, loggedCount, dirt}
 use Rattle.old_log.specs.Tests.{isLogBase, pagesFit, headFault, logFault, stampsAgree, allIn}
 use Rattle.recovery.specs.declared.Started.{Started}
@@ -129,27 +126,19 @@ close-stays : (h l : List ℕ) (r : Refusal) → closeAnswer h l ≡ stepped.Ref
 unfolding closeHive
 close-stays h l r e = rw e
 
-copy-stays : (h us x out : List ℕ) (r : Refusal) → copyAnswer h us x (length out) ≡ copied.Refused r → copyOut h us x out ≡ out
-unfolding copyAnswer copyOut
-copy-stays h us x out r e = by (infoAnswer h us x) refl e
-  where
-    by : (v : ValueFound) → infoAnswer h us x ≡ v → copiedTo (length out) v ≡ copied.Refused r → written (binsData h) out v ≡ out
-    by (value.Refused f) p q = refl
-    by (value.At i) p q = fits (leb (i .len) (length out)) refl q
-      where
-        fits : (t : Bool) → leb (i .len) (length out) ≡ t → copiedTo (length out) (value.At i) ≡ copied.Refused r → written (binsData h) out (value.At i) ≡ out
-        fits true s q = absurd (let w = rw s at q in let z : _≡_ {A = ℕ} 0 1 = cc in omega arith)
-        fits false s q = rw s
-
 pub demand1 : Demand1
 demand1 =
     record {
       listed = listed;
       check-place = λ h m r e. check-tells h m e;
+      find-place = λ h us r e. find-refuses h us e;
+      info-place = λ h us x r e. info-refuses h us x e;
+      view-place = λ h us x r e. view-refuses h us x e;
+      copy-place = λ h us x n r e. copy-refuses h us x n e;
       start-place = start-place;
       page-place = page-place;
       close-place = close-place;
-      copy-stays = copy-stays;
+      copy-stays = λ h us x out r e. refused-untouched h us x out e;
       page-stays = page-stays;
       close-stays = close-stays;
       map-untouched = λ h m f e. map-untouched h m e;

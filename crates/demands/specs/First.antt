@@ -23,7 +23,10 @@ use Rattle.tree.specs.declared.Checked.the-variants as checked
 use Rattle.tree.specs.Tree.{checkAnswer}
 use Rattle.tree.specs.Told.{Told}
 use Rattle.lookup.specs.declared.Copied.the-variants as copied
-use Rattle.lookup.specs.Answers.{copyAnswer, copyOut}
+use Rattle.lookup.specs.declared.KeyFound.the-variants as key
+use Rattle.lookup.specs.declared.ValueFound.the-variants as value
+use Rattle.lookup.specs.Answers.{findAnswer, infoAnswer, viewAnswer, copyAnswer, copyOut}
+use Rattle.lookup.proofs.Refusals.{OfKey, OfValue, OfView, OfCopy}
 use Rattle.recovery.specs.declared.Started.the-variants as started
 use Rattle.recovery.specs.declared.Stepped.the-variants as stepped
 use Rattle.recovery.specs.Calls.{startAnswer, pageAnswer, pageHive, closeAnswer, closeHive}
@@ -31,8 +34,12 @@ use Rattle.recovery.specs.Calls.{startAnswer, pageAnswer, pageHive, closeAnswer
 pub record Demand1 : Type 0 where
   -- "A refusal is a listed number": the table has 1 to 27
   pub listed : (f : Fault) → (1 ≤ numberOf f) × (numberOf f ≤ 27)
-  -- "with a place": the check's is as the table says; recovery's is 0
+  -- "with a place": the check's and lookup's are as the table says; recovery's is 0
   pub check-place : (h m : List ℕ) (r : Refusal) → checkAnswer h m ≡ checked.Refused r → (f : Flaw) × (r ≡ refusalOf f) × Told (binsData h) f
+  pub find-place : (h us : List ℕ) (r : Refusal) → findAnswer h us ≡ key.Refused r → OfKey r
+  pub info-place : (h us x : List ℕ) (r : Refusal) → infoAnswer h us x ≡ value.Refused r → OfValue r
+  pub view-place : (h us x : List ℕ) (r : Refusal) → viewAnswer h us x ≡ value.Refused r → OfView r
+  pub copy-place : (h us x : List ℕ) (n : ℕ) (r : Refusal) → copyAnswer h us x n ≡ copied.Refused r → OfCopy r
   pub start-place : (h l : List ℕ) (r : Refusal) → startAnswer h l ≡ started.Refused r → r .place .0 ≡ 0
   pub page-place : (h l : List ℕ) (p : ℕ) (r : Refusal) → pageAnswer h l p ≡ stepped.Refused r → r .place .0 ≡ 0
   pub close-place : (h l : List ℕ) (r : Refusal) → closeAnswer h l ≡ stepped.Refused r → r .place .0 ≡ 0

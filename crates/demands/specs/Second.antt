@@ -3,16 +3,16 @@ use Prim.Native.Nat.{ℕ, _+_, _*_, _/_, _≤_}
 use mathlib.Core.Path.{_≡_}
 use mathlib.Core.Bool.{true, false}
 use mathlib.Core.Logic.{_↔_}
-use mathlib.Core.List.{List}
-use lib.ListN.{length}
-use Rattle.fields.specs.declared.Fault.the-variants.{PathParts, NoKey}
+use mathlib.Core.List.{List, _++_, List·Memᴰ}
+use lib.ListN.{length, drop}
+use Rattle.fields.specs.declared.Fault.the-variants.{PathParts, NoKey, NoValue}
 use Rattle.fields.specs.declared.Offset.{Offset}
 use Rattle.fields.specs.Faults.{flaw, nowhere, refusalOf}
 use Rattle.base.specs.Block.{sector, binsOf, minorOf, binsData}
 use Rattle.records.specs.declared.Key.{Key}
 use Rattle.records.specs.Keys.{keyOf}
-use Rattle.values.specs.Records.{dataIn}
-use Rattle.values.specs.Segments.{dataFault, bytesOf}
+use Rattle.values.specs.Records.{dataIn, valueOf}
+use Rattle.values.specs.Segments.{bytesOf, lengthOf}
 use Rattle.values.specs.Lists.{valuesOf}
 use Rattle.tree.specs.declared.Checked.the-variants as checked
 use Rattle.tree.specs.declared.Report.{Report}
@@ -20,8 +20,10 @@ use Rattle.tree.specs.Tree.{hiveOf, keysOf, valuesIn, checkAnswer}
 use Rattle.tree.specs.WellFormed.{CleanAndWellFormed}
 use Rattle.lookup.specs.declared.KeyFound.the-variants as found
 use Rattle.lookup.specs.Paths.{isPath, partsOf}
-use Rattle.lookup.specs.Answers.{findAnswer}
-use Rattle.lookup.specs.Reach.{Holds}
+use Rattle.lookup.specs.declared.ValueFound.the-variants as valued
+use Rattle.lookup.specs.Answers.{findAnswer, infoOf, infoAnswer, copyOut}
+use Rattle.lookup.specs.Reach.{Holds, FirstNamed}
+use Rattle.lookup.proofs.Listed.{FoundAgain}
 use Rattle.old_log.specs.Layout.{loggedCount}
 use Rattle.recovery.specs.declared.Started.the-variants as started
 use Rattle.recovery.specs.Calls.{startAnswer}
@@ -43,6 +45,18 @@ pub record Demand2 : Type 0 where
       → ((o : Offset) → Holds (binsData h) (hiveOf h .root) (partsOf us) o → ⊥) → findAnswer h us ≡ found.Refused (refusalOf (flaw NoKey nowhere))
   pub malformed : (h : List ℕ) → CleanAndWellFormed h → (us : List ℕ) → isPath us ≡ false
       → findAnswer h us ≡ found.Refused (refusalOf (flaw PathParts nowhere))
+  -- each key of the pre-order listing is found again by the path of its names
+  pub listed : (h : List ℕ) → CleanAndWellFormed h → (k : Offset) → List·Memᴰ k (keysOf h) → FoundAgain h k
+  -- "a value's data are the bytes its record names": the first value of that name answers, with the bytes of `dataIn`; 18 exactly if there is none
+  pub value : (h : List ℕ) → CleanAndWellFormed h → (us : List ℕ) (o : Offset) → findAnswer h us ≡ found.At o → (x : List ℕ) (v : Offset)
+      → FirstNamed (binsData h) (minorOf (sector h)) x (valuesOf (binsData h) (keyOf (binsData h) o)) v
+      → (infoAnswer h us x ≡ valued.At (infoOf (valueOf (binsData h) (minorOf (sector h)) v)))
+      × ((out : List ℕ) → lengthOf (dataIn (binsData h) (minorOf (sector h)) v) ≤ length out
+      → copyOut h us x out
+      ≡ bytesOf (binsData h) (dataIn (binsData h) (minorOf (sector h)) v) ++ drop (lengthOf (dataIn (binsData h) (minorOf (sector h)) v)) out)
+  pub no-value : (h : List ℕ) → CleanAndWellFormed h → (us : List ℕ) (o : Offset) → findAnswer h us ≡ found.At o → (x : List ℕ)
+      → ((v : Offset) → FirstNamed (binsData h) (minorOf (sector h)) x (valuesOf (binsData h) (keyOf (binsData h) o)) v → ⊥)
+      → infoAnswer h us x ≡ valued.Refused (refusalOf (flaw NoValue nowhere))
   -- "A log is accepted exactly when no listed fault exists"
   pub log-accepted : (h l : List ℕ) → (startAnswer h l ≡ started.Pages (loggedCount l)) ↔ Accepted h l
   -- "recovery puts each logged page in place, then rewrites the first sector, and touches nothing else"
