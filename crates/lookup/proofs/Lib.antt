@@ -1,4 +1,13 @@
 pub mod Finds
 pub mod Splits
+pub mod Parts
+pub mod Passes
+pub mod Turns
+pub mod Searches
+pub mod Descents
+pub mod Opens
+pub mod Value_searches
+pub mod Value_answers
+pub mod Answered
 pub mod Exact
 pub mod ValueFinds

@@ -1,6 +1,6 @@
 -- "A path is UTF-16 units split at backslash; the empty path is the root."
 use Prim.Native.Nat.{ℕ}
-use mathlib.Core.Bool.{Bool, true, false, cond, _&&_}
+use mathlib.Core.Bool.{Bool, true, cond, _&&_}
 use mathlib.Core.List.{List, [], _∷_}
 use lib.Dec.{eqb, leb}
 use lib.ListN.{length}
@@ -18,6 +18,11 @@ joinFirst u (p ∷ ps) = (u ∷ p) ∷ ps
 unfoldable pub split : List ℕ → List (List ℕ)
 split [] = [] ∷ []
 split (u ∷ us) = cond (eqb u backslash) ([] ∷ split us) (joinFirst u (split us))
+
+-- the units before the first backslash: the first part
+unfoldable pub firstPart : List ℕ → List ℕ
+firstPart [] = []
+firstPart (u ∷ us) = cond (eqb u backslash) [] (u ∷ firstPart us)
 
 -- the parts of a path: of the empty path none
 unfoldable pub partsOf : List ℕ → List (List ℕ)
