@@ -79,6 +79,33 @@ HIVE_ASSERT(offsetof(HiveReport, used) == 40);
 HIVE_ASSERT(offsetof(HiveReport, free) == 48);
 HIVE_ASSERT(sizeof(HiveReport) == 56);
 
+/* A value. kind: its registry type (1 REG_SZ, 3 REG_BINARY, 4 REG_DWORD ..). form: 1 inline in the record, 2 in one cell,
+ * 3 in segments. at: the place in the file where its data lie, so hive + at in memory (in segments: where the db record lies).
+ * length: how many bytes the data have. Data of length 0 that are not inline have at 0.
+ */
+typedef struct {
+    HiveAnswer answer;
+    uint32_t kind;
+    uint32_t form;
+    uint64_t at;
+    uint64_t length;
+} HiveValue;
+HIVE_ASSERT(offsetof(HiveValue, answer) == 0);
+HIVE_ASSERT(offsetof(HiveValue, kind) == 16);
+HIVE_ASSERT(offsetof(HiveValue, form) == 20);
+HIVE_ASSERT(offsetof(HiveValue, at) == 24);
+HIVE_ASSERT(offsetof(HiveValue, length) == 32);
+HIVE_ASSERT(sizeof(HiveValue) == 40);
+
+/* length: how many bytes were written. */
+typedef struct {
+    HiveAnswer answer;
+    uint64_t length;
+} HiveCopy;
+HIVE_ASSERT(offsetof(HiveCopy, answer) == 0);
+HIVE_ASSERT(offsetof(HiveCopy, length) == 16);
+HIVE_ASSERT(sizeof(HiveCopy) == 24);
+
 /* An answer of recovery. state: 0 refused, 1 the hive is clean and nothing was changed, 2 accepted or done.
  * pages: the number of pages that the log holds, where hive_recover_start accepts it, else 0.
  */
@@ -121,6 +148,27 @@ uint32_t hive_abi(void);
  * the map as it was, 9 and 10 leave its first bins size / 64 bytes zero, later ones leave it complete.
  */
 HiveReport hive_check(const uint8_t *hive, size_t hive_len, uint8_t *map, size_t map_len);
+
+/* Finds a key by its path and answers its offset in `value`. The path is UTF-16 units split at backslash, with none at its
+ * ends; of no units it names the root. Names are compared by code after upper-casing a to z only. A hive that the check
+ * refuses can be asked too. Refuses 1 to 7, 16, 11 and 12 of the records on the way, 17.
+ */
+HiveAnswer hive_find_key(const uint8_t *hive, size_t hive_len, const uint16_t *path, size_t path_len);
+
+/* The type, form, place and length of a value's data: the first value of that name of the key of that path. A name of no units
+ * is the unnamed value. Its data's cells are tested. Refuses 1 to 7, 16, 11 and 12 of the records on the way, 17, 18, then 11 and 12 of the data.
+ */
+HiveValue hive_value_info(const uint8_t *hive, size_t hive_len, const uint16_t *path, size_t path_len, const uint16_t *name, size_t name_len);
+
+/* The same for a caller who wants to read the data where they lie: with number 0 they are the `length` bytes from hive + at.
+ * Data in segments do not lie in one piece and are refused with 19, at the value's offset, before any data cell is read.
+ */
+HiveValue hive_value_view(const uint8_t *hive, size_t hive_len, const uint16_t *path, size_t path_len, const uint16_t *name, size_t name_len);
+
+/* Copies a value's data, segments joined, to the front of `out`. The bytes behind them stay. Refuses as hive_value_info does,
+ * then 20 where `out` is shorter than the data. A refusal leaves `out` as it was. 1,048,576 bytes are enough for any value.
+ */
+HiveCopy hive_value_copy(const uint8_t *hive, size_t hive_len, const uint16_t *path, size_t path_len, const uint16_t *name, size_t name_len, uint8_t *out, size_t out_len);
 
 /* Whether an old-format log (file type 1 or 2) repairs this hive. A hive that needs no repair answers state 1, whatever the
  * log. Refuses 1, 21, 22, 23, 22, 24, 25, in this order.

@@ -5,6 +5,14 @@ use Rattle.fields.specs.declared.Refusal.{Refusal}
 use Rattle.fields.specs.Faults.{numberOf}
 use Rattle.tree.specs.declared.Checked.{Checked}
 use Rattle.tree.specs.declared.Checked.the-variants as checked
+use Rattle.values.specs.declared.ValueData.{ValueData}
+use Rattle.values.specs.declared.ValueData.the-variants.{Inline, OneCell, Segments}
+use Rattle.lookup.specs.declared.KeyFound.{KeyFound}
+use Rattle.lookup.specs.declared.KeyFound.the-variants as key
+use Rattle.lookup.specs.declared.ValueFound.{ValueFound}
+use Rattle.lookup.specs.declared.ValueFound.the-variants as value
+use Rattle.lookup.specs.declared.Copied.{Copied}
+use Rattle.lookup.specs.declared.Copied.the-variants as copy
 use Rattle.recovery.specs.declared.Started.{Started}
 use Rattle.recovery.specs.declared.Started.the-variants as start
 use Rattle.recovery.specs.declared.Stepped.{Stepped}
@@ -13,6 +21,8 @@ use Rattle.recovery.specs.declared.NextPage.{NextPage}
 use Rattle.recovery.specs.declared.NextPage.the-variants as page
 use Rattle.hive_c.specs.declared.HiveAnswer.{HiveAnswer}
 use Rattle.hive_c.specs.declared.HiveReport.{HiveReport}
+use Rattle.hive_c.specs.declared.HiveValue.{HiveValue}
+use Rattle.hive_c.specs.declared.HiveCopy.{HiveCopy}
 use Rattle.hive_c.specs.declared.HiveRecovery.{HiveRecovery}
 use Rattle.hive_c.specs.declared.HivePage.{HivePage}
 
@@ -35,6 +45,31 @@ reportWith a b k v u f = record { answer = a; bins = b; keys = k; values = v; us
 abbrev pub reportIn : Checked → HiveReport
 reportIn (checked.Accepted r) = reportWith (granted 0) (r .bins) (r .keys) (r .values) (r .used) (r .free)
 reportIn (checked.Refused f) = reportWith (refused f) 0 0 0 0 0
+
+-- "gives the key's offset"
+abbrev pub keyIn : KeyFound → HiveAnswer
+keyIn (key.At o) = granted (o .0)
+keyIn (key.Refused f) = refused f
+
+-- "data are inline, in one cell or in segments"
+abbrev pub formOf : ValueData → ℕ
+formOf (Inline at len) = 1
+formOf (OneCell o len) = 2
+formOf (Segments o len) = 3
+
+abbrev pub valueWith : HiveAnswer → ℕ → ℕ → ℕ → ℕ → HiveValue
+valueWith a kind form at len = record { answer = a; kind = kind; form = form; at = at; length = len }
+
+abbrev pub valueIn : ValueFound → HiveValue
+valueIn (value.At i) = valueWith (granted 0) (i .kind) (formOf (i .content)) (i .at .0) (i .len)
+valueIn (value.Refused f) = valueWith (refused f) 0 0 0 0
+
+abbrev pub copyWith : HiveAnswer → ℕ → HiveCopy
+copyWith a n = record { answer = a; length = n }
+
+abbrev pub copyIn : Copied → HiveCopy
+copyIn (copy.Done n) = copyWith (granted 0) n
+copyIn (copy.Refused f) = copyWith (refused f) 0
 
 abbrev pub recoveryWith : HiveAnswer → ℕ → ℕ → HiveRecovery
 recoveryWith a s n = record { answer = a; state = s; pages = n }

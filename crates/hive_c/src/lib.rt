@@ -29,15 +29,22 @@
 //   13 order of names, or lh hash               27 closing, but a logged page is not in yet
 //   14 parent, root listed, total count
 use fields::Refusal;
+use lookup::Copied;
+use lookup::Info;
+use lookup::KeyFound;
+use lookup::ValueFound;
 use recovery::NextPage;
 use recovery::Started;
 use recovery::Stepped;
 use tree::Checked;
+use values::ValueData;
 ghost use mathlib.Core.Path.{_≡_};
+ghost use lib.ListN.{length};
 ghost use Rattle.cells.specs.Survey.{mapLeft};
 ghost use Rattle.tree.specs.Tree.{checkAnswer};
+ghost use Rattle.lookup.specs.Answers.{findAnswer, infoAnswer, viewAnswer, copyAnswer, copyOut};
 ghost use Rattle.recovery.specs.Calls.{startAnswer, pageAnswer, pageHive, closeAnswer, closeHive, nextAnswer};
-ghost use Rattle.hive_c.specs.Flat.{granted as grantedOf, refused as refusedOf, reportIn, startIn, stepIn, pageIn};
+ghost use Rattle.hive_c.specs.Flat.{granted as grantedOf, refused as refusedOf, reportIn, keyIn, formOf, valueIn, copyIn, startIn, stepIn, pageIn};
 
 // Part of every answer. number: 0, or the refusal's number. place: the refusal's place. key: 0xFFFFFFFF, always, in this
 // version; a later one may name the key under examination. value: the offset of the key found by hive_find_key, else 0.
@@ -60,6 +67,25 @@ pub struct HiveReport {
     pub values: u64,
     pub used: u64,
     pub free: u64,
+}
+
+// A value. kind: its registry type (1 REG_SZ, 3 REG_BINARY, 4 REG_DWORD ..). form: 1 inline in the record, 2 in one cell,
+// 3 in segments. at: the place in the file where its data lie, so hive + at in memory (in segments: where the db record lies).
+// length: how many bytes the data have. Data of length 0 that are not inline have at 0.
+#[repr(C)]
+pub struct HiveValue {
+    pub answer: HiveAnswer,
+    pub kind: u32,
+    pub form: u32,
+    pub at: u64,
+    pub length: u64,
+}
+
+// length: how many bytes were written.
+#[repr(C)]
+pub struct HiveCopy {
+    pub answer: HiveAnswer,
+    pub length: u64,
 }
 
 // An answer of recovery. state: 0 refused, 1 the hive is clean and nothing was changed, 2 accepted or done.
@@ -153,6 +179,112 @@ pub extern "C" fn hive_check(hive: &[u8], map: &mut [u8]) -> HiveReport
     ensures { λ _. ⌜ now (map .exit) ≡ mapLeft (now (hive .entry)) (now (map .entry)) ⌝ }
 {
     reported(tree::check(hive, map))
+}
+
+fn key_answer(k: KeyFound) -> HiveAnswer
+    ensures { λ r. ⌜ r ≡ keyIn k ⌝ }
+{
+    match k {
+        KeyFound::At(o) => granted(o.0),
+        KeyFound::Refused(f) => refused(f),
+    }
+}
+
+// Finds a key by its path and answers its offset in `value`. The path is UTF-16 units split at backslash, with none at its
+// ends; of no units it names the root. Names are compared by code after upper-casing a to z only. A hive that the check
+// refuses can be asked too. Refuses 1 to 7, 16, 11 and 12 of the records on the way, 17.
+#[no_mangle]
+pub extern "C" fn hive_find_key(hive: &[u8], path: &[u16]) -> HiveAnswer
+    ensures { λ r. ⌜ r ≡ keyIn (findAnswer (now (hive .entry)) (now (path .entry))) ⌝ }
+{
+    key_answer(lookup::find_key(hive, path))
+}
+
+fn form_of(d: ValueData) -> u32
+    ensures { λ r. ⌜ r ≡ formOf d ⌝ }
+{
+    match d {
+        ValueData::Inline { at: _, len: _ } => 1,
+        ValueData::OneCell { cell: _, len: _ } => 2,
+        ValueData::Segments { cell: _, len: _ } => 3,
+    }
+}
+
+fn value_facts(i: Info) -> HiveValue
+    ensures { λ r. ⌜ r ≡ valueIn (ValueFound.At i) ⌝ }
+{
+    let content = i.content;
+    let form = form_of(content);
+    HiveValue {
+        answer: granted(0),
+        kind: i.kind,
+        form,
+        at: i.at.0 as u64,
+        length: i.len as u64,
+    }
+}
+
+fn value_answer(v: ValueFound) -> HiveValue
+    ensures { λ r. ⌜ r ≡ valueIn v ⌝ }
+{
+    match v {
+        ValueFound::At(i) => value_facts(i),
+        ValueFound::Refused(f) => HiveValue {
+            answer: refused(f),
+            kind: 0,
+            form: 0,
+            at: 0,
+            length: 0,
+        },
+    }
+}
+
+// The type, form, place and length of a value's data: the first value of that name of the key of that path. A name of no units
+// is the unnamed value. Its data's cells are tested. Refuses 1 to 7, 16, 11 and 12 of the records on the way, 17, 18, then 11 and 12 of the data.
+#[no_mangle]
+pub extern "C" fn hive_value_info(hive: &[u8], path: &[u16], name: &[u16]) -> HiveValue
+    ensures { λ r. ⌜ r ≡ valueIn (infoAnswer (now (hive .entry)) (now (path .entry)) (now (name .entry))) ⌝ }
+{
+    value_answer(lookup::value_info(hive, path, name))
+}
+
+// The same for a caller who wants to read the data where they lie: with number 0 they are the `length` bytes from hive + at.
+// Data in segments do not lie in one piece and are refused with 19, at the value's offset, before any data cell is read.
+#[no_mangle]
+pub extern "C" fn hive_value_view(hive: &[u8], path: &[u16], name: &[u16]) -> HiveValue
+    ensures { λ r. ⌜ r ≡ valueIn (viewAnswer (now (hive .entry)) (now (path .entry)) (now (name .entry))) ⌝ }
+{
+    value_answer(lookup::view_info(hive, path, name))
+}
+
+fn copied(c: Copied) -> HiveCopy
+    ensures { λ r. ⌜ r ≡ copyIn c ⌝ }
+{
+    match c {
+        Copied::Done(n) => HiveCopy {
+            answer: granted(0),
+            length: n as u64,
+        },
+        Copied::Refused(f) => HiveCopy {
+            answer: refused(f),
+            length: 0,
+        },
+    }
+}
+
+// Copies a value's data, segments joined, to the front of `out`. The bytes behind them stay. Refuses as hive_value_info does,
+// then 20 where `out` is shorter than the data. A refusal leaves `out` as it was. 1,048,576 bytes are enough for any value.
+#[no_mangle]
+pub extern "C" fn hive_value_copy(
+    hive: &[u8],
+    path: &[u16],
+    name: &[u16],
+    out: &mut [u8],
+) -> HiveCopy
+    ensures { λ r. ⌜ r ≡ copyIn (copyAnswer (now (hive .entry)) (now (path .entry)) (now (name .entry)) (length (now (out .entry)))) ⌝ }
+    ensures { λ _. ⌜ now (out .exit) ≡ copyOut (now (hive .entry)) (now (path .entry)) (now (name .entry)) (now (out .entry)) ⌝ }
+{
+    copied(lookup::value_copy(hive, path, name, out))
 }
 
 fn started(s: Started) -> HiveRecovery
