@@ -1,0 +1,28 @@
+use Rattle.hive_c.specs.Flat.{keyIn}
+use mathlib.Core.Path.{sym, ap, _∙_}
+use borrow.Author.Needs.{needs}
+use Rattle.hive_c.proofs.key_answer.Statement.{statement}
+use Rattle.hive_c.proofs.key_answer.Tie as tie
+
+enum-known-k : tie.Need-enum-known-k
+enum-known-k c = search needs
+
+granted-requires : tie.Need-granted-requires
+granted-requires c κs = search needs
+
+enum-known-k-2 : tie.Need-enum-known-k-2
+enum-known-k-2 c = search needs
+
+refused-requires : tie.Need-refused-requires
+refused-requires c κs = search needs
+
+returns : tie.Need-returns
+returns c = c .granted .ensures ∙ sym (ap keyIn (c .before .before .k .given .1))
+
+returns-2 : tie.Need-returns-2
+returns-2 c = c .refused .ensures ∙ sym (ap keyIn (c .before .before .k2 .given .1))
+
+pub key-answer-spec : {M : Type 1} → statement M
+key-answer-spec =
+    tie.close
+    (tie.spec enum-known-k granted-requires enum-known-k-2 refused-requires returns returns-2)

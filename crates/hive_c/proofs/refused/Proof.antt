@@ -1,0 +1,16 @@
+use Rattle.hive_c.specs.Flat.{noKey}
+use Rattle.hive_c.specs.declared.HiveAnswer.{HiveAnswer}
+use Prim.Native.Nat.{ℕ}
+use mathlib.Core.Path.{ap}
+use borrow.Author.Needs.{needs}
+use Rattle.hive_c.proofs.refused.Statement.{statement}
+use Rattle.hive_c.proofs.refused.Tie as tie
+
+number-requires : tie.Need-number-requires
+number-requires c κs = search needs
+
+returns : tie.Need-returns
+returns c = ap (λ (n : ℕ). record { number = n; place = c .before .args .f .place .0; key = noKey; value = 0 }) (c .number .ensures)
+
+pub refused-spec : {M : Type 1} → statement M
+refused-spec = tie.close (tie.spec number-requires returns)

@@ -1,0 +1,96 @@
+-- What C is told: the answers' cases, laid flat. "If an answer is an enum, a definition tells you this paper's number and values for each of its
+-- cases. The promises use that definition."
+use Prim.Native.Nat.{ℕ}
+use Rattle.fields.specs.declared.Refusal.{Refusal}
+use Rattle.fields.specs.Faults.{numberOf}
+use Rattle.tree.specs.declared.Checked.{Checked}
+use Rattle.tree.specs.declared.Checked.the-variants as checked
+use Rattle.values.specs.declared.ValueData.{ValueData}
+use Rattle.values.specs.declared.ValueData.the-variants.{Inline, OneCell, Segments}
+use Rattle.lookup.specs.declared.KeyFound.{KeyFound}
+use Rattle.lookup.specs.declared.KeyFound.the-variants as key
+use Rattle.lookup.specs.declared.ValueFound.{ValueFound}
+use Rattle.lookup.specs.declared.ValueFound.the-variants as value
+use Rattle.lookup.specs.declared.Copied.{Copied}
+use Rattle.lookup.specs.declared.Copied.the-variants as copy
+use Rattle.recovery.specs.declared.Started.{Started}
+use Rattle.recovery.specs.declared.Started.the-variants as start
+use Rattle.recovery.specs.declared.Stepped.{Stepped}
+use Rattle.recovery.specs.declared.Stepped.the-variants as step
+use Rattle.recovery.specs.declared.NextPage.{NextPage}
+use Rattle.recovery.specs.declared.NextPage.the-variants as page
+use Rattle.hive_c.specs.declared.HiveAnswer.{HiveAnswer}
+use Rattle.hive_c.specs.declared.HiveReport.{HiveReport}
+use Rattle.hive_c.specs.declared.HiveValue.{HiveValue}
+use Rattle.hive_c.specs.declared.HiveCopy.{HiveCopy}
+use Rattle.hive_c.specs.declared.HiveRecovery.{HiveRecovery}
+use Rattle.hive_c.specs.declared.HivePage.{HivePage}
+
+-- the third field of a refusal is spoken for; until it is filled it says "no key"
+abbrev pub noKey : ℕ
+noKey = 4294967295
+
+-- no refusal, and an offset
+abbrev pub granted : ℕ → HiveAnswer
+granted o = record { number = 0; place = 0; key = noKey; value = o }
+
+-- "Each refusal is a number and a place"
+abbrev pub refused : Refusal → HiveAnswer
+refused f = record { number = numberOf (f .fault); place = f .place .0; key = noKey; value = 0 }
+
+-- the check: "bins, keys reached, values [..], used bytes and free bytes"
+abbrev pub reportWith : HiveAnswer → ℕ → ℕ → ℕ → ℕ → ℕ → HiveReport
+reportWith a b k v u f = record { answer = a; bins = b; keys = k; values = v; used = u; free = f }
+
+abbrev pub reportIn : Checked → HiveReport
+reportIn (checked.Accepted r) = reportWith (granted 0) (r .bins) (r .keys) (r .values) (r .used) (r .free)
+reportIn (checked.Refused f) = reportWith (refused f) 0 0 0 0 0
+
+-- "gives the key's offset"
+abbrev pub keyIn : KeyFound → HiveAnswer
+keyIn (key.At o) = granted (o .0)
+keyIn (key.Refused f) = refused f
+
+-- "data are inline, in one cell or in segments"
+abbrev pub formOf : ValueData → ℕ
+formOf (Inline at len) = 1
+formOf (OneCell o len) = 2
+formOf (Segments o len) = 3
+
+abbrev pub valueWith : HiveAnswer → ℕ → ℕ → ℕ → ℕ → HiveValue
+valueWith a kind form at len = record { answer = a; kind = kind; form = form; at = at; length = len }
+
+abbrev pub valueIn : ValueFound → HiveValue
+valueIn (value.At i) = valueWith (granted 0) (i .kind) (formOf (i .content)) (i .at .0) (i .len)
+valueIn (value.Refused f) = valueWith (refused f) 0 0 0 0
+
+abbrev pub copyWith : HiveAnswer → ℕ → HiveCopy
+copyWith a n = record { answer = a; length = n }
+
+abbrev pub copyIn : Copied → HiveCopy
+copyIn (copy.Done n) = copyWith (granted 0) n
+copyIn (copy.Refused f) = copyWith (refused f) 0
+
+abbrev pub recoveryWith : HiveAnswer → ℕ → ℕ → HiveRecovery
+recoveryWith a s n = record { answer = a; state = s; pages = n }
+
+-- state 0: refused; 1: clean; 2: accepted
+abbrev pub startIn : Started → HiveRecovery
+startIn (start.Refused f) = recoveryWith (refused f) 0 0
+startIn start.Clean = recoveryWith (granted 0) 1 0
+startIn (start.Pages n) = recoveryWith (granted 0) 2 n
+
+-- state 0: refused; 1: clean; 2: done
+abbrev pub stepIn : Stepped → HiveRecovery
+stepIn (step.Refused f) = recoveryWith (refused f) 0 0
+stepIn step.Clean = recoveryWith (granted 0) 1 0
+stepIn step.Done = recoveryWith (granted 0) 2 0
+
+abbrev pub pageWith : HiveAnswer → ℕ → ℕ → ℕ → ℕ → HivePage
+pageWith a s n from to = record { answer = a; state = s; page = n; from = from; to = to }
+
+-- state 0: refused; 1: no more; 2: a page
+abbrev pub pageIn : NextPage → HivePage
+pageIn (page.Refused f) = pageWith (refused f) 0 0 0 0
+pageIn page.NoMore = pageWith (granted 0) 1 0 0 0
+pageIn (page.At n from to) = pageWith (granted 0) 2 n (from .0) (to .0)

@@ -1,0 +1,404 @@
+// The C face of Kiweamotu: checks, reads and repairs Windows registry hives (regf files).
+//
+// Every function here is proved, for every input: what it answers, each byte that it changes, that it reads and writes
+// nothing outside the buffers lent to it, and that it ends. The promise of a function stands above it in words. The exact
+// equation stands in crates/hive_c/src/lib.rt, from which this header is made by tools/header.awk.
+//
+// No function keeps any state, allocates, or calls anything but memcpy and memset, so threads need no lock.
+//
+// What the caller owes. Nothing checks it, and without it no promise holds:
+// - A buffer is a pointer and a number of elements, all of them readable (writable where the pointer is not const). NULL is
+//   fine with 0. A path or a name is in uint16_t units, aligned to 2.
+// - A buffer that a call may write overlaps none of the others.
+// - Nobody changes a buffer during the call. So read a file into memory; do not map one that others may write.
+// - 1 MiB of free stack.
+//
+// A place in a refusal is an offset in the bins data: the byte 4096 + place of the file. The numbers:
+//    1 hive under 4096 bytes                    15 level over 512
+//    2 no "regf"                                16 path: empty part, part over 255 units, over 512 parts
+//    3 checksum                                 17 no such key
+//    4 version, type, format, clustering        18 no such value
+//    5 bins size field                          19 view asked of segmented data
+//    6 hive ends before the bins do             20 output too short
+//    7 sequence numbers differ                  21 log's base block, or its sequence numbers differ
+//    8 work map too small                       22 log too short for bitmap or pages
+//    9 bin header                               23 no "DIRT"
+//   10 cell size                                24 hive shorter than 4096 + the log's bins size
+//   11 offset names no cell in use              25 stamps differ
+//   12 wrong signature, length, count or name   26 page not marked dirty, or past the bitmap
+//   13 order of names, or lh hash               27 closing, but a logged page is not in yet
+//   14 parent, root listed, total count
+use fields::Refusal;
+use lookup::Copied;
+use lookup::Info;
+use lookup::KeyFound;
+use lookup::ValueFound;
+use recovery::NextPage;
+use recovery::Started;
+use recovery::Stepped;
+use tree::Checked;
+use values::ValueData;
+ghost use mathlib.Core.Path.{_≡_};
+ghost use lib.ListN.{length};
+ghost use Rattle.cells.specs.Survey.{mapLeft};
+ghost use Rattle.tree.specs.Tree.{checkAnswer};
+ghost use Rattle.lookup.specs.Answers.{findAnswer, infoAnswer, viewAnswer, copyAnswer, copyOut};
+ghost use Rattle.recovery.specs.Calls.{startAnswer, pageAnswer, pageHive, closeAnswer, closeHive, nextAnswer};
+ghost use Rattle.hive_c.specs.Flat.{granted as grantedOf, refused as refusedOf, reportIn, keyIn, formOf, valueIn, copyIn, startIn, stepIn, pageIn};
+
+// Part of every answer. number: 0, or the refusal's number. place: the refusal's place. key: 0xFFFFFFFF, always, in this
+// version; a later one may name the key under examination. value: the offset of the key found by hive_find_key, else 0.
+// Where number is not 0, every other field of the answer but place and key is 0.
+#[repr(C)]
+pub struct HiveAnswer {
+    pub number: u32,
+    pub place: u32,
+    pub key: u32,
+    pub value: u32,
+}
+
+// The report of the check. bins: how many bins. keys: keys reached from the root. values: elements of their value lists.
+// used, free: bytes of cells in use and of free cells, with their size fields. 32 x bins + used + free is the bins size.
+#[repr(C)]
+pub struct HiveReport {
+    pub answer: HiveAnswer,
+    pub bins: u64,
+    pub keys: u64,
+    pub values: u64,
+    pub used: u64,
+    pub free: u64,
+}
+
+// A value. kind: its registry type (1 REG_SZ, 3 REG_BINARY, 4 REG_DWORD ..). form: 1 inline in the record, 2 in one cell,
+// 3 in segments. at: the place in the file where its data lie, so hive + at in memory (in segments: where the db record lies).
+// length: how many bytes the data have. Data of length 0 that are not inline have at 0.
+#[repr(C)]
+pub struct HiveValue {
+    pub answer: HiveAnswer,
+    pub kind: u32,
+    pub form: u32,
+    pub at: u64,
+    pub length: u64,
+}
+
+// length: how many bytes were written.
+#[repr(C)]
+pub struct HiveCopy {
+    pub answer: HiveAnswer,
+    pub length: u64,
+}
+
+// An answer of recovery. state: 0 refused, 1 the hive is clean and nothing was changed, 2 accepted or done.
+// pages: the number of pages that the log holds, where hive_recover_start accepts it, else 0.
+#[repr(C)]
+pub struct HiveRecovery {
+    pub answer: HiveAnswer,
+    pub state: u64,
+    pub pages: u64,
+}
+
+// A page of a log. state: 0 refused, 1 no more pages, 2 a page. page: its number. from: where its 512 bytes lie in the log.
+// to: where they go in the hive. Both are places in the file.
+#[repr(C)]
+pub struct HivePage {
+    pub answer: HiveAnswer,
+    pub state: u64,
+    pub page: u64,
+    pub from: u64,
+    pub to: u64,
+}
+
+const NO_KEY: u32 = 0xffff_ffff;
+
+// No refusal.
+fn granted(value: u32) -> HiveAnswer
+    ensures { λ r. ⌜ r ≡ grantedOf value ⌝ }
+{
+    HiveAnswer {
+        number: 0,
+        place: 0,
+        key: NO_KEY,
+        value,
+    }
+}
+
+// "Each refusal is a number and a place."
+fn refused(f: Refusal) -> HiveAnswer
+    ensures { λ r. ⌜ r ≡ refusedOf f ⌝ }
+{
+    let fault = f.fault;
+    HiveAnswer {
+        number: fault.number(),
+        place: f.place.0,
+        key: NO_KEY,
+        value: 0,
+    }
+}
+
+// The version of this interface: 1. Structs and functions of one version never change.
+#[no_mangle]
+pub extern "C" fn hive_abi() -> u32
+    ensures { λ r. ⌜ r ≡ 1 ⌝ }
+{
+    1
+}
+
+fn reported(c: Checked) -> HiveReport
+    ensures { λ r. ⌜ r ≡ reportIn c ⌝ }
+{
+    match c {
+        Checked::Accepted(r) => HiveReport {
+            answer: granted(0),
+            bins: r.bins as u64,
+            keys: r.keys,
+            values: r.values,
+            used: r.used as u64,
+            free: r.free as u64,
+        },
+        Checked::Refused(f) => HiveReport {
+            answer: refused(f),
+            bins: 0,
+            keys: 0,
+            values: 0,
+            used: 0,
+            free: 0,
+        },
+    }
+}
+
+// Checks a hive wholly: base block, bins, cells, and the tree of keys, values and data from the root. Number 0 means that all
+// of it is sound, and the report counts what is there. The first fault answers, in this order: 1 to 8; 9 and 10, bin by bin;
+// then 11 to 15 from the root, each key wholly before its next sibling.
+//
+// map is a work map of at least bins size / 64 bytes; 1,048,576 are enough for any hive. Afterwards bit b of byte j (lowest bit
+// first) is set exactly when a cell in use starts at offset 64 j + 8 b. Bytes past bins size / 64 stay. Refusals 1 to 8 leave
+// the map as it was, 9 and 10 leave its first bins size / 64 bytes zero, later ones leave it complete.
+#[no_mangle]
+pub extern "C" fn hive_check(hive: &[u8], map: &mut [u8]) -> HiveReport
+    ensures { λ r. ⌜ r ≡ reportIn (checkAnswer (now (hive .entry)) (now (map .entry))) ⌝ }
+    ensures { λ _. ⌜ now (map .exit) ≡ mapLeft (now (hive .entry)) (now (map .entry)) ⌝ }
+{
+    reported(tree::check(hive, map))
+}
+
+fn key_answer(k: KeyFound) -> HiveAnswer
+    ensures { λ r. ⌜ r ≡ keyIn k ⌝ }
+{
+    match k {
+        KeyFound::At(o) => granted(o.0),
+        KeyFound::Refused(f) => refused(f),
+    }
+}
+
+// Finds a key by its path and answers its offset in `value`. The path is UTF-16 units split at backslash, with none at its
+// ends; of no units it names the root. Names are compared by code after upper-casing a to z only. A hive that the check
+// refuses can be asked too. Refuses 1 to 7, 16, 11 and 12 of the records on the way, 17.
+#[no_mangle]
+pub extern "C" fn hive_find_key(hive: &[u8], path: &[u16]) -> HiveAnswer
+    ensures { λ r. ⌜ r ≡ keyIn (findAnswer (now (hive .entry)) (now (path .entry))) ⌝ }
+{
+    key_answer(lookup::find_key(hive, path))
+}
+
+fn form_of(d: ValueData) -> u32
+    ensures { λ r. ⌜ r ≡ formOf d ⌝ }
+{
+    match d {
+        ValueData::Inline { at: _, len: _ } => 1,
+        ValueData::OneCell { cell: _, len: _ } => 2,
+        ValueData::Segments { cell: _, len: _ } => 3,
+    }
+}
+
+fn value_facts(i: Info) -> HiveValue
+    ensures { λ r. ⌜ r ≡ valueIn (ValueFound.At i) ⌝ }
+{
+    let content = i.content;
+    let form = form_of(content);
+    HiveValue {
+        answer: granted(0),
+        kind: i.kind,
+        form,
+        at: i.at.0 as u64,
+        length: i.len as u64,
+    }
+}
+
+fn value_answer(v: ValueFound) -> HiveValue
+    ensures { λ r. ⌜ r ≡ valueIn v ⌝ }
+{
+    match v {
+        ValueFound::At(i) => value_facts(i),
+        ValueFound::Refused(f) => HiveValue {
+            answer: refused(f),
+            kind: 0,
+            form: 0,
+            at: 0,
+            length: 0,
+        },
+    }
+}
+
+// The type, form, place and length of a value's data: the first value of that name of the key of that path. A name of no units
+// is the unnamed value. Its data's cells are tested. Refuses 1 to 7, 16, 11 and 12 of the records on the way, 17, 18, then 11 and 12 of the data.
+#[no_mangle]
+pub extern "C" fn hive_value_info(hive: &[u8], path: &[u16], name: &[u16]) -> HiveValue
+    ensures { λ r. ⌜ r ≡ valueIn (infoAnswer (now (hive .entry)) (now (path .entry)) (now (name .entry))) ⌝ }
+{
+    value_answer(lookup::value_info(hive, path, name))
+}
+
+// The same for a caller who wants to read the data where they lie: with number 0 they are the `length` bytes from hive + at.
+// Data in segments do not lie in one piece and are refused with 19, at the value's offset, before any data cell is read.
+#[no_mangle]
+pub extern "C" fn hive_value_view(hive: &[u8], path: &[u16], name: &[u16]) -> HiveValue
+    ensures { λ r. ⌜ r ≡ valueIn (viewAnswer (now (hive .entry)) (now (path .entry)) (now (name .entry))) ⌝ }
+{
+    value_answer(lookup::view_info(hive, path, name))
+}
+
+fn copied(c: Copied) -> HiveCopy
+    ensures { λ r. ⌜ r ≡ copyIn c ⌝ }
+{
+    match c {
+        Copied::Done(n) => HiveCopy {
+            answer: granted(0),
+            length: n as u64,
+        },
+        Copied::Refused(f) => HiveCopy {
+            answer: refused(f),
+            length: 0,
+        },
+    }
+}
+
+// Copies a value's data, segments joined, to the front of `out`. The bytes behind them stay. Refuses as hive_value_info does,
+// then 20 where `out` is shorter than the data. A refusal leaves `out` as it was. 1,048,576 bytes are enough for any value.
+#[no_mangle]
+pub extern "C" fn hive_value_copy(
+    hive: &[u8],
+    path: &[u16],
+    name: &[u16],
+    out: &mut [u8],
+) -> HiveCopy
+    ensures { λ r. ⌜ r ≡ copyIn (copyAnswer (now (hive .entry)) (now (path .entry)) (now (name .entry)) (length (now (out .entry)))) ⌝ }
+    ensures { λ _. ⌜ now (out .exit) ≡ copyOut (now (hive .entry)) (now (path .entry)) (now (name .entry)) (now (out .entry)) ⌝ }
+{
+    copied(lookup::value_copy(hive, path, name, out))
+}
+
+fn started(s: Started) -> HiveRecovery
+    ensures { λ r. ⌜ r ≡ startIn s ⌝ }
+{
+    match s {
+        Started::Clean => HiveRecovery {
+            answer: granted(0),
+            state: 1,
+            pages: 0,
+        },
+        Started::Pages(n) => HiveRecovery {
+            answer: granted(0),
+            state: 2,
+            pages: n as u64,
+        },
+        Started::Refused(f) => HiveRecovery {
+            answer: refused(f),
+            state: 0,
+            pages: 0,
+        },
+    }
+}
+
+// Whether an old-format log (file type 1 or 2) repairs this hive. A hive that needs no repair answers state 1, whatever the
+// log. Refuses 1, 21, 22, 23, 22, 24, 25, in this order.
+//
+// A repair: start; for each page of hive_recover_next call hive_recover_page and store those 512 bytes in the file; wait until
+// they are on the disk; hive_recover_close; store the first 512 bytes; wait again. After a power failure, or in doubt, do all
+// of it again with the file as it is: the outcome is the same file, byte for byte.
+#[no_mangle]
+pub extern "C" fn hive_recover_start(hive: &[u8], log: &[u8]) -> HiveRecovery
+    ensures { λ r. ⌜ r ≡ startIn (startAnswer (now (hive .entry)) (now (log .entry))) ⌝ }
+{
+    started(recovery::start(hive, log))
+}
+
+fn stepped(s: Stepped) -> HiveRecovery
+    ensures { λ r. ⌜ r ≡ stepIn s ⌝ }
+{
+    match s {
+        Stepped::Clean => HiveRecovery {
+            answer: granted(0),
+            state: 1,
+            pages: 0,
+        },
+        Stepped::Done => HiveRecovery {
+            answer: granted(0),
+            state: 2,
+            pages: 0,
+        },
+        Stepped::Refused(f) => HiveRecovery {
+            answer: refused(f),
+            state: 0,
+            pages: 0,
+        },
+    }
+}
+
+// Installs the logged page of that number in the hive in memory: 512 bytes at 4096 + 512 x page become the log's, and no other
+// byte changes. State 2 where it did. Makes all tests of hive_recover_start first and refuses as it does, then 26. A refusal,
+// and state 1, leave the hive as it was.
+#[no_mangle]
+pub extern "C" fn hive_recover_page(hive: &mut [u8], log: &[u8], page: usize) -> HiveRecovery
+    ensures { λ r. ⌜ r ≡ stepIn (pageAnswer (now (hive .entry)) (now (log .entry)) page) ⌝ }
+    ensures { λ _. ⌜ now (hive .exit) ≡ pageHive (now (hive .entry)) (now (log .entry)) page ⌝ }
+{
+    stepped(recovery::page(hive, log, page))
+}
+
+// Writes the closing sector to the first 512 bytes of the hive in memory, once every logged page is in: the log's first 512
+// bytes with file type 0 and a new checksum. No other byte changes. Makes all tests of hive_recover_start first and refuses as
+// it does, then 27. A refusal, and state 1, leave the hive as it was. Store these bytes only when all pages are on the disk.
+#[no_mangle]
+pub extern "C" fn hive_recover_close(hive: &mut [u8], log: &[u8]) -> HiveRecovery
+    ensures { λ r. ⌜ r ≡ stepIn (closeAnswer (now (hive .entry)) (now (log .entry))) ⌝ }
+    ensures { λ _. ⌜ now (hive .exit) ≡ closeHive (now (hive .entry)) (now (log .entry)) ⌝ }
+{
+    stepped(recovery::close(hive, log))
+}
+
+fn next(n: NextPage) -> HivePage
+    ensures { λ r. ⌜ r ≡ pageIn n ⌝ }
+{
+    match n {
+        NextPage::At { page, from, to } => HivePage {
+            answer: granted(0),
+            state: 2,
+            page: page as u64,
+            from: from.0 as u64,
+            to: to.0 as u64,
+        },
+        NextPage::NoMore => HivePage {
+            answer: granted(0),
+            state: 1,
+            page: 0,
+            from: 0,
+            to: 0,
+        },
+        NextPage::Refused(f) => HivePage {
+            answer: refused(f),
+            state: 0,
+            page: 0,
+            from: 0,
+            to: 0,
+        },
+    }
+}
+
+// The least page that the log holds, at or after a number. Refuses 21, 22, 23, 22, in this order. Start with 0, and go on with
+// page + 1 until state 1.
+#[no_mangle]
+pub extern "C" fn hive_recover_next(log: &[u8], from: usize) -> HivePage
+    ensures { λ r. ⌜ r ≡ pageIn (nextAnswer (now (log .entry)) from) ⌝ }
+{
+    next(recovery::next_page(log, from))
+}

@@ -1,0 +1,9 @@
+#ifndef KIT_ERRNO_H
+#define KIT_ERRNO_H
+int *__errno_location(void);
+#define errno (*__errno_location())
+#define EINTR 4
+#define EEXIST 17
+#define EISDIR 21
+#define EWOULDBLOCK 11
+#endif

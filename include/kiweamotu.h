@@ -1,0 +1,204 @@
+/* The C face of Kiweamotu: checks, reads and repairs Windows registry hives (regf files).
+ *
+ * Every function here is proved, for every input: what it answers, each byte that it changes, that it reads and writes
+ * nothing outside the buffers lent to it, and that it ends. The promise of a function stands above it in words. The exact
+ * equation stands in crates/hive_c/src/lib.rt, from which this header is made by tools/header.awk.
+ *
+ * No function keeps any state, allocates, or calls anything but memcpy and memset, so threads need no lock.
+ *
+ * What the caller owes. Nothing checks it, and without it no promise holds:
+ * - A buffer is a pointer and a number of elements, all of them readable (writable where the pointer is not const). NULL is
+ *   fine with 0. A path or a name is in uint16_t units, aligned to 2.
+ * - A buffer that a call may write overlaps none of the others.
+ * - Nobody changes a buffer during the call. So read a file into memory; do not map one that others may write.
+ * - 1 MiB of free stack.
+ *
+ * A place in a refusal is an offset in the bins data: the byte 4096 + place of the file. The numbers:
+ *    1 hive under 4096 bytes                    15 level over 512
+ *    2 no "regf"                                16 path: empty part, part over 255 units, over 512 parts
+ *    3 checksum                                 17 no such key
+ *    4 version, type, format, clustering        18 no such value
+ *    5 bins size field                          19 view asked of segmented data
+ *    6 hive ends before the bins do             20 output too short
+ *    7 sequence numbers differ                  21 log's base block, or its sequence numbers differ
+ *    8 work map too small                       22 log too short for bitmap or pages
+ *    9 bin header                               23 no "DIRT"
+ *   10 cell size                                24 hive shorter than 4096 + the log's bins size
+ *   11 offset names no cell in use              25 stamps differ
+ *   12 wrong signature, length, count or name   26 page not marked dirty, or past the bitmap
+ *   13 order of names, or lh hash               27 closing, but a logged page is not in yet
+ *   14 parent, root listed, total count
+ */
+#ifndef KIWEAMOTU_H
+#define KIWEAMOTU_H
+
+#include <stddef.h>
+#include <stdint.h>
+
+#ifdef __cplusplus
+#define HIVE_ASSERT(x) static_assert(x, #x)
+extern "C" {
+#else
+#define HIVE_ASSERT(x) _Static_assert(x, #x)
+#endif
+
+HIVE_ASSERT(sizeof(size_t) == 8); /* x86-64 only */
+
+/* Part of every answer. number: 0, or the refusal's number. place: the refusal's place. key: 0xFFFFFFFF, always, in this
+ * version; a later one may name the key under examination. value: the offset of the key found by hive_find_key, else 0.
+ * Where number is not 0, every other field of the answer but place and key is 0.
+ */
+typedef struct {
+    uint32_t number;
+    uint32_t place;
+    uint32_t key;
+    uint32_t value;
+} HiveAnswer;
+HIVE_ASSERT(offsetof(HiveAnswer, number) == 0);
+HIVE_ASSERT(offsetof(HiveAnswer, place) == 4);
+HIVE_ASSERT(offsetof(HiveAnswer, key) == 8);
+HIVE_ASSERT(offsetof(HiveAnswer, value) == 12);
+HIVE_ASSERT(sizeof(HiveAnswer) == 16);
+
+/* The report of the check. bins: how many bins. keys: keys reached from the root. values: elements of their value lists.
+ * used, free: bytes of cells in use and of free cells, with their size fields. 32 x bins + used + free is the bins size.
+ */
+typedef struct {
+    HiveAnswer answer;
+    uint64_t bins;
+    uint64_t keys;
+    uint64_t values;
+    uint64_t used;
+    uint64_t free;
+} HiveReport;
+HIVE_ASSERT(offsetof(HiveReport, answer) == 0);
+HIVE_ASSERT(offsetof(HiveReport, bins) == 16);
+HIVE_ASSERT(offsetof(HiveReport, keys) == 24);
+HIVE_ASSERT(offsetof(HiveReport, values) == 32);
+HIVE_ASSERT(offsetof(HiveReport, used) == 40);
+HIVE_ASSERT(offsetof(HiveReport, free) == 48);
+HIVE_ASSERT(sizeof(HiveReport) == 56);
+
+/* A value. kind: its registry type (1 REG_SZ, 3 REG_BINARY, 4 REG_DWORD ..). form: 1 inline in the record, 2 in one cell,
+ * 3 in segments. at: the place in the file where its data lie, so hive + at in memory (in segments: where the db record lies).
+ * length: how many bytes the data have. Data of length 0 that are not inline have at 0.
+ */
+typedef struct {
+    HiveAnswer answer;
+    uint32_t kind;
+    uint32_t form;
+    uint64_t at;
+    uint64_t length;
+} HiveValue;
+HIVE_ASSERT(offsetof(HiveValue, answer) == 0);
+HIVE_ASSERT(offsetof(HiveValue, kind) == 16);
+HIVE_ASSERT(offsetof(HiveValue, form) == 20);
+HIVE_ASSERT(offsetof(HiveValue, at) == 24);
+HIVE_ASSERT(offsetof(HiveValue, length) == 32);
+HIVE_ASSERT(sizeof(HiveValue) == 40);
+
+/* length: how many bytes were written. */
+typedef struct {
+    HiveAnswer answer;
+    uint64_t length;
+} HiveCopy;
+HIVE_ASSERT(offsetof(HiveCopy, answer) == 0);
+HIVE_ASSERT(offsetof(HiveCopy, length) == 16);
+HIVE_ASSERT(sizeof(HiveCopy) == 24);
+
+/* An answer of recovery. state: 0 refused, 1 the hive is clean and nothing was changed, 2 accepted or done.
+ * pages: the number of pages that the log holds, where hive_recover_start accepts it, else 0.
+ */
+typedef struct {
+    HiveAnswer answer;
+    uint64_t state;
+    uint64_t pages;
+} HiveRecovery;
+HIVE_ASSERT(offsetof(HiveRecovery, answer) == 0);
+HIVE_ASSERT(offsetof(HiveRecovery, state) == 16);
+HIVE_ASSERT(offsetof(HiveRecovery, pages) == 24);
+HIVE_ASSERT(sizeof(HiveRecovery) == 32);
+
+/* A page of a log. state: 0 refused, 1 no more pages, 2 a page. page: its number. from: where its 512 bytes lie in the log.
+ * to: where they go in the hive. Both are places in the file.
+ */
+typedef struct {
+    HiveAnswer answer;
+    uint64_t state;
+    uint64_t page;
+    uint64_t from;
+    uint64_t to;
+} HivePage;
+HIVE_ASSERT(offsetof(HivePage, answer) == 0);
+HIVE_ASSERT(offsetof(HivePage, state) == 16);
+HIVE_ASSERT(offsetof(HivePage, page) == 24);
+HIVE_ASSERT(offsetof(HivePage, from) == 32);
+HIVE_ASSERT(offsetof(HivePage, to) == 40);
+HIVE_ASSERT(sizeof(HivePage) == 48);
+
+/* The version of this interface: 1. Structs and functions of one version never change. */
+uint32_t hive_abi(void);
+
+/* Checks a hive wholly: base block, bins, cells, and the tree of keys, values and data from the root. Number 0 means that all
+ * of it is sound, and the report counts what is there. The first fault answers, in this order: 1 to 8; 9 and 10, bin by bin;
+ * then 11 to 15 from the root, each key wholly before its next sibling.
+ *
+ * map is a work map of at least bins size / 64 bytes; 1,048,576 are enough for any hive. Afterwards bit b of byte j (lowest bit
+ * first) is set exactly when a cell in use starts at offset 64 j + 8 b. Bytes past bins size / 64 stay. Refusals 1 to 8 leave
+ * the map as it was, 9 and 10 leave its first bins size / 64 bytes zero, later ones leave it complete.
+ */
+HiveReport hive_check(const uint8_t *hive, size_t hive_len, uint8_t *map, size_t map_len);
+
+/* Finds a key by its path and answers its offset in `value`. The path is UTF-16 units split at backslash, with none at its
+ * ends; of no units it names the root. Names are compared by code after upper-casing a to z only. A hive that the check
+ * refuses can be asked too. Refuses 1 to 7, 16, 11 and 12 of the records on the way, 17.
+ */
+HiveAnswer hive_find_key(const uint8_t *hive, size_t hive_len, const uint16_t *path, size_t path_len);
+
+/* The type, form, place and length of a value's data: the first value of that name of the key of that path. A name of no units
+ * is the unnamed value. Its data's cells are tested. Refuses 1 to 7, 16, 11 and 12 of the records on the way, 17, 18, then 11 and 12 of the data.
+ */
+HiveValue hive_value_info(const uint8_t *hive, size_t hive_len, const uint16_t *path, size_t path_len, const uint16_t *name, size_t name_len);
+
+/* The same for a caller who wants to read the data where they lie: with number 0 they are the `length` bytes from hive + at.
+ * Data in segments do not lie in one piece and are refused with 19, at the value's offset, before any data cell is read.
+ */
+HiveValue hive_value_view(const uint8_t *hive, size_t hive_len, const uint16_t *path, size_t path_len, const uint16_t *name, size_t name_len);
+
+/* Copies a value's data, segments joined, to the front of `out`. The bytes behind them stay. Refuses as hive_value_info does,
+ * then 20 where `out` is shorter than the data. A refusal leaves `out` as it was. 1,048,576 bytes are enough for any value.
+ */
+HiveCopy hive_value_copy(const uint8_t *hive, size_t hive_len, const uint16_t *path, size_t path_len, const uint16_t *name, size_t name_len, uint8_t *out, size_t out_len);
+
+/* Whether an old-format log (file type 1 or 2) repairs this hive. A hive that needs no repair answers state 1, whatever the
+ * log. Refuses 1, 21, 22, 23, 22, 24, 25, in this order.
+ *
+ * A repair: start; for each page of hive_recover_next call hive_recover_page and store those 512 bytes in the file; wait until
+ * they are on the disk; hive_recover_close; store the first 512 bytes; wait again. After a power failure, or in doubt, do all
+ * of it again with the file as it is: the outcome is the same file, byte for byte.
+ */
+HiveRecovery hive_recover_start(const uint8_t *hive, size_t hive_len, const uint8_t *log, size_t log_len);
+
+/* Installs the logged page of that number in the hive in memory: 512 bytes at 4096 + 512 x page become the log's, and no other
+ * byte changes. State 2 where it did. Makes all tests of hive_recover_start first and refuses as it does, then 26. A refusal,
+ * and state 1, leave the hive as it was.
+ */
+HiveRecovery hive_recover_page(uint8_t *hive, size_t hive_len, const uint8_t *log, size_t log_len, size_t page);
+
+/* Writes the closing sector to the first 512 bytes of the hive in memory, once every logged page is in: the log's first 512
+ * bytes with file type 0 and a new checksum. No other byte changes. Makes all tests of hive_recover_start first and refuses as
+ * it does, then 27. A refusal, and state 1, leave the hive as it was. Store these bytes only when all pages are on the disk.
+ */
+HiveRecovery hive_recover_close(uint8_t *hive, size_t hive_len, const uint8_t *log, size_t log_len);
+
+/* The least page that the log holds, at or after a number. Refuses 21, 22, 23, 22, in this order. Start with 0, and go on with
+ * page + 1 until state 1.
+ */
+HivePage hive_recover_next(const uint8_t *log, size_t log_len, size_t from);
+
+#ifdef __cplusplus
+}
+#endif
+
+#undef HIVE_ASSERT
+#endif
