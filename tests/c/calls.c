@@ -1,0 +1,492 @@
+/* Every export: nothing lent, short and random input, each refusal, and the data it gives. What is lent ends at an unreadable page. */
+#include <stdio.h>
+#include <stdlib.h>
+#include <string.h>
+#include <sys/mman.h>
+
+#include "../../include/kiweamotu.h"
+#include "build.h"
+
+enum { NO_KEY = 0xffffffff };
+
+static int passed, failed;
+static bool good;
+
+#define EXPECT(x) expect(x, __LINE__, #x)
+
+static void expect(bool x, int line, const char *text)
+{
+    if (!x && good)
+        printf("calls.c:%d: %s\n", line, text);
+    good = good && x;
+}
+
+static void test(const char *name, void (*body)(void))
+{
+    good = true;
+    body();
+    printf("%s %s\n", good ? "ok" : "FAILED", name);
+    fflush(stdout);
+    good ? passed++ : failed++;
+}
+
+/* A copy that ends where an unreadable page starts. Each of the few slots is used again and again. */
+enum { SLOTS = 4, ROOM = 1 << 20 };
+static uint8_t *slot_end[SLOTS];
+
+static uint8_t *lend(int slot, const void *from, size_t length)
+{
+    if (slot_end[slot] == NULL) {
+        uint8_t *p = mmap(NULL, ROOM + 4096, PROT_READ | PROT_WRITE, MAP_PRIVATE | MAP_ANONYMOUS, -1, 0);
+        if (p == MAP_FAILED || mprotect(p + ROOM, 4096, PROT_NONE) != 0)
+            abort();
+        slot_end[slot] = p + ROOM;
+    }
+    if (length > ROOM)
+        abort();
+    uint8_t *p = slot_end[slot] - length;
+    if (length > 0)
+        memcpy(p, from, length);
+    return p;
+}
+
+static size_t units(const char *text, uint16_t *out)
+{
+    size_t n = 0;
+    while (text[n] != 0) {
+        out[n] = (uint8_t)text[n];
+        n++;
+    }
+    return n;
+}
+
+static const uint16_t *lend_units(int slot, const char *text, size_t *n)
+{
+    static uint16_t buffer[4096];
+    *n = units(text, buffer);
+    return (const uint16_t *)lend(slot, buffer, 2 * *n);
+}
+
+static bool is(HiveAnswer a, uint32_t number, uint32_t place)
+{
+    return a.number == number && a.place == place && a.key == NO_KEY && a.value == 0;
+}
+
+static HiveAnswer checked(const uint8_t *file, size_t length)
+{
+    static uint8_t map[ROOM];
+    memset(map, 0xa5, sizeof map);
+    uint8_t *h = lend(0, file, length), *m = lend(1, map, length / 64);
+    HiveReport r = hive_check(h, length, m, length / 64);
+    EXPECT(memcmp(h, file, length) == 0);
+    EXPECT(r.answer.key == NO_KEY && r.answer.value == 0);
+    EXPECT(r.answer.number == 0 || r.bins + r.keys + r.values + r.used + r.free == 0);
+    if (r.answer.number >= 1 && r.answer.number <= 8)
+        EXPECT(memcmp(m, map, length / 64) == 0);
+    return r.answer;
+}
+
+static HiveAnswer found(const uint8_t *file, size_t length, const char *path)
+{
+    size_t n;
+    const uint16_t *p = lend_units(2, path, &n);
+    return hive_find_key(lend(0, file, length), length, p, n);
+}
+
+/* value_info, value_view and value_copy, which must agree. */
+static HiveValue asked(const uint8_t *file, size_t length, const char *path, const char *name, uint8_t *data)
+{
+    static uint8_t before[ROOM];
+    static uint16_t name_buffer[64];
+    size_t n, k = units(name, name_buffer);
+    const uint16_t *p = lend_units(2, path, &n);
+    const uint16_t *x = (const uint16_t *)lend(3, name_buffer, 2 * k);
+    const uint8_t *h = lend(0, file, length);
+    HiveValue v = hive_value_info(h, length, p, n, x, k), w = hive_value_view(h, length, p, n, x, k);
+    memset(before, 0x5a, sizeof before);
+    size_t room = v.answer.number == 0 ? v.length : 16;
+    uint8_t *o = lend(1, before, room);
+    HiveCopy c = hive_value_copy(h, length, p, n, x, k, o, room);
+    EXPECT(memcmp(&c.answer, &v.answer, sizeof v.answer) == 0 && c.length == (v.answer.number == 0 ? v.length : 0));
+    if (v.answer.number != 0)
+        EXPECT(memcmp(o, before, room) == 0 && v.kind + v.form + v.at + v.length == 0);
+    else {
+        memcpy(data, o, v.length);
+        EXPECT(v.form == 3 ? w.answer.number == 19 : memcmp(&v, &w, sizeof v) == 0);
+        EXPECT(v.form == 3 || memcmp(h + v.at, data, v.length) == 0);
+        if (v.length > 0) {
+            o = lend(1, before, v.length - 1);
+            c = hive_value_copy(h, length, p, n, x, k, o, v.length - 1);
+            EXPECT(is(c.answer, 20, 0) && c.length == 0 && memcmp(o, before, v.length - 1) == 0);
+        }
+    }
+    return v;
+}
+
+static void t_nothing(void)
+{
+    EXPECT(hive_abi() == 1);
+    EXPECT(is(hive_check(NULL, 0, NULL, 0).answer, 1, 0));
+    EXPECT(is(hive_find_key(NULL, 0, NULL, 0), 1, 0));
+    EXPECT(is(hive_value_info(NULL, 0, NULL, 0, NULL, 0).answer, 1, 0));
+    EXPECT(is(hive_value_view(NULL, 0, NULL, 0, NULL, 0).answer, 1, 0));
+    EXPECT(is(hive_value_copy(NULL, 0, NULL, 0, NULL, 0, NULL, 0).answer, 1, 0));
+    EXPECT(is(hive_recover_start(NULL, 0, NULL, 0).answer, 1, 0));
+    EXPECT(is(hive_recover_page(NULL, 0, NULL, 0, 0).answer, 1, 0));
+    EXPECT(is(hive_recover_close(NULL, 0, NULL, 0).answer, 1, 0));
+    EXPECT(is(hive_recover_next(NULL, 0, 0).answer, 21, 0));
+    Made m = sample();
+    size_t n = made_length(&m);
+    EXPECT(is(hive_check(m.file, n, NULL, 0).answer, 8, 0));
+    EXPECT(hive_find_key(m.file, n, NULL, 0).value == m.root);
+    EXPECT(is(hive_value_info(m.file, n, NULL, 0, NULL, 0).answer, 18, 0));
+    EXPECT(hive_recover_start(m.file, n, NULL, 0).state == 1);
+    EXPECT(hive_recover_page(m.file, n, NULL, 0, 3).state == 1 && hive_recover_close(m.file, n, NULL, 0).state == 1);
+}
+
+/* All calls on one file, taken for hive and log, path and name. */
+static void all_calls(const uint8_t *bytes, size_t length)
+{
+    checked(bytes, length);
+    uint8_t *h = lend(0, bytes, length), *l = lend(1, bytes, length);
+    const uint16_t *p = (const uint16_t *)lend(2, bytes, length / 2 * 2);
+    EXPECT(hive_find_key(h, length, p, length / 2).key == NO_KEY);
+    EXPECT(hive_value_info(h, length, p, length / 2, p, length / 2).answer.key == NO_KEY);
+    EXPECT(hive_value_view(h, length, NULL, 0, p, length / 2).answer.key == NO_KEY);
+    EXPECT(hive_value_copy(h, length, NULL, 0, p, length / 2, l, length).answer.key == NO_KEY);
+    EXPECT(hive_recover_start(h, length, l, length).answer.key == NO_KEY);
+    EXPECT(hive_recover_next(l, length, 0).answer.key == NO_KEY);
+    for (size_t page = 0; page < 3; page++)
+        EXPECT(hive_recover_page(h, length, l, length, page * 0x7fffffffffffffffu).answer.key == NO_KEY);
+    EXPECT(hive_recover_close(h, length, l, length).answer.key == NO_KEY);
+    if (length < 4096)
+        EXPECT(memcmp(h, bytes, length) == 0 && is(hive_recover_start(h, length, l, length).answer, 1, 0));
+}
+
+static void t_short(void)
+{
+    static uint8_t other[600];
+    Made m = sample();
+    for (size_t n = 0; n <= 600; n++) {
+        all_calls(m.file, n);
+        memset(other, 0xff, sizeof other);
+        all_calls(other, n);
+        memset(other, 0, sizeof other);
+        all_calls(other, n);
+    }
+    for (size_t n = 4000; n <= 4200; n++) {
+        all_calls(m.file, n);
+        EXPECT(is(checked(m.file, n), n < 4096 ? 1 : 6, 0));
+    }
+}
+
+static uint64_t seed = 88172645463325252;
+
+static uint32_t dice(void)
+{
+    seed ^= seed << 13;
+    seed ^= seed >> 7;
+    seed ^= seed << 17;
+    return (uint32_t)(seed >> 32);
+}
+
+static void t_random(void)
+{
+    static uint8_t bytes[3 * 4096];
+    for (int round = 0; round < 2000; round++) {
+        size_t n = dice() % (sizeof bytes + 1);
+        for (size_t i = 0; i < n; i++)
+            bytes[i] = (uint8_t)dice();
+        if (n >= 512 && round % 2 == 0) {
+            memcpy(bytes, "regf", 4);
+            reseal(bytes);
+        }
+        all_calls(bytes, n);
+    }
+}
+
+/* A good hive with a few bytes changed, the base block sealed again: whatever is answered, nothing is read outside. */
+static void t_changed(void)
+{
+    static uint8_t data[ROOM];
+    Made m = sample();
+    size_t n = made_length(&m);
+    uint8_t *file = malloc(n);
+    int refused = 0;
+    for (int round = 0; round < 20000; round++) {
+        memcpy(file, m.file, n);
+        for (int k = dice() % 4; k >= 0; k--) {
+            size_t at = dice() % 4 == 0 ? dice() % 4096 : 4096 + dice() % (round % 2 ? 2400 : m.next);
+            file[at] = dice() % 3 == 0 ? 0xff : (uint8_t)dice();
+        }
+        if (round % 8 != 0)
+            reseal(file);
+        refused += checked(file, n).number != 0;
+        found(file, n, "A\\K6");
+        asked(file, n, "ControlSet001\\Services\\EventLog\\Application\\Print", round % 2 ? "Large" : "Several", data);
+    }
+    EXPECT(refused > 5000);
+    free(file);
+}
+
+static void t_accepted(void)
+{
+    Made m = made(4096, 3);
+    new_key(&m, "R", 0);
+    finish(&m);
+    uint8_t map[65], *lent = lend(1, memset(map, 0xa5, sizeof map), sizeof map);
+    HiveReport r = hive_check(lend(0, m.file, 8192), 8192, lent, sizeof map);
+    EXPECT(is(r.answer, 0, 0) && r.bins == 1 && r.keys == 1 && r.values == 0 && r.used == 88 && r.free == 3976);
+    memset(map, 0, 64);
+    map[0] = 0x10;
+    EXPECT(memcmp(lent, map, 65) == 0);
+    EXPECT(is(hive_check(m.file, 8192, map, 63).answer, 8, 0));
+    m = sample();
+    r = hive_check(m.file, made_length(&m), lend(1, m.file, 1024), 1024);
+    EXPECT(is(r.answer, 0, 0) && r.bins == 1 && r.keys == 16 && r.values == 10 && 32 + r.used + r.free == m.bins);
+    EXPECT(is(checked(m.file, made_length(&m)), 0, 0));
+}
+
+/* One change of the sample at a time, and what the check says. */
+static void change(uint32_t at, uint32_t n, uint32_t number, uint32_t place)
+{
+    Made m = sample();
+    put32(m.file + at, n);
+    if (at < 508)
+        reseal(m.file);
+    EXPECT(is(checked(m.file, made_length(&m)), number, place));
+    free(m.file);
+}
+
+static void t_refusals(void)
+{
+    Made m = sample();
+    size_t n = made_length(&m);
+    uint32_t list = get32(data_of(&m, m.root) + 28), a = get32(data_of(&m, list) + 4), b = get32(data_of(&m, list) + 12);
+    EXPECT(is(checked(m.file, 4095), 1, 0));
+    change(0, 0x66676573, 2, 0);
+    change(508, 0, 3, 0);
+    change(20, 2, 4, 0);
+    change(24, 6, 4, 0);
+    change(24, 0x103, 4, 0);
+    change(28, 1, 4, 0);
+    change(32, 0, 4, 0);
+    change(44, 2, 4, 0);
+    change(40, 0, 5, 0);
+    change(40, 4097, 5, 0);
+    change(40, 67108864 + 4096, 5, 0);
+    change(40, (uint32_t)m.bins + 4096, 6, 0);
+    EXPECT(is(checked(m.file, n - 1), 6, 0));
+    change(8, 9, 7, 0);
+    change(4096, 0, 9, 0);
+    change(4096 + 4, 4096, 9, 0);
+    change(4096 + 8, (uint32_t)m.bins + 4096, 9, 0);
+    change(4096 + 32, 0x80000000, 10, 32);
+    change(4096 + 32, 0, 10, 32);
+    change(4096 + 32, 12, 10, 32);
+    change(36, 0xffffffff, 11, 0xffffffff);
+    change(36, 40, 11, 40);
+    change(4096 + m.root + 4, 0, 12, m.root);
+    change(4096 + list + 4 + 8, 0, 13, a);
+    change(4096 + list + 4 + 4, b, 13, b);
+    change(4096 + b + 4 + 16, 0, 14, b);
+    change(4096 + m.root + 4 + 20, 5, 14, m.root);
+    EXPECT(is(found(m.file, n, "\\"), 16, 0) && is(found(m.file, n, "a\\"), 16, 0) && is(found(m.file, n, "\\a"), 16, 0));
+    EXPECT(is(found(m.file, n, "nobody"), 17, 0) && is(found(m.file, n, "a\\k8"), 17, 0));
+}
+
+/* A second bin whose header is wrong, after a cell of the first that is. */
+static void t_bins(void)
+{
+    Made m = made(8192, 3);
+    new_key(&m, "R", 0);
+    finish(&m);
+    put32(m.file + 4096 + 8, 4096);
+    put32(m.file + 4096 + m.next, 4096 - m.next);
+    EXPECT(is(checked(m.file, made_length(&m)), 9, 4096));
+    put32(m.file + 4096 + m.next, 4096 - m.next - 4);
+    EXPECT(is(checked(m.file, made_length(&m)), 10, m.next));
+    put32(m.file + 4096 + m.next, 4096 - m.next);
+    memcpy(m.file + 8192, m.file + 4096, 32);
+    put32(m.file + 8192 + 4, 4096);
+    put32(m.file + 8192 + 32, 4096 - 32);
+    HiveReport r = hive_check(lend(0, m.file, 12288), 12288, lend(1, m.file, 128), 128);
+    EXPECT(is(r.answer, 0, 0) && r.bins == 2 && r.used == 88 && r.free == 8192 - 64 - 88);
+    free(m.file);
+}
+
+static void t_levels(void)
+{
+    for (int deep = 512; deep <= 513; deep++) {
+        Made m = made(32 * 4096, 4);
+        uint32_t key = m.root = new_key(&m, "R", 0);
+        for (int i = 0; i < deep; i++) {
+            uint32_t child = new_key(&m, "n", key);
+            hang_keys(&m, key, new_leaf(&m, "lh", &child, 1), 1);
+            key = child;
+        }
+        finish(&m);
+        EXPECT(is(checked(m.file, made_length(&m)), deep == 512 ? 0 : 15, deep == 512 ? 0 : key));
+        char path[1030];
+        for (int i = 0; i < deep; i++)
+            memcpy(path + 2 * i, "N\\", 3);
+        path[2 * deep - 1] = 0;
+        HiveAnswer r = found(m.file, made_length(&m), path);
+        EXPECT(deep == 512 ? r.number == 0 && r.value == key : is(r, 16, 0));
+        free(m.file);
+    }
+}
+
+static void t_lookup(void)
+{
+    Made m = sample();
+    size_t n = made_length(&m);
+    uint32_t list = get32(data_of(&m, m.root) + 28), a = get32(data_of(&m, list) + 4);
+    uint32_t last = get32(data_of(&m, get32(data_of(&m, get32(data_of(&m, a) + 28)) + 12)) + 12);
+    EXPECT(found(m.file, n, "").value == m.root);
+    EXPECT(found(m.file, n, "A").value == a && found(m.file, n, "a").value == a);
+    EXPECT(found(m.file, n, "a\\K7").value == last);
+    char part[260];
+    memset(part, 'x', 256);
+    part[256] = 0;
+    EXPECT(is(found(m.file, n, part), 16, 0) && is(found(m.file, n, part + 1), 17, 0));
+}
+
+static void t_values(void)
+{
+    static uint8_t data[ROOM];
+    static const char key[] = "controlset001\\services\\eventlog\\application\\print";
+    Made m = sample();
+    size_t n = made_length(&m);
+    HiveValue v = asked(m.file, n, key, "typessupported", data);
+    EXPECT(v.answer.number == 0 && v.kind == 4 && v.form == 1 && v.length == 4 && memcmp(data, "\7\0\0", 4) == 0);
+    v = asked(m.file, n, key, "", data);
+    EXPECT(v.answer.number == 0 && v.kind == 1 && v.form == 2 && v.length == 6 && memcmp(data, "x\0y\0\0", 6) == 0);
+    v = asked(m.file, n, key, "Large", data);
+    EXPECT(v.answer.number == 0 && v.kind == 3 && v.form == 3 && v.length == 40000);
+    for (size_t i = 0; i < 40000; i++)
+        EXPECT(data[i] == (uint8_t)(i * 7 + i / 251));
+    v = asked(m.file, n, key, "Empty", data);
+    EXPECT(v.answer.number == 0 && v.form == 1 && v.length == 0);
+    EXPECT(is(asked(m.file, n, key, "none", data).answer, 18, 0));
+    EXPECT(is(asked(m.file, n, "b", "", data).answer, 18, 0));
+    EXPECT(is(asked(m.file, n, "none", "", data).answer, 17, 0));
+}
+
+/* Data on both sides of a segment, and the largest. */
+static void t_sizes(void)
+{
+    static uint8_t data[2 * ROOM], back[2 * ROOM];
+    static const size_t sizes[] = {5, 16343, 16344, 16345, 32688, 32689, 900000};
+    for (size_t i = 0; i < sizeof data; i++)
+        data[i] = (uint8_t)(i * 31 + i / 977);
+    for (uint32_t minor = 3; minor <= 5; minor++)
+        for (size_t i = 0; i < sizeof sizes / sizeof sizes[0]; i++) {
+            Made m = made(240 * 4096, minor);
+            m.root = new_key(&m, "R", 0);
+            uint32_t value = new_value(&m, "v", 3, data, sizes[i]);
+            hang_values(&m, m.root, &value, 1);
+            finish(&m);
+            EXPECT(is(checked(m.file, made_length(&m)), 0, 0));
+            HiveValue v = asked(m.file, made_length(&m), "", "V", back);
+            EXPECT(v.answer.number == 0 && v.length == sizes[i] && memcmp(data, back, sizes[i]) == 0);
+            EXPECT(v.form == (sizes[i] > 16344 && minor > 3 ? 3u : 2u));
+            free(m.file);
+        }
+    Made m = made(272 * 4096, 5);
+    m.root = new_key(&m, "R", 0);
+    uint32_t value = new_value(&m, "v", 3, data, 1048576);
+    hang_values(&m, m.root, &value, 1);
+    finish(&m);
+    HiveCopy c = hive_value_copy(m.file, made_length(&m), NULL, 0, (const uint16_t[]){'v'}, 1, back, sizeof back);
+    EXPECT(is(c.answer, 0, 0) && c.length == 1048576 && memcmp(data, back, 1048576) == 0);
+    uint32_t db = get32(data_of(&m, value) + 8);
+    EXPECT(data_of(&m, db)[2] == 65);
+    put32(data_of(&m, value) + 4, 1048577);
+    c = hive_value_copy(m.file, made_length(&m), NULL, 0, (const uint16_t[]){'v'}, 1, back, sizeof back);
+    EXPECT(is(c.answer, 12, value));
+    free(m.file);
+}
+
+static const uint32_t PAGES[] = {0, 3, 4, 17, 127};
+enum { COUNT = sizeof PAGES / sizeof PAGES[0] };
+
+static void t_repair(void)
+{
+    Made m = sample();
+    size_t n = made_length(&m);
+    Log log = made_log(&m, PAGES, COUNT);
+    uint8_t *file = spoilt(&m, PAGES, COUNT), *h = lend(0, file, n);
+    const uint8_t *l = lend(1, log.at, log.length);
+    EXPECT(is(checked(file, n), 7, 0));
+    h = lend(0, file, n);
+    l = lend(1, log.at, log.length);
+    HiveRecovery r = hive_recover_start(h, n, l, log.length);
+    EXPECT(is(r.answer, 0, 0) && r.state == 2 && r.pages == COUNT);
+    EXPECT(is(hive_recover_page(h, n, l, log.length, 1).answer, 26, 0));
+    EXPECT(is(hive_recover_page(h, n, l, log.length, 128).answer, 26, 0));
+    EXPECT(is(hive_recover_close(h, n, l, log.length).answer, 27, 0));
+    EXPECT(memcmp(h, file, n) == 0);
+    HivePage p = hive_recover_next(l, log.length, 0);
+    for (size_t i = 0; i < COUNT; i++) {
+        EXPECT(p.state == 2 && p.page == PAGES[i] && p.from == 1024 + 512 * i && p.to == 4096 + 512 * PAGES[i]);
+        EXPECT(is(hive_recover_close(h, n, l, log.length).answer, 27, 0));
+        r = hive_recover_page(h, n, l, log.length, p.page);
+        EXPECT(r.state == 2 && is(r.answer, 0, 0));
+        memcpy(file + p.to, log.at + p.from, 512);
+        EXPECT(memcmp(h, file, n) == 0);
+        p = hive_recover_next(l, log.length, p.page + 1);
+    }
+    EXPECT(p.state == 1 && is(p.answer, 0, 0));
+    r = hive_recover_close(h, n, l, log.length);
+    EXPECT(r.state == 2 && is(r.answer, 0, 0) && memcmp(h, m.file, n) == 0);
+    EXPECT(hive_recover_close(h, n, l, log.length).state == 1 && hive_recover_page(h, n, l, log.length, 1).state == 1);
+    EXPECT(memcmp(h, m.file, n) == 0 && is(checked(h, n), 0, 0));
+}
+
+/* One change of the log at a time, and what the start says. */
+static void t_log_refusals(void)
+{
+    Made m = sample();
+    size_t n = made_length(&m);
+    uint8_t *file = spoilt(&m, PAGES, COUNT);
+    static const struct { uint32_t at, n, number; } changes[] = {
+        {0, 0, 21}, {28, 0, 21}, {28, 2, 0}, {28, 6, 21}, {8, 6, 21}, {40, 0, 21}, {40, 17 * 4096, 24}, {12, 0, 25}, {512, 0, 23}, {516, 0xffffffff, 22},
+    };
+    for (size_t i = 0; i < sizeof changes / sizeof changes[0]; i++) {
+        Log log = made_log(&m, PAGES, COUNT);
+        put32(log.at + changes[i].at, changes[i].n);
+        reseal(log.at);
+        EXPECT(is(hive_recover_start(lend(0, file, n), n, lend(1, log.at, log.length), log.length).answer, changes[i].number, 0));
+        free(log.at);
+    }
+    Log log = made_log(&m, PAGES, COUNT);
+    for (size_t k = 0; k < log.length; k++) {
+        HiveAnswer a = hive_recover_start(lend(0, file, n), n, lend(1, log.at, k), k).answer;
+        EXPECT(is(a, k < 512 ? 21 : 22, 0));
+    }
+    log = made_log(&m, PAGES, 0);
+    HiveRecovery r = hive_recover_start(file, n, log.at, log.length);
+    EXPECT(r.state == 2 && r.pages == 0 && hive_recover_next(log.at, log.length, 0).state == 1);
+    EXPECT(is(hive_recover_start(file, n, log.at, log.length - 1).answer, 22, 0));
+    EXPECT(is(hive_recover_start(file, n - 1, log.at, log.length).answer, 24, 0));
+}
+
+int main(void)
+{
+    test("nothing lent", t_nothing);
+    test("lengths 0 to 600 and around 4096", t_short);
+    test("random bytes", t_random);
+    test("a hive with changed bytes", t_changed);
+    test("accepted hives, report and map", t_accepted);
+    test("each refusal of the check and of paths", t_refusals);
+    test("bins", t_bins);
+    test("level 512 and 513", t_levels);
+    test("lookup", t_lookup);
+    test("values", t_values);
+    test("data of many sizes", t_sizes);
+    test("a repair", t_repair);
+    test("refusals of recovery", t_log_refusals);
+    printf("%d passed, %d failed\n", passed, failed);
+    return failed != 0;
+}

@@ -1,0 +1,65 @@
+/* Linked into the tool's test build in front of the C library: each open, pwrite and fsync is written to the file HIVE_TRACE. The process ends after
+ * HIVE_CUT of the pwrite and fsync calls. With HIVE_LOSE=k the k-th pwrite is lost, and the process ends at the next fsync: as if the power had
+ * failed with that page not on the disk yet. */
+#include <fcntl.h>
+#include <stdarg.h>
+#include <stdio.h>
+#include <stdlib.h>
+#include <unistd.h>
+
+int open64(const char *, int, ...);
+ssize_t pwrite64(int, const void *, size_t, off_t);
+long syscall(long, ...);
+enum { SYS_FSYNC = 74, CUT = 99 };
+
+static long number(const char *name)
+{
+    const char *text = getenv(name);
+    return text == NULL ? -1 : strtol(text, NULL, 10);
+}
+
+static void trace(const char *what, long a, long b, const char *text)
+{
+    char line[4200];
+    const char *path = getenv("HIVE_TRACE");
+    int n = snprintf(line, sizeof line, "%s %ld %ld %s\n", what, a, b, text);
+    int fd = path == NULL ? -1 : open64(path, O_WRONLY | O_CREAT | 02000 /* append */, 0644);
+    if (fd >= 0 && (write(fd, line, (size_t)n) != n || close(fd) != 0))
+        _exit(98);
+}
+
+static void count_down(void)
+{
+    static long done;
+    if (++done == number("HIVE_CUT"))
+        _exit(CUT);
+}
+
+int open(const char *path, int flags, ...)
+{
+    va_list list;
+    va_start(list, flags);
+    int mode = __builtin_va_arg(list, int);
+    va_end(list);
+    trace("open", flags & 3, flags, path);
+    return open64(path, flags, mode);
+}
+
+ssize_t pwrite(int fd, const void *from, size_t length, off_t at)
+{
+    static long count;
+    trace("pwrite", (long)at, (long)length, "");
+    ssize_t n = ++count == number("HIVE_LOSE") ? (ssize_t)length : pwrite64(fd, from, length, at);
+    count_down();
+    return n;
+}
+
+int fsync(int fd)
+{
+    trace("fsync", 0, 0, "");
+    if (number("HIVE_LOSE") > 0)
+        _exit(CUT);
+    int status = (int)syscall(SYS_FSYNC, fd);
+    count_down();
+    return status;
+}
