@@ -61,11 +61,15 @@ onKey (Faulty f) go = Faulty f
 unfoldable pub valueLook : List ℕ → List ℕ → List ℕ → Look
 valueLook h us x = onKey (keyLook h us) (λ o. lookupValue (binsData h) (minorOf (sector h)) x (keyOf (binsData h) o))
 
+-- what follows the size field of a cell
+abbrev pub dataPlace : Offset → Place
+dataPlace o = record { 0 = placeOf o .0 + 4 }
+
 -- where in the file the data lie: inline data inside the record, else what follows the size field of their cell; no data lie at 0
 unfoldable pub placeIn : ValueData → Place
 placeIn (Inline at len) = placeOf at
-placeIn (OneCell o len) = cond (eqb len 0) (record { 0 = 0 }) (record { 0 = placeOf o .0 + 4 })
-placeIn (Segments o len) = record { 0 = placeOf o .0 + 4 }
+placeIn (OneCell o len) = cond (eqb len 0) (record { 0 = 0 }) (dataPlace o)
+placeIn (Segments o len) = dataPlace o
 
 -- "The sister call of the view gives refusal or the data's place, length and case, and the value's registry type"
 unfoldable pub infoOf : Value → Info

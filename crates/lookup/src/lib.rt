@@ -36,7 +36,7 @@ ghost use Rattle.values.specs.Lists.{wholeValueFault};
 ghost use Rattle.tree.specs.Tree.{hiveOf};
 ghost use Rattle.lookup.specs.Paths.{firstPart, partsOf, isPath};
 ghost use Rattle.lookup.specs.Search.{keyNamed, elementsOf, searchKeys, searchLeaf, searchLeaves, searchBelow, descend as descendTo, lookupKey, valueNamed, searchValues, lookupValue};
-ghost use Rattle.lookup.specs.Answers.{openFault, keyLook, findAnswer, valueLook, placeIn, infoOf, viewFault, viewedFault, infoWhere, infoAnswer, viewAnswer, viewStart, viewBytes, copyAnswer, copyOut};
+ghost use Rattle.lookup.specs.Answers.{openFault, keyLook, findAnswer, valueLook, dataPlace, placeIn, infoOf, viewFault, viewedFault, infoWhere, infoAnswer, viewAnswer, viewStart, viewBytes, copyAnswer, copyOut};
 
 const BACKSLASH: u16 = 92;
 
@@ -317,9 +317,9 @@ fn search_values(bins: &[u8], minor: u32, name: &[u16], e: Entries) -> Look
     ensures { λ r. ⌜ r ≡ searchValues (now (bins .entry)) minor (now (name .entry)) (entriesOf (now (bins .entry)) e) ⌝ }
 {
     let count = e.count;
-    let mut i: usize = 0;
-    while i < count {
-        let v = values::entry(bins, e, i);
+    let mut n: usize = 0;
+    while n < count {
+        let v = values::entry(bins, e, n);
         match value_named(bins, minor, name, v) {
             Look::Missing => {}
             Look::Found(o) => {
@@ -329,7 +329,7 @@ fn search_values(bins: &[u8], minor: u32, name: &[u16], e: Entries) -> Look
                 return Look::Faulty(f);
             }
         }
-        i += 1;
+        n += 1;
     }
     Look::Missing
 }
@@ -363,6 +363,13 @@ fn value_look(hive: &[u8], path: &[u16], name: &[u16]) -> Look
     }
 }
 
+// A cell's data follow its size field.
+fn data_place(cell: Offset) -> Place
+    ensures { λ r. ⌜ r ≡ dataPlace cell ⌝ }
+{
+    Place(fields::to_place(cell).0 + 4)
+}
+
 // Where in the file the data lie.
 fn place_in(x: ValueData) -> Place
     ensures { λ r. ⌜ r ≡ placeIn x ⌝ }
@@ -373,9 +380,9 @@ fn place_in(x: ValueData) -> Place
             if len == 0 {
                 return Place(0);
             }
-            Place(fields::to_place(cell).0 + 4)
+            data_place(cell)
         }
-        ValueData::Segments { cell, len: _ } => Place(fields::to_place(cell).0 + 4),
+        ValueData::Segments { cell, len: _ } => data_place(cell),
     }
 }
 

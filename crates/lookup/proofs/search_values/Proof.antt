@@ -12,10 +12,10 @@ use Rattle.lookup.proofs.search_values.Statement.{statement}
 use Rattle.lookup.proofs.search_values.Tie as tie
 
 abbrev Inv-loop : tie.InvT-loop
-Inv-loop bins minor name e count i₀ i = (i ≤ e .count) × (count ≡ e .count) × (firstOf (valueNamed bins minor name) (entriesOf bins e) ≡ firstOf (valueNamed bins minor name) (drop i (entriesOf bins e)))
+Inv-loop bins minor name e count n₀ n = (n ≤ e .count) × (count ≡ e .count) × (firstOf (valueNamed bins minor name) (entriesOf bins e) ≡ firstOf (valueNamed bins minor name) (drop n (entriesOf bins e)))
 
 abbrev μ-loop : tie.MeasureT-loop
-μ-loop bins minor name e count i₀ i = count - i
+μ-loop bins minor name e count n₀ n = count - n
 
 loop-holds : tie.Need-loop-holds Inv-loop μ-loop
 loop-holds c = (omega arith, refl, refl)
@@ -33,25 +33,25 @@ enum-known-o : tie.Need-enum-known-o Inv-loop μ-loop
 enum-known-o c = search needs
 
 returns : tie.Need-returns Inv-loop μ-loop
-returns c = let l = c .before .before .before .before .before .before .loop in let a = c .before .before .before .before .before .before .before .before .before .args in sym (turn-found _ _ (l .i) _ (l .inv .2) _ (omega (arith, entries-length (a .bins .now) (a .e))) (c .before .before .before .before .entry .ensures) (sym (c .before .before .before .value-named .ensures) ∙ c .before .o .given .1))
+returns c = let l = c .before .before .before .before .before .before .loop in let a = c .before .before .before .before .before .before .before .before .before .args in sym (turn-found _ _ (l .n) _ (l .inv .2) _ (omega (arith, entries-length (a .bins .now) (a .e))) (c .before .before .before .before .entry .ensures) (sym (c .before .before .before .value-named .ensures) ∙ c .before .o .given .1))
 
 enum-known-f : tie.Need-enum-known-f Inv-loop μ-loop
 enum-known-f c = search needs
 
 returns-2 : tie.Need-returns-2 Inv-loop μ-loop
-returns-2 c = let l = c .before .before .before .before .before .before .loop in let a = c .before .before .before .before .before .before .before .before .before .args in sym (turn-faulty _ _ (l .i) _ (l .inv .2) _ (omega (arith, entries-length (a .bins .now) (a .e))) (c .before .before .before .before .entry .ensures) (sym (c .before .before .before .value-named .ensures) ∙ c .before .f .given .1))
+returns-2 c = let l = c .before .before .before .before .before .before .loop in let a = c .before .before .before .before .before .before .before .before .before .args in sym (turn-faulty _ _ (l .n) _ (l .inv .2) _ (omega (arith, entries-length (a .bins .now) (a .e))) (c .before .before .before .before .entry .ensures) (sym (c .before .before .before .value-named .ensures) ∙ c .before .f .given .1))
 
-add-i : tie.Need-add-i Inv-loop μ-loop
-add-i c = search needs
+add-n : tie.Need-add-n Inv-loop μ-loop
+add-n c = search needs
 
 loop-less : tie.Need-loop-less Inv-loop μ-loop
 loop-less c = search needs
 
 loop-again : tie.Need-loop-again Inv-loop μ-loop
-loop-again c = let l = c .before .before .before .before .before .loop in let a = c .before .before .before .before .before .before .before .before .args in (omega arith, l .inv .1, turn-on _ _ (l .i) _ (l .inv .2) _ (omega (arith, entries-length (a .bins .now) (a .e))) (c .before .before .before .entry .ensures) (sym (c .before .before .value-named .ensures) ∙ c .enum-told .given .1))
+loop-again c = let l = c .before .before .before .before .before .loop in let a = c .before .before .before .before .before .before .before .before .args in (omega arith, l .inv .1, turn-on _ _ (l .n) _ (l .inv .2) _ (omega (arith, entries-length (a .bins .now) (a .e))) (c .before .before .before .entry .ensures) (sym (c .before .before .value-named .ensures) ∙ c .enum-told .given .1))
 
 returns-3 : tie.Need-returns-3 Inv-loop μ-loop
-returns-3 c = let l = c .before .loop in let a = c .before .before .before .before .args in sym (turn-end _ _ (l .i) nowhere (l .inv .2) (omega (arith, entries-length (a .bins .now) (a .e))))
+returns-3 c = let l = c .before .loop in let a = c .before .before .before .before .args in sym (turn-end _ _ (l .n) nowhere (l .inv .2) (omega (arith, entries-length (a .bins .now) (a .e))))
 
 pub search-values-spec : {M : Type 1} → statement M
 search-values-spec =
@@ -67,7 +67,7 @@ search-values-spec =
     returns
     enum-known-f
     returns-2
-    add-i
+    add-n
     loop-less
     loop-again
     returns-3)
