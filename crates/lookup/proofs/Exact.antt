@@ -23,7 +23,7 @@ use Rattle.lookup.specs.declared.Look.{Look}
 use Rattle.lookup.specs.declared.Look.the-variants.{Found, Missing, Faulty}
 use Rattle.lookup.specs.Paths.{partsOf, isPath, pathFault}
 use Rattle.lookup.specs.Search.{onSound, descend, lookupKey}
-use Rattle.lookup.specs.Answers.{openFault, orMissing, keyLook, keyFound, findAnswer}
+use Rattle.lookup.specs.Answers.{openFault, keyLook, keyFound, findAnswer}
 use Rattle.lookup.specs.Reach.{Holds}
 use Rattle.lookup.proofs.Finds.{key-good, found-holds, holds-found, never-faulty}
 
@@ -37,17 +37,17 @@ module _ (h : List ℕ) (w : CleanAndWellFormed h) where
   unfolding openFault pathFault
   open-path us p = on _ _ (facts-base h (w .is-clean) (w .inside)) ∙ fails (flaw PathParts nowhere) p
 
-  pub look-is : (us : List ℕ) → isPath us ≡ true → keyLook h us ≡ orMissing (descend (binsData h) (hiveOf h .root) (partsOf us)) (flaw NoKey nowhere)
+  pub look-is : (us : List ℕ) → isPath us ≡ true → keyLook h us ≡ descend (binsData h) (hiveOf h .root) (partsOf us)
   unfolding keyLook lookupKey
   look-is us p = rw (open-sound us p, key-good (binsData h) (hiveOf h) (w .formed .tiled) levels (hiveOf h .root) (w .formed .tree))
 
   -- the three ways out of a lookup along a path
   module _ (us : List ℕ) (p : isPath us ≡ true) where
     found-look : {o : Offset} → descend (binsData h) (hiveOf h .root) (partsOf us) ≡ Found o → keyLook h us ≡ Found o
-    found-look e = look-is us p ∙ rw e
+    found-look e = look-is us p ∙ e
 
-    missing-look : descend (binsData h) (hiveOf h .root) (partsOf us) ≡ Missing → keyLook h us ≡ Faulty (flaw NoKey nowhere)
-    missing-look e = look-is us p ∙ rw e
+    missing-look : descend (binsData h) (hiveOf h .root) (partsOf us) ≡ Missing → keyLook h us ≡ Missing
+    missing-look e = look-is us p ∙ e
 
     -- a key is found under a path exactly when the tree holds it there
     pub look-exactly : (o : Offset) → (keyLook h us ≡ Found o) ↔ Holds (binsData h) (hiveOf h .root) (partsOf us) o
@@ -64,14 +64,14 @@ module _ (h : List ℕ) (w : CleanAndWellFormed h) where
             by Missing q = let s = sym (missing-look q) ∙ e in absurd (let z : _≡_ {A = ℕ} 0 1 = cc in omega arith)
             by (Faulty f) q = absurd (never-faulty (binsData h) (hiveOf h) (w .formed .tiled) levels (hiveOf h .root) (partsOf us) (w .formed .tree) q)
 
-    -- and 17 answers exactly when it holds none
-    pub look-none : (keyLook h us ≡ Faulty (flaw NoKey nowhere)) ↔ ((o : Offset) → Holds (binsData h) (hiveOf h .root) (partsOf us) o → ⊥)
+    -- and none is found exactly when it holds none
+    pub look-none : (keyLook h us ≡ Missing) ↔ ((o : Offset) → Holds (binsData h) (hiveOf h .root) (partsOf us) o → ⊥)
     look-none = (λ e o r. let s = sym (look-exactly o .1 r) ∙ e in let z : _≡_ {A = ℕ} 0 1 = cc in omega arith, from)
       where
-        from : ((o : Offset) → Holds (binsData h) (hiveOf h .root) (partsOf us) o → ⊥) → keyLook h us ≡ Faulty (flaw NoKey nowhere)
+        from : ((o : Offset) → Holds (binsData h) (hiveOf h .root) (partsOf us) o → ⊥) → keyLook h us ≡ Missing
         from f = by (descend (binsData h) (hiveOf h .root) (partsOf us)) refl
           where
-            by : (l : Look) → descend (binsData h) (hiveOf h .root) (partsOf us) ≡ l → keyLook h us ≡ Faulty (flaw NoKey nowhere)
+            by : (l : Look) → descend (binsData h) (hiveOf h .root) (partsOf us) ≡ l → keyLook h us ≡ Missing
             by (Found y) q = absurd (f y (look-exactly y .0 (found-look q)))
             by Missing q = missing-look q
             by (Faulty g) q = absurd (never-faulty (binsData h) (hiveOf h) (w .formed .tiled) levels (hiveOf h .root) (partsOf us) (w .formed .tree) q)

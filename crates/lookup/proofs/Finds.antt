@@ -29,7 +29,7 @@ use Rattle.tree.specs.WellFormed.{LeafStands, ListStands, KeyStands, Ascends, n
 use Rattle.tree.proofs.Stands.{of-cell, of-leaf, of-key}
 use Rattle.lookup.specs.declared.Look.{Look}
 use Rattle.lookup.specs.declared.Look.the-variants.{Found, Missing, Faulty}
-use Rattle.lookup.specs.Search.{onSound, orElse, onFound, keyNamed, searchKeys, searchLeaf, searchLeaves, searchBelow, descend}
+use Rattle.lookup.specs.Search.{onSound, orElse, onFound, firstOf, keyNamed, searchKeys, searchLeaf, searchLeaves, searchBelow, descend}
 use Rattle.lookup.specs.Reach.{Holds, here, below}
 
 -- the ways of a search
@@ -66,13 +66,13 @@ module _ (d x : List ℕ) where
 
   -- the search of two lists, one after the other
   search-append : (cs es : List Child) → orElse (searchKeys d x cs) (searchKeys d x es) ≡ searchKeys d x (cs ++ es)
-  unfolding searchKeys orElse
+  unfolding firstOf orElse
   search-append [] es = refl
   search-append (c ∷ cs) es = or-assoc (keyNamed d x c) (searchKeys d x cs) (searchKeys d x es) ∙ ap (orElse (keyNamed d x c)) (search-append cs es)
 
   -- leaves without fault are searched as one list
   search-leaves : (ls : List Offset) → ((l : Offset) → List·Memᴰ l ls → leafFault Header d [] l ≡ Sound) → searchLeaves d x ls ≡ searchKeys d x (childrenIn d ls)
-  unfolding searchLeaves searchLeaf childrenIn searchKeys
+  unfolding firstOf searchLeaf childrenIn
   search-leaves [] f = refl
   search-leaves (l ∷ ls) f =
       rw (f l (List·Memᴰ·head refl), search-leaves ls (λ e i. f e (List·Memᴰ·tail i)))
@@ -90,7 +90,7 @@ module _ (d x : List ℕ) where
       by (Flawed f) t p q = absurd (let z : _≡_ {A = ℕ} 0 1 = cc in omega arith)
 
   found-in : (cs : List Child) {o : Offset} → searchKeys d x cs ≡ Found o → (c : Child) × List·Memᴰ c cs × (o ≡ c .at) × (compare (nameAt d (c .at)) x ≡ Same)
-  unfolding searchKeys orElse
+  unfolding firstOf orElse
   found-in [] e = absurd (let z : _≡_ {A = ℕ} 0 1 = cc in omega arith)
   found-in (c ∷ cs) {o} e = by (found-in cs) (keyNamed d x c) refl e
     where
@@ -106,7 +106,7 @@ module _ (d x : List ℕ) where
 
   -- where all records are good: no fault, and the key of the name is found
   no-fault : (cs : List Child) → ((c : Child) → List·Memᴰ c cs → keyFault Header d [] (c .at) ≡ Sound) → {f : Flaw} → searchKeys d x cs ≡ Faulty f → ⊥
-  unfolding searchKeys orElse keyNamed
+  unfolding firstOf orElse keyNamed
   no-fault [] ok e = let z : _≡_ {A = ℕ} 0 1 = cc in omega arith
   no-fault (c ∷ cs) ok {f} e =
       by (no-fault cs (λ b i. ok b (List·Memᴰ·tail i))) (sameName (nameAt d (c .at)) x) (rw (ok c (List·Memᴰ·head refl)) at e)
@@ -117,7 +117,7 @@ module _ (d x : List ℕ) where
 
   find-there : (cs : List Child) → Ascends d cs → ((c : Child) → List·Memᴰ c cs → keyFault Header d [] (c .at) ≡ Sound)
       → (c : Child) → List·Memᴰ c cs → compare (nameAt d (c .at)) x ≡ Same → searchKeys d x cs ≡ Found (c .at)
-  unfolding searchKeys
+  unfolding firstOf
   find-there [] a ok c i e = absurd (List·Memᴰ·not-nil i)
   find-there (b ∷ cs) (more f a) ok c i e =
       ⊎-elim
@@ -163,7 +163,7 @@ module _ (d : List ℕ) (hive : Hive) (tiles : BinsTile d 0) where
 
   -- below a key that stands, its children are searched as one list
   pub search-below : (minor : ℕ) (o : Offset) → KeyStands d minor o → (x : List ℕ) → searchBelow d x (keyOf d o) ≡ searchKeys d x (children d o)
-  unfolding searchBelow childrenBelow leavesBelow childrenIn searchKeys
+  unfolding searchBelow childrenBelow leavesBelow childrenIn firstOf
   search-below minor o s x = by (eqb (keyOf d o .subkeys) 0) refl
     where
       by : (t : Bool) → eqb (keyOf d o .subkeys) 0 ≡ t → searchBelow d x (keyOf d o) ≡ searchKeys d x (children d o)

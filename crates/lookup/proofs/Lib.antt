@@ -1,4 +1,9 @@
 pub mod Finds
 pub mod Splits
+pub mod Parts
+pub mod Passes
+pub mod Turns
+pub mod Searches
+pub mod Descents
 pub mod Exact
 pub mod ValueFinds

@@ -27,7 +27,7 @@ use Rattle.tree.specs.WellFormed.{ValueStands, ValuesStand}
 use Rattle.tree.proofs.Stands.{of-value, of-values}
 use Rattle.lookup.specs.declared.Look.{Look}
 use Rattle.lookup.specs.declared.Look.the-variants.{Found, Missing, Faulty}
-use Rattle.lookup.specs.Search.{onSound, orElse, valueNamed, searchValues, lookupValue}
+use Rattle.lookup.specs.Search.{onSound, orElse, firstOf, valueNamed, searchValues, lookupValue}
 use Rattle.lookup.specs.Reach.{HasName, FirstNamed, first, later}
 
 module _ (d : List ℕ) (minor : ℕ) (x : List ℕ) where
@@ -38,7 +38,7 @@ module _ (d : List ℕ) (minor : ℕ) (x : List ℕ) where
 
   first-found : (vs : List Offset) → ((v : Offset) → List·Memᴰ v vs → valueFault Header d [] v ≡ Sound) → {v : Offset} → FirstNamed d minor x vs v
       → searchValues d minor x vs ≡ Found v
-  unfolding searchValues orElse
+  unfolding firstOf orElse
   first-found (u ∷ vs) ok (first p) = rw (named-is u (ok u (List·Memᴰ·head refl)), name-same _ _ p)
   first-found (u ∷ vs) ok (later p f) =
       rw (named-is u (ok u (List·Memᴰ·head refl)), not-named) (first-found vs (λ v i. ok v (List·Memᴰ·tail i)) f)
@@ -52,7 +52,7 @@ module _ (d : List ℕ) (minor : ℕ) (x : List ℕ) where
 
   found-first : (vs : List Offset) → ((v : Offset) → List·Memᴰ v vs → valueFault Header d [] v ≡ Sound) → {v : Offset}
       → searchValues d minor x vs ≡ Found v → FirstNamed d minor x vs v
-  unfolding searchValues orElse
+  unfolding firstOf orElse
   found-first [] ok e = absurd (let z : _≡_ {A = ℕ} 0 1 = cc in omega arith)
   found-first (u ∷ vs) ok {v} e =
       by (found-first vs (λ v i. ok v (List·Memᴰ·tail i))) (sameName (codesOf d (valueOf d minor u .name)) x) refl (rw (named-is u (ok u (List·Memᴰ·head refl))) at e)
@@ -67,7 +67,7 @@ module _ (d : List ℕ) (minor : ℕ) (x : List ℕ) where
       by rest false p q = later (λ s. never _ (name-same _ _ s) p) (rest (rw p at q))
 
   no-fault : (vs : List Offset) → ((v : Offset) → List·Memᴰ v vs → valueFault Header d [] v ≡ Sound) → {f : Flaw} → searchValues d minor x vs ≡ Faulty f → ⊥
-  unfolding searchValues orElse
+  unfolding firstOf orElse
   no-fault [] ok e = let z : _≡_ {A = ℕ} 0 1 = cc in omega arith
   no-fault (u ∷ vs) ok {f} e =
       by (no-fault vs (λ v i. ok v (List·Memᴰ·tail i))) (sameName (codesOf d (valueOf d minor u .name)) x) (rw (named-is u (ok u (List·Memᴰ·head refl))) at e)

@@ -33,22 +33,17 @@ use Rattle.lookup.specs.declared.Look.the-variants.{Found, Missing, Faul
 use Rattle.lookup.specs.declared.ValueFound.{ValueFound}
 use Rattle.lookup.specs.declared.ValueFound.the-variants.{At as ValueAt, Refused as Unvalued}
 use Rattle.lookup.specs.Paths.{partsOf, pathFault}
-use Rattle.lookup.specs.Search.{onSound, onFound, lookupKey, lookupValue}
+use Rattle.lookup.specs.Search.{onSound, lookupKey, lookupValue}
 
 -- 1 to 7, then 16
 unfoldable pub openFault : List ℕ → List ℕ → Verdict
 openFault h us = baseFault h next pathFault us
 
--- what is missing gives a number: 17 for a key, 18 for a value
-abbrev pub orMissing : Look → Flaw → Look
-orMissing (Found o) f = Found o
-orMissing Missing f = Faulty f
-orMissing (Faulty g) f = Faulty g
-
+-- the key of that path
 unfoldable pub keyLook : List ℕ → List ℕ → Look
-keyLook h us =
-    onSound (openFault h us) (orMissing (lookupKey (binsData h) (hiveOf h .root) (partsOf us)) (flaw NoKey nowhere))
+keyLook h us = onSound (openFault h us) (lookupKey (binsData h) (hiveOf h .root) (partsOf us))
 
+-- "17: no such key"
 abbrev pub keyFound : Look → KeyFound
 keyFound (Found o) = At o
 keyFound Missing = Refused (refusalOf (flaw NoKey nowhere))
@@ -58,26 +53,25 @@ keyFound (Faulty f) = Refused (refusalOf f)
 unfoldable pub findAnswer : List ℕ → List ℕ → KeyFound
 findAnswer h us = keyFound (keyLook h us)
 
--- the value of that name below the key of that path
+-- what a value call does with the key: where there is none, 17
+abbrev pub onKey : Look → (Offset → Look) → Look
+onKey (Found o) go = go o
+onKey Missing go = Faulty (flaw NoKey nowhere)
+onKey (Faulty f) go = Faulty f
+
+-- the value of that name, of the key of that path
 unfoldable pub valueLook : List ℕ → List ℕ → List ℕ → Look
-valueLook h us x =
-    onFound (keyLook h us)
-    (λ o. orMissing (lookupValue (binsData h) (minorOf (sector h)) x (keyOf (binsData h) o)) (flaw NoValue nowhere))
+valueLook h us x = onKey (keyLook h us) (λ o. lookupValue (binsData h) (minorOf (sector h)) x (keyOf (binsData h) o))
 
 -- where in the file the data lie: inline data inside the record, else what follows the size field of their cell; no data lie at 0
 unfoldable pub placeIn : ValueData → Place
 placeIn (Inline at len) = placeOf at
-placeIn (OneCell o len) = cond (eqb len 0) (record { 0 = 0 }) (record { 0 = o .0 + 4 + 4096 })
-placeIn (Segments o len) = record { 0 = o .0 + 4 + 4096 }
+placeIn (OneCell o len) = cond (eqb len 0) (record { 0 = 0 }) (record { 0 = placeOf o .0 + 4 })
+placeIn (Segments o len) = record { 0 = placeOf o .0 + 4 }
 
-unfoldable pub infoOf : List ℕ → ℕ → Offset → Info
-infoOf d minor v =
-    record {
-      kind = valueOf d minor v .kind;
-      content = dataIn d minor v;
-      at = placeIn (dataIn d minor v);
-      len = lengthOf (dataIn d minor v);
-    }
+-- "The sister call of the view gives refusal or the data's place, length and case, and the value's registry type"
+unfoldable pub infoOf : Value → Info
+infoOf x = record { kind = x .kind; content = x .content; at = placeIn (x .content); len = lengthOf (x .content) }
 
 -- "19: view asked of segmented data", at the value
 unfoldable pub viewFault : Offset → ValueData → Verdict
@@ -89,6 +83,7 @@ abbrev pub infoWhere : Verdict → Info → ValueFound
 infoWhere Sound i = ValueAt i
 infoWhere (Flawed f) i = Unvalued (refusalOf f)
 
+-- "18: no such value"
 abbrev pub valueFound : Look → (Offset → ValueFound) → ValueFound
 valueFound (Found v) go = go v
 valueFound Missing go = Unvalued (refusalOf (flaw NoValue nowhere))
@@ -99,7 +94,7 @@ unfoldable pub infoAnswer : List ℕ → List ℕ → List ℕ → ValueFound
 infoAnswer h us x =
     let d = binsData h in
     let minor = minorOf (sector h) in
-    valueFound (valueLook h us x) (λ v. infoWhere (dataFault Header d [] (dataIn d minor v)) (infoOf d minor v))
+    valueFound (valueLook h us x) (λ v. infoWhere (dataFault Header d [] (dataIn d minor v)) (infoOf (valueOf d minor v)))
 
 -- view_info, the view's sister: the same with 19 "before any data cell is read"
 unfoldable pub viewAnswer : List ℕ → List ℕ → List ℕ → ValueFound
@@ -107,7 +102,7 @@ viewAnswer h us x =
     let d = binsData h in
     let minor = minorOf (sector h) in
     valueFound (valueLook h us x)
-    (λ v. infoWhere (viewFault v (dataIn d minor v) next dataFault Header d [] (dataIn d minor v)) (infoOf d minor v))
+    (λ v. infoWhere (viewFault v (dataIn d minor v) next dataFault Header d [] (dataIn d minor v)) (infoOf (valueOf d minor v)))
 
 -- "A view is the very part of the lent hive that holds the data, empty on refusal"
 abbrev pub partOf : List ℕ → ValueFound → List ℕ

@@ -19,6 +19,11 @@ unfoldable pub split : List ℕ → List (List ℕ)
 split [] = [] ∷ []
 split (u ∷ us) = cond (eqb u backslash) ([] ∷ split us) (joinFirst u (split us))
 
+-- the units before the first backslash: the first part
+unfoldable pub firstPart : List ℕ → List ℕ
+firstPart [] = []
+firstPart (u ∷ us) = cond (eqb u backslash) [] (u ∷ firstPart us)
+
 -- the parts of a path: of the empty path none
 unfoldable pub partsOf : List ℕ → List (List ℕ)
 partsOf [] = []

@@ -1,6 +1,6 @@
 -- "then the records in list order up to the first match, each only for 11 and 12 (not order, hash, parent or total)". d is the bins data; there is no
 -- map, and a cell is named by its own header.
-use Prim.Native.Nat.{ℕ}
+use Prim.Native.Nat.{ℕ, zero, suc}
 use mathlib.Core.Bool.{Bool, true, false, cond}
 use mathlib.Core.List.{List, [], _∷_}
 use lib.Dec.{eqb}
@@ -12,8 +12,10 @@ use Rattle.cells.specs.Named.{dataAt}
 use Rattle.names.specs.Comparison.{sameName}
 use Rattle.records.specs.declared.Child.{Child}
 use Rattle.records.specs.declared.Key.{Key}
+use Rattle.records.specs.declared.Leaf.{Leaf}
 use Rattle.records.specs.Keys.{keyFault, keyOf, codesOf}
 use Rattle.records.specs.Lists.{leafFault, headFault, leafChildren, leavesOf}
+use Rattle.records.specs.Places.{childNamed}
 use Rattle.values.specs.declared.Value.{Value}
 use Rattle.values.specs.Records.{valueFault, valueOf}
 use Rattle.values.specs.Lists.{valuesOf, valueListFault}
@@ -37,21 +39,32 @@ onFound (Found o) go = go o
 onFound Missing go = Missing
 onFound (Faulty f) go = Faulty f
 
+-- the first of some things that answers, one after the other
+unfoldable pub firstOf : {A : Type 0} → (A → Look) → List A → Look
+firstOf each [] = Missing
+firstOf each (x ∷ xs) = orElse (each x) (firstOf each xs)
+
 -- the first of some keys that has the name: each record is tested when it is reached
 unfoldable pub keyNamed : List ℕ → List ℕ → Child → Look
 keyNamed d x c = onSound (keyFault Header d [] (c .at)) (cond (sameName (nameAt d (c .at)) x) (Found (c .at)) Missing)
 
-unfoldable pub searchKeys : List ℕ → List ℕ → List Child → Look
-searchKeys d x [] = Missing
-searchKeys d x (c ∷ cs) = orElse (keyNamed d x c) (searchKeys d x cs)
+abbrev pub searchKeys : List ℕ → List ℕ → List Child → Look
+searchKeys d x cs = firstOf (keyNamed d x) cs
+
+-- the elements of a leaf where they stand in the bins data: n of them from element i on, and all
+unfoldable pub elementsFrom : List ℕ → Leaf → ℕ → ℕ → List Child
+elementsFrom d leaf i zero = []
+elementsFrom d leaf i (suc n) = childNamed d leaf i ∷ elementsFrom d leaf (suc i) n
+
+abbrev pub elementsOf : List ℕ → Leaf → List Child
+elementsOf d leaf = elementsFrom d leaf 0 (leaf .count)
 
 -- "One leaf of an `ri` at a time: leaf 1, its keys, leaf 2, its keys."
 unfoldable pub searchLeaf : List ℕ → List ℕ → Offset → Look
 searchLeaf d x l = onSound (leafFault Header d [] l) (searchKeys d x (leafChildren (dataAt d l)))
 
-unfoldable pub searchLeaves : List ℕ → List ℕ → List Offset → Look
-searchLeaves d x [] = Missing
-searchLeaves d x (l ∷ ls) = orElse (searchLeaf d x l) (searchLeaves d x ls)
+abbrev pub searchLeaves : List ℕ → List ℕ → List Offset → Look
+searchLeaves d x ls = firstOf (searchLeaf d x) ls
 
 -- below a key: "The subkey count is only asked whether it is 0; all elements of the lists are searched."
 unfoldable pub searchBelow : List ℕ → List ℕ → Key → Look
@@ -72,9 +85,8 @@ unfoldable pub valueNamed : List ℕ → ℕ → List ℕ → Offset → Look
 valueNamed d minor x v =
     onSound (valueFault Header d [] v) (cond (sameName (codesOf d (valueOf d minor v .name)) x) (Found v) Missing)
 
-unfoldable pub searchValues : List ℕ → ℕ → List ℕ → List Offset → Look
-searchValues d minor x [] = Missing
-searchValues d minor x (v ∷ vs) = orElse (valueNamed d minor x v) (searchValues d minor x vs)
+abbrev pub searchValues : List ℕ → ℕ → List ℕ → List Offset → Look
+searchValues d minor x vs = firstOf (valueNamed d minor x) vs
 
 -- "18 comes after the value list's 11 and 12 and those of all its values. Value count 0 gives 18 and reads nothing."
 unfoldable pub lookupValue : List ℕ → ℕ → List ℕ → Key → Look
