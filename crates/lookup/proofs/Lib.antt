@@ -5,5 +5,11 @@ pub mod Passes
 pub mod Turns
 pub mod Searches
 pub mod Descents
+pub mod Opens
+pub mod Value_searches
+pub mod Value_answers
+pub mod Answered
 pub mod Exact
+pub mod Listed
+pub mod Agree
 pub mod ValueFinds

@@ -1,18 +1,16 @@
 -- The answers of the calls: "Order: 1 to 7; 16; then the records in list order up to the first match [..]; 17; 18; for a view 19 before any data cell
 -- is read; then the data's own 11 or 12." h is the hive, us the path, x the value's name.
 use Prim.Native.Nat.{ℕ, _+_}
-use mathlib.Core.Bool.{Bool, true, false, cond}
+use mathlib.Core.Bool.{cond}
 use mathlib.Core.List.{List, [], _++_}
 use lib.Dec.{eqb, leb}
 use lib.ListN.{length, take, drop}
-use Rattle.fields.specs.declared.Flaw.{Flaw}
 use Rattle.fields.specs.declared.Offset.{Offset}
 use Rattle.fields.specs.declared.Place.{Place}
-use Rattle.fields.specs.declared.Refusal.{Refusal}
 use Rattle.fields.specs.declared.Verdict.{Verdict}
 use Rattle.fields.specs.declared.Verdict.the-variants.{Sound, Flawed}
 use Rattle.fields.specs.declared.Fault.the-variants.{NoKey, NoValue, Segmented, OutputShort}
-use Rattle.fields.specs.Faults.{flaw, nowhere, unless, _next_, refusalOf}
+use Rattle.fields.specs.Faults.{flaw, nowhere, _next_, refusalOf}
 use Rattle.fields.specs.Position.{placeOf}
 use Rattle.base.specs.Block.{sector, minorOf, binsData, baseFault}
 use Rattle.cells.specs.declared.Rule.the-variants.{Header}
@@ -20,7 +18,7 @@ use Rattle.records.specs.Keys.{keyOf}
 use Rattle.values.specs.declared.Value.{Value}
 use Rattle.values.specs.declared.ValueData.{ValueData}
 use Rattle.values.specs.declared.ValueData.the-variants.{Inline, OneCell, Segments}
-use Rattle.values.specs.Records.{dataIn, valueOf}
+use Rattle.values.specs.Records.{valueFault, dataIn, valueOf}
 use Rattle.values.specs.Segments.{dataFault, bytesOf, lengthOf}
 use Rattle.tree.specs.Tree.{hiveOf}
 use Rattle.lookup.specs.declared.Copied.{Copied}
@@ -79,6 +77,13 @@ viewFault v (Inline at len) = Sound
 viewFault v (OneCell o len) = Sound
 viewFault v (Segments o len) = Flawed (flaw Segmented v)
 
+-- of a value by itself: its record, 19 "before any data cell is read", "then the data's own 11 or 12"
+unfoldable pub viewedFault : List ℕ → ℕ → Offset → Verdict
+viewedFault d minor v =
+    valueFault Header d [] v
+    next viewFault v (dataIn d minor v)
+    next dataFault Header d [] (dataIn d minor v)
+
 abbrev pub infoWhere : Verdict → Info → ValueFound
 infoWhere Sound i = ValueAt i
 infoWhere (Flawed f) i = Unvalued (refusalOf f)
@@ -108,6 +113,14 @@ viewAnswer h us x =
 abbrev pub partOf : List ℕ → ValueFound → List ℕ
 partOf h (ValueAt i) = take (i .len) (drop (i .at .0) h)
 partOf h (Unvalued f) = []
+
+-- where in the hive that part starts; the empty part stands at its start
+abbrev pub partStart : ValueFound → ℕ
+partStart (ValueAt i) = i .at .0
+partStart (Unvalued f) = 0
+
+unfoldable pub viewStart : List ℕ → List ℕ → List ℕ → ℕ
+viewStart h us x = partStart (viewAnswer h us x)
 
 unfoldable pub viewBytes : List ℕ → List ℕ → List ℕ → List ℕ
 viewBytes h us x = partOf h (viewAnswer h us x)

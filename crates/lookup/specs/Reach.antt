@@ -21,6 +21,11 @@ pub data Holds (d : List ℕ) : Offset → List (List ℕ) → Offset → Type 0
   below : {o e : Offset} {c : Child} {x : List ℕ} {xs : List (List ℕ)} → List·Memᴰ c (children d o) → compare (nameAt d (c .at)) x ≡ Same
       → Holds d (c .at) xs e → Holds d o (x ∷ xs) e
 
+-- the names along the way from a key down to another, as they are stored
+pub data Named (d : List ℕ) : Offset → List (List ℕ) → Offset → Type 0 where
+  itself : {o : Offset} → Named d o [] o
+  child : {o e : Offset} {c : Child} {xs : List (List ℕ)} → List·Memᴰ c (children d o) → Named d (c .at) xs e → Named d o (nameAt d (c .at) ∷ xs) e
+
 abbrev pub HasName : List ℕ → ℕ → List ℕ → Offset → Type 0
 HasName d minor x v = compare (codesOf d (valueOf d minor v .name)) x ≡ Same
 

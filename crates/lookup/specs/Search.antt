@@ -1,7 +1,7 @@
 -- "then the records in list order up to the first match, each only for 11 and 12 (not order, hash, parent or total)". d is the bins data; there is no
 -- map, and a cell is named by its own header.
 use Prim.Native.Nat.{ℕ, zero, suc}
-use mathlib.Core.Bool.{Bool, true, false, cond}
+use mathlib.Core.Bool.{cond}
 use mathlib.Core.List.{List, [], _∷_}
 use lib.Dec.{eqb}
 use Rattle.fields.specs.declared.Offset.{Offset}

@@ -23,19 +23,20 @@ ghost use mathlib.Core.Bool.{true};
 ghost use mathlib.Core.List.{[]};
 ghost use Prim.Native.Nat.{_+_, _≤_};
 ghost use lib.ListN.{length, drop};
+ghost use denote.Ref.{ptr};
 ghost use Rattle.fields.specs.declared.Verdict.the-variants.{Sound};
-ghost use Rattle.fields.specs.Faults.{_next_};
 ghost use Rattle.base.specs.Block.{sector, minorOf, binsLimit, binsData, baseFault};
 ghost use Rattle.cells.specs.declared.Rule.the-variants.{Header};
 ghost use Rattle.records.specs.Keys.{keyFault};
 ghost use Rattle.records.specs.Places.{ElementsLie, LeavesLie, leavesNamed};
 ghost use Rattle.values.specs.Entries.{Room, entriesOf};
-ghost use Rattle.values.specs.Records.{valueFault, valueOf};
+ghost use Rattle.values.specs.Records.{valueOf};
 ghost use Rattle.values.specs.Segments.{dataFault, lengthOf};
 ghost use Rattle.values.specs.Lists.{wholeValueFault};
+ghost use Rattle.tree.specs.Tree.{hiveOf};
 ghost use Rattle.lookup.specs.Paths.{firstPart, partsOf, isPath};
 ghost use Rattle.lookup.specs.Search.{keyNamed, elementsOf, searchKeys, searchLeaf, searchLeaves, searchBelow, descend as descendTo, lookupKey, valueNamed, searchValues, lookupValue};
-ghost use Rattle.lookup.specs.Answers.{openFault, keyLook, findAnswer, valueLook, placeIn, infoOf, viewFault, infoWhere, infoAnswer, viewAnswer, viewBytes, copyAnswer, copyOut};
+ghost use Rattle.lookup.specs.Answers.{openFault, keyLook, findAnswer, valueLook, placeIn, infoOf, viewFault, viewedFault, infoWhere, infoAnswer, viewAnswer, viewStart, viewBytes, copyAnswer, copyOut};
 
 const BACKSLASH: u16 = 92;
 
@@ -220,9 +221,172 @@ fn lookup_key(bins: &[u8], root: Offset, path: &[u16]) -> Look
     }
 }
 
+// The bins data of a hive whose base block passed.
+fn bins_of(hive: &[u8]) -> &[u8]
+    requires { ⌜ baseFault (now hive) ≡ Sound ⌝ }
+    ensures { λ r. ⌜ now r ≡ binsData (now (hive .entry)) ⌝ }
+{
+    let s = &hive[0..512];
+    let end = 4096 + fields::u32_at(s, 40) as usize;
+    &hive[4096..end]
+}
+
+// "minor 3, 4 or 5 at 24"
+fn minor_of(hive: &[u8]) -> u32
+    requires { ⌜ baseFault (now hive) ≡ Sound ⌝ }
+    ensures { λ r. ⌜ r ≡ minorOf (sector (now (hive .entry))) ⌝ }
+{
+    fields::u32_at(&hive[0..512], 24)
+}
+
+// "root offset at 36"
+fn root_of(hive: &[u8]) -> Offset
+    requires { ⌜ baseFault (now hive) ≡ Sound ⌝ }
+    ensures { λ r. ⌜ r ≡ hiveOf (now (hive .entry)) .root ⌝ }
+{
+    Offset(fields::u32_at(&hive[0..512], 36))
+}
+
+// 1 to 7, then 16.
+fn open_flaw(hive: &[u8], path: &[u16]) -> Verdict
+    ensures { λ r. ⌜ r ≡ openFault (now (hive .entry)) (now (path .entry)) ⌝ }
+{
+    match base::base_flaw(hive) {
+        Verdict::Flawed(f) => Verdict::Flawed(f),
+        Verdict::Sound => {
+            if is_path(path) {
+                Verdict::Sound
+            } else {
+                fields::flawed(Fault::PathParts, Offset(0))
+            }
+        }
+    }
+}
+
+// The key of a path in a hive.
+fn key_look(hive: &[u8], path: &[u16]) -> Look
+    ensures { λ r. ⌜ r ≡ keyLook (now (hive .entry)) (now (path .entry)) ⌝ }
+{
+    match open_flaw(hive, path) {
+        Verdict::Flawed(f) => Look::Faulty(f),
+        Verdict::Sound => lookup_key(bins_of(hive), root_of(hive), path),
+    }
+}
+
 pub enum KeyFound {
     At(Offset),
     Refused(Refusal),
+}
+
+// The offset of the key under a path.
+pub fn find_key(hive: &[u8], path: &[u16]) -> KeyFound
+    ensures { λ r. ⌜ r ≡ findAnswer (now (hive .entry)) (now (path .entry)) ⌝ }
+{
+    match key_look(hive, path) {
+        Look::Found(o) => KeyFound::At(o),
+        Look::Missing => KeyFound::Refused(fields::refused(Flaw {
+            fault: Fault::NoKey,
+            place: Offset(0),
+        })),
+        Look::Faulty(f) => KeyFound::Refused(fields::refused(f)),
+    }
+}
+
+// One value, against a name, which is compared in place.
+fn value_named(bins: &[u8], minor: u32, name: &[u16], v: Offset) -> Look
+    requires { ⌜ length (now bins) ≤ binsLimit ⌝ }
+    ensures { λ r. ⌜ r ≡ valueNamed (now (bins .entry)) minor (now (name .entry)) v ⌝ }
+{
+    match values::value_at(bins, b"", Rule::Header, minor, v) {
+        Valued::Flawed(f) => Look::Faulty(f),
+        Valued::Whole(x) => {
+            let stored = x.name;
+            if records::is_called(bins, stored, name) {
+                Look::Found(v)
+            } else {
+                Look::Missing
+            }
+        }
+    }
+}
+
+// The values of a list, in order, up to the first match.
+fn search_values(bins: &[u8], minor: u32, name: &[u16], e: Entries) -> Look
+    requires { ⌜ length (now bins) ≤ binsLimit ⌝ }
+    requires { ⌜ Room (now bins) e ⌝ }
+    ensures { λ r. ⌜ r ≡ searchValues (now (bins .entry)) minor (now (name .entry)) (entriesOf (now (bins .entry)) e) ⌝ }
+{
+    let count = e.count;
+    let mut i: usize = 0;
+    while i < count {
+        let v = values::entry(bins, e, i);
+        match value_named(bins, minor, name, v) {
+            Look::Missing => {}
+            Look::Found(o) => {
+                return Look::Found(o);
+            }
+            Look::Faulty(f) => {
+                return Look::Faulty(f);
+            }
+        }
+        i += 1;
+    }
+    Look::Missing
+}
+
+// The first value of a key that has the name.
+fn lookup_value(bins: &[u8], minor: u32, name: &[u16], k: Key) -> Look
+    requires { ⌜ length (now bins) ≤ binsLimit ⌝ }
+    ensures { λ r. ⌜ r ≡ lookupValue (now (bins .entry)) minor (now (name .entry)) k ⌝ }
+{
+    match values::value_list(bins, b"", Rule::Header, k) {
+        Listing::Flawed(f) => Look::Faulty(f),
+        Listing::Whole(e) => search_values(bins, minor, name, e),
+    }
+}
+
+// The value of a name, of the key of a path in a hive.
+fn value_look(hive: &[u8], path: &[u16], name: &[u16]) -> Look
+    ensures { λ r. ⌜ r ≡ valueLook (now (hive .entry)) (now (path .entry)) (now (name .entry)) ⌝ }
+{
+    match key_look(hive, path) {
+        Look::Faulty(f) => Look::Faulty(f),
+        Look::Missing => Look::Faulty(Flaw {
+            fault: Fault::NoKey,
+            place: Offset(0),
+        }),
+        Look::Found(o) => {
+            let bins = bins_of(hive);
+            let k = records::key_fields(bins, o);
+            lookup_value(bins, minor_of(hive), name, k)
+        }
+    }
+}
+
+// Where in the file the data lie.
+fn place_in(x: ValueData) -> Place
+    ensures { λ r. ⌜ r ≡ placeIn x ⌝ }
+{
+    match x {
+        ValueData::Inline { at, len: _ } => Place(fields::to_place(at).0),
+        ValueData::OneCell { cell, len } => {
+            if len == 0 {
+                return Place(0);
+            }
+            Place(fields::to_place(cell).0 + 4)
+        }
+        ValueData::Segments { cell, len: _ } => Place(fields::to_place(cell).0 + 4),
+    }
+}
+
+fn length_of(x: ValueData) -> usize
+    ensures { λ r. ⌜ r ≡ lengthOf x ⌝ }
+{
+    match x {
+        ValueData::Inline { at: _, len } => len as usize,
+        ValueData::OneCell { cell: _, len } => len as usize,
+        ValueData::Segments { cell: _, len } => len as usize,
+    }
 }
 
 // A value: its registry type, the case of its data, and where in the file these lie.
@@ -233,12 +397,139 @@ pub struct Info {
     pub len: usize,
 }
 
+fn info_of(x: Value) -> Info
+    ensures { λ r. ⌜ r ≡ infoOf x ⌝ }
+{
+    let content = x.content;
+    Info {
+        kind: x.kind,
+        content,
+        at: place_in(content),
+        len: length_of(content),
+    }
+}
+
 pub enum ValueFound {
     At(Info),
     Refused(Refusal),
 }
 
+// A value whose data have passed their tests, or the data's own 11 or 12.
+fn info_where(bins: &[u8], x: Value) -> ValueFound
+    ensures { λ r. ⌜ r ≡ infoWhere (dataFault Header (now (bins .entry)) [] (x .content)) (infoOf x) ⌝ }
+{
+    let content = x.content;
+    match values::data_flaw(bins, b"", Rule::Header, content) {
+        Verdict::Flawed(f) => ValueFound::Refused(fields::refused(f)),
+        Verdict::Sound => ValueFound::At(info_of(x)),
+    }
+}
+
+// The value at an offset: its record, then its data.
+fn info_at(bins: &[u8], minor: u32, v: Offset) -> ValueFound
+    requires { ⌜ length (now bins) ≤ binsLimit ⌝ }
+    ensures { λ r. ⌜ r ≡ infoWhere (wholeValueFault Header (now (bins .entry)) [] minor v) (infoOf (valueOf (now (bins .entry)) minor v)) ⌝ }
+{
+    match values::value_at(bins, b"", Rule::Header, minor, v) {
+        Valued::Flawed(f) => ValueFound::Refused(fields::refused(f)),
+        Valued::Whole(x) => info_where(bins, x),
+    }
+}
+
+// "19: view asked of segmented data"
+fn view_flaw(v: Offset, x: ValueData) -> Verdict
+    ensures { λ r. ⌜ r ≡ viewFault v x ⌝ }
+{
+    match x {
+        ValueData::Inline { at: _, len: _ } => Verdict::Sound,
+        ValueData::OneCell { cell: _, len: _ } => Verdict::Sound,
+        ValueData::Segments { cell: _, len: _ } => fields::flawed(Fault::Segmented, v),
+    }
+}
+
+// The same for a view: 19 before any data cell is read.
+fn view_at(bins: &[u8], minor: u32, v: Offset) -> ValueFound
+    requires { ⌜ length (now bins) ≤ binsLimit ⌝ }
+    ensures { λ r. ⌜ r ≡ infoWhere (viewedFault (now (bins .entry)) minor v) (infoOf (valueOf (now (bins .entry)) minor v)) ⌝ }
+{
+    match values::value_at(bins, b"", Rule::Header, minor, v) {
+        Valued::Flawed(f) => ValueFound::Refused(fields::refused(f)),
+        Valued::Whole(x) => {
+            let content = x.content;
+            match view_flaw(v, content) {
+                Verdict::Flawed(f) => ValueFound::Refused(fields::refused(f)),
+                Verdict::Sound => info_where(bins, x),
+            }
+        }
+    }
+}
+
+// The facts of a value, for all three cases of data.
+pub fn value_info(hive: &[u8], path: &[u16], name: &[u16]) -> ValueFound
+    ensures { λ r. ⌜ r ≡ infoAnswer (now (hive .entry)) (now (path .entry)) (now (name .entry)) ⌝ }
+{
+    match value_look(hive, path, name) {
+        Look::Found(v) => info_at(bins_of(hive), minor_of(hive), v),
+        Look::Missing => ValueFound::Refused(fields::refused(Flaw {
+            fault: Fault::NoValue,
+            place: Offset(0),
+        })),
+        Look::Faulty(f) => ValueFound::Refused(fields::refused(f)),
+    }
+}
+
+// The view's sister: the same facts, or the number of the view's refusal.
+pub fn view_info(hive: &[u8], path: &[u16], name: &[u16]) -> ValueFound
+    ensures { λ r. ⌜ r ≡ viewAnswer (now (hive .entry)) (now (path .entry)) (now (name .entry)) ⌝ }
+{
+    match value_look(hive, path, name) {
+        Look::Found(v) => view_at(bins_of(hive), minor_of(hive), v),
+        Look::Missing => ValueFound::Refused(fields::refused(Flaw {
+            fault: Fault::NoValue,
+            place: Offset(0),
+        })),
+        Look::Faulty(f) => ValueFound::Refused(fields::refused(f)),
+    }
+}
+
+// "A view is the very part of the lent hive that holds the data, empty on refusal": the bytes, and where they stand in memory.
+pub fn value_view<'a>(hive: &'a [u8], path: &[u16], name: &[u16]) -> &'a [u8]
+    ensures { λ r. ⌜ now r ≡ viewBytes (now (hive .entry)) (now (path .entry)) (now (name .entry)) ⌝ }
+    ensures { λ r. ⌜ ptr r ≡ (ptr (hive .entry) .0, viewStart (now (hive .entry)) (now (path .entry)) (now (name .entry)) + ptr (hive .entry) .1) ⌝ }
+{
+    match view_info(hive, path, name) {
+        ValueFound::Refused(_) => &hive[0..0],
+        ValueFound::At(i) => {
+            let at = i.at.0;
+            let end = at + i.len;
+            &hive[at..end]
+        }
+    }
+}
+
 pub enum Copied {
     Done(usize),
     Refused(Refusal),
+}
+
+// "a copy checks all segments, then 20, and writes only the data's length"
+pub fn value_copy(hive: &[u8], path: &[u16], name: &[u16], out: &mut [u8]) -> Copied
+    ensures { λ r. ⌜ r ≡ copyAnswer (now (hive .entry)) (now (path .entry)) (now (name .entry)) (length (now (out .entry))) ⌝ }
+    ensures { λ _. ⌜ now (out .exit) ≡ copyOut (now (hive .entry)) (now (path .entry)) (now (name .entry)) (now (out .entry)) ⌝ }
+{
+    match value_info(hive, path, name) {
+        ValueFound::Refused(f) => Copied::Refused(f),
+        ValueFound::At(i) => {
+            let len = i.len;
+            if out.len() < len {
+                return Copied::Refused(fields::refused(Flaw {
+                    fault: Fault::OutputShort,
+                    place: Offset(0),
+                }));
+            }
+            let content = i.content;
+            values::copy_data(bins_of(hive), content, out);
+            Copied::Done(len)
+        }
+    }
 }

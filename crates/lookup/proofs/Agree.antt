@@ -1,0 +1,115 @@
+-- On any bytes: a view and a copy agree, a refusal changes nothing, and a copy changes exactly the first bytes of its output.
+use Prim.Native.Nat.{ℕ, _+_, _-_, _≤_, _<_}
+use native.Mathlib.Omega.{arith}
+use mathlib.Core.Path.{_≡_, refl, sym, ap, ap₂, _∙_}
+use mathlib.Core.Bool.{Bool, true, false, cond}
+use mathlib.Core.List.{List, [], _++_, append-nil}
+use lib.Dec.{leb}
+use lib.ListN.{length, take, drop, length-append, length-drop}
+use lib.Seq.{take-at, drop-at}
+use borrow.Author.Tests.{leb-true}
+use Rattle.fields.specs.declared.Offset.{Offset}
+use Rattle.fields.specs.declared.Refusal.{Refusal}
+use Rattle.fields.specs.declared.Verdict.the-variants.{Sound}
+use Rattle.fields.specs.Faults.{_next_}
+use Rattle.fields.proofs.Firsts.{both}
+use Rattle.fields.proofs.Loops.{drop-all}
+use Rattle.base.specs.Block.{sector, minorOf, binsData}
+use Rattle.values.specs.declared.ValueData.{ValueData}
+use Rattle.values.specs.declared.ValueData.the-variants.{Segments}
+use Rattle.values.specs.Segments.{segmentsOf, joinedBytes, bytesOf}
+use Rattle.values.proofs.LawsData.{bytes-length}
+use Rattle.lookup.specs.declared.Copied.{Copied}
+use Rattle.lookup.specs.declared.Copied.the-variants.{Done, Refused as Uncopied}
+use Rattle.lookup.specs.declared.Info.{Info}
+use Rattle.lookup.specs.declared.ValueFound.{ValueFound}
+use Rattle.lookup.specs.declared.ValueFound.the-variants.{At, Refused}
+use Rattle.lookup.specs.Answers.{infoAnswer, viewAnswer, viewBytes, copiedTo, copyAnswer, copyOut}
+use Rattle.lookup.proofs.Value_answers.{where-sound}
+use Rattle.lookup.proofs.Answered.{Answered, info-answered, view-answered, view-shown, view-part, copy-refused, copy-untouched, copy-short, short-untouched, copy-done, copy-written, view-info-same}
+
+-- what a copy that is done says
+done-is : (n : ℕ) (i : Info) {k : ℕ} → copiedTo n (At i) ≡ Done k → (i .len ≤ n) × (i .len ≡ k)
+done-is n i {k} e = by (leb (i .len) n) refl
+  where
+    by : (t : Bool) → leb (i .len) n ≡ t → (i .len ≤ n) × (i .len ≡ k)
+    by true q = (leb-true (i .len) n q, let s = rw q at e in let p : i .len ≡ k = cc in p)
+    by false q = absurd (let s = rw q at e in let z : _≡_ {A = ℕ} 0 1 = cc in omega arith)
+
+module _ (h us x out : List ℕ) where
+  -- a copy that is done
+  pub record Written (n : ℕ) : Type 0 where
+    pub info : Info
+    pub answers : infoAnswer h us x ≡ At info
+    pub long : info .len ≡ n
+    pub fits : n ≤ length out
+    pub bytes : length (bytesOf (binsData h) (info .content)) ≡ n
+    pub is : copyOut h us x out ≡ bytesOf (binsData h) (info .content) ++ drop n out
+
+  pub done-written : {n : ℕ} → copyAnswer h us x (length out) ≡ Done n → Written n
+  unfolding copyAnswer
+  done-written {n} e = by (infoAnswer h us x) refl
+    where
+      by : (a : ValueFound) → infoAnswer h us x ≡ a → Written n
+      by (Refused f) q = absurd (let s = rw q at e in let z : _≡_ {A = ℕ} 0 1 = cc in omega arith)
+      by (At i) q =
+          let d = done-is (length out) i (rw q at e) in
+          let a = info-answered h us x q in
+          record {
+            info = i;
+            answers = q;
+            long = d .1;
+            fits = omega arith;
+            bytes = bytes-length (binsData h) (i .content) (a .lies) ∙ sym (a .long) ∙ d .1;
+            is = copy-written h us x out q (d .0) ∙ ap (λ (k : ℕ). bytesOf (binsData h) (i .content) ++ drop k out) (d .1);
+          }
+
+  -- it keeps the output's length, and every byte past the data's length
+  pub copy-length : {n : ℕ} → copyAnswer h us x (length out) ≡ Done n → length (copyOut h us x out) ≡ length out
+  copy-length {n} e =
+      let w = done-written e in
+      let a = length-append (bytesOf (binsData h) (w .info .content)) (drop n out) in
+      let b = length-drop n out in
+      ap length (w .is) ∙ omega (arith, w .bytes, w .fits)
+
+  pub copy-beyond : {n : ℕ} → copyAnswer h us x (length out) ≡ Done n → drop n (copyOut h us x out) ≡ drop n out
+  copy-beyond {n} e =
+      let w = done-written e in
+      ap (drop n) (w .is) ∙ drop-at (bytesOf (binsData h) (w .info .content)) (drop n out) n (w .bytes)
+
+  -- and its first bytes are the data's
+  pub copy-first : {n : ℕ} (e : copyAnswer h us x (length out) ≡ Done n) → take n (copyOut h us x out) ≡ bytesOf (binsData h) (done-written e .info .content)
+  copy-first {n} e =
+      let w = done-written e in
+      ap (take n) (w .is) ∙ take-at (bytesOf (binsData h) (w .info .content)) (drop n out) n (w .bytes)
+
+  -- a refusal changes nothing
+  pub refused-untouched : {f : Refusal} → copyAnswer h us x (length out) ≡ Uncopied f → copyOut h us x out ≡ out
+  unfolding copyAnswer copyOut
+  refused-untouched {f} e = by (infoAnswer h us x) refl
+    where
+      by : (a : ValueFound) → infoAnswer h us x ≡ a → copyOut h us x out ≡ out
+      by (Refused g) q = rw q
+      by (At i) q = cut (leb (i .len) (length out)) refl
+        where
+          cut : (t : Bool) → leb (i .len) (length out) ≡ t → copyOut h us x out ≡ out
+          cut true p = absurd (let s = rw (q, p) at e in let z : _≡_ {A = ℕ} 0 1 = cc in omega arith)
+          cut false p = rw (q, p)
+
+  -- "View and copy agree": where the view answers, a copy with room for it writes the view's bytes
+  module _ {i : Info} (e : viewAnswer h us x ≡ At i) where
+    pub view-is : viewBytes h us x ≡ bytesOf (binsData h) (i .content)
+    view-is = let a = view-answered h us x e in view-part h us x e ∙ view-shown h us x i (a .0) (a .1) .bytes
+
+    pub views-copied : i .len ≤ length out → copyOut h us x out ≡ viewBytes h us x ++ drop (i .len) out
+    views-copied p = copy-written h us x out (view-info-same h us x e) p ∙ ap (λ (s : List ℕ). s ++ drop (i .len) out) (sym view-is)
+
+    pub view-copy : length out ≡ i .len → copyOut h us x out ≡ viewBytes h us x
+    view-copy p =
+        views-copied (omega arith) ∙ ap (λ (s : List ℕ). viewBytes h us x ++ s) (drop-all out (i .len) (omega arith)) ∙ append-nil (viewBytes h us x)
+
+  -- "the copy of segments is the concatenation"
+  pub segments-copied : {i : Info} {o : Offset} {n : ℕ} → infoAnswer h us x ≡ At i → i .content ≡ Segments o n → i .len ≤ length out
+      → copyOut h us x out ≡ joinedBytes (binsData h) (segmentsOf (binsData h) o n) ++ drop (i .len) out
+  unfolding bytesOf
+  segments-copied {i} e q p = copy-written h us x out e p ∙ ap (λ (y : ValueData). bytesOf (binsData h) y ++ drop (i .len) out) q

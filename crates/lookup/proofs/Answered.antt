@@ -1,0 +1,216 @@
+-- What is known where a value call answers: the data lie in the bins data, and those of a view in one part of the hive.
+use Prim.Native.Nat.{ℕ, _+_, _≤_, _<_}
+use native.Mathlib.Omega.{arith}
+use mathlib.Core.Path.{_≡_, refl, sym, ap, ap₂, _∙_}
+use mathlib.Core.Bool.{Bool, true, false}
+use mathlib.Core.List.{List, [], _++_}
+use lib.Dec.{eqb}
+use lib.ListN.{length, take, drop, length-take, length-drop}
+use borrow.Author.Tests.{le-leb, lt-leb, eqb-true}
+use Rattle.fields.specs.declared.Fault.the-variants.{OutputShort}
+use Rattle.fields.specs.declared.Offset.{Offset}
+use Rattle.fields.specs.declared.Refusal.{Refusal}
+use Rattle.fields.specs.declared.Verdict.{Verdict}
+use Rattle.fields.specs.declared.Verdict.the-variants.{Sound, Flawed}
+use Rattle.fields.specs.Faults.{flaw, nowhere, refusalOf, _next_}
+use Rattle.fields.proofs.Firsts.{both}
+use Rattle.base.specs.Block.{sector, binsOf, minorOf, binsData, baseFault}
+use Rattle.base.proofs.Laws.{base-facts}
+use Rattle.cells.specs.declared.Rule.the-variants.{Header}
+use Rattle.records.proofs.Parts.{part-part}
+use Rattle.values.specs.declared.ValueData.{ValueData}
+use Rattle.values.specs.declared.ValueData.the-variants.{Inline, OneCell, Segments}
+use Rattle.values.specs.Records.{valueFault, dataIn, fieldsOf, valueOf}
+use Rattle.values.specs.Segments.{dataFault, bytesOf, lengthOf}
+use Rattle.values.specs.Parts.{partOf, inlineEnd, Lies}
+use Rattle.values.proofs.LawsData.{isOne, PartLies, part-lies}
+use Rattle.values.proofs.LawsValues.{Cased, inline, oneCell, segments, cased, value-says}
+use Rattle.values.proofs.Rooms.{names-roomy}
+use Rattle.lookup.specs.declared.Copied.the-variants.{Done, Refused as Uncopied}
+use Rattle.lookup.specs.declared.Info.{Info}
+use Rattle.lookup.specs.declared.Look.{Look}
+use Rattle.lookup.specs.declared.Look.the-variants.{Found, Missing, Faulty}
+use Rattle.lookup.specs.declared.ValueFound.{ValueFound}
+use Rattle.lookup.specs.declared.ValueFound.the-variants.{At, Refused}
+use Rattle.lookup.specs.Answers.{valueLook, placeIn, infoOf, viewFault, infoWhere, valueFound, infoAnswer, viewAnswer, viewStart, viewBytes, copyAnswer, copyOut}
+use Rattle.lookup.proofs.Value_searches.{value-facts}
+
+-- the data of a value that has passed its tests lie in the bins data
+value-lies : (d : List ℕ) (minor : ℕ) (v : Offset) → valueFault Header d [] v ≡ Sound → dataFault Header d [] (dataIn d minor v) ≡ Sound
+    → Lies d (dataIn d minor v)
+value-lies d minor v s t = record { inside = by (cased Header d [] minor v s); sound = t }
+  where
+    by : Cased d minor v → inlineEnd (dataIn d minor v) ≤ length d
+    by (inline n p e) =
+        let x = value-says Header d [] v s in
+        let w = names-roomy d v 20 (x .0) (x .1 .long) in
+        rw e (omega arith)
+    by (oneCell o n p e) = rw e (omega arith)
+    by (segments o n p q k e) = rw e (omega arith)
+
+where-at : (v : Verdict) (i : Info) {j : Info} → infoWhere v i ≡ At j → (v ≡ Sound) × (i ≡ j)
+where-at Sound i e = (refl, cc)
+where-at (Flawed f) i e = absurd (let z : _≡_ {A = ℕ} 0 1 = cc in omega arith)
+
+found-at : (l : Look) (go : Offset → ValueFound) {i : Info} → valueFound l go ≡ At i → (v : Offset) × (l ≡ Found v) × (go v ≡ At i)
+found-at (Found v) go e = (v, refl, e)
+found-at Missing go e = absurd (let z : _≡_ {A = ℕ} 0 1 = cc in omega arith)
+found-at (Faulty f) go e = absurd (let z : _≡_ {A = ℕ} 0 1 = cc in omega arith)
+
+-- the value behind an answer
+pub record Answered (h us x : List ℕ) (i : Info) : Type 0 where
+  pub value : Offset
+  pub found : valueLook h us x ≡ Found value
+  pub info : i ≡ infoOf (valueOf (binsData h) (minorOf (sector h)) value)
+  pub content : i .content ≡ dataIn (binsData h) (minorOf (sector h)) value
+  pub base : baseFault h ≡ Sound
+  pub lies : Lies (binsData h) (i .content)
+  pub long : i .len ≡ lengthOf (i .content)
+  pub place : i .at ≡ placeIn (i .content)
+
+content-as : (d : List ℕ) (minor : ℕ) (i : Info) (v : Offset) → infoOf (valueOf d minor v) ≡ i → i .content ≡ dataIn d minor v
+unfolding infoOf valueOf fieldsOf dataIn
+content-as d minor i v q = sym (ap (λ (j : Info). j .content) q)
+
+answered-as : (h us x : List ℕ) (i : Info) (v : Offset) → valueLook h us x ≡ Found v
+    → dataFault Header (binsData h) [] (dataIn (binsData h) (minorOf (sector h)) v) ≡ Sound
+    → infoOf (valueOf (binsData h) (minorOf (sector h)) v) ≡ i → Answered h us x i
+unfolding infoOf valueOf fieldsOf dataIn
+answered-as h us x i v e s q =
+    let f = value-facts h us x e in
+    record {
+      value = v;
+      found = e;
+      info = sym q;
+      content = content-as (binsData h) (minorOf (sector h)) i v q;
+      base = f .0;
+      lies = rw (← q) (value-lies (binsData h) (minorOf (sector h)) v (f .1) s);
+      long = rw (← q);
+      place = rw (← q);
+    }
+
+one-case : (v : Offset) (y : ValueData) → viewFault v y ≡ Sound → isOne y ≡ true
+unfolding viewFault
+one-case v (Inline at len) e = refl
+one-case v (OneCell o len) e = refl
+one-case v (Segments o len) e = absurd (let z : _≡_ {A = ℕ} 0 1 = cc in omega arith)
+
+module _ (h us x : List ℕ) {i : Info} where
+  pub info-answered : infoAnswer h us x ≡ At i → Answered h us x i
+  unfolding infoAnswer
+  info-answered e =
+      let f = found-at (valueLook h us x) _ e in
+      let w = where-at (dataFault Header (binsData h) [] (dataIn (binsData h) (minorOf (sector h)) (f .0))) _ (f .2) in
+      answered-as h us x i (f .0) (f .1) (w .0) (w .1)
+
+  pub view-answered : viewAnswer h us x ≡ At i → Answered h us x i × (isOne (i .content) ≡ true)
+  unfolding viewAnswer
+  view-answered e =
+      let f = found-at (valueLook h us x) _ e in
+      let y = dataIn (binsData h) (minorOf (sector h)) (f .0) in
+      let w = where-at (viewFault (f .0) y next dataFault Header (binsData h) [] y) _ (f .2) in
+      let b = both (viewFault (f .0) y) _ (w .0) in (
+        answered-as h us x i (f .0) (f .1) (b .1) (w .1),
+        ap isOne (content-as (binsData h) (minorOf (sector h)) i (f .0) (w .1)) ∙ one-case (f .0) y (b .0),
+      )
+
+-- where the view's sister answers, value_info gives the same facts
+pub view-info-same : (h us x : List ℕ) {i : Info} → viewAnswer h us x ≡ At i → infoAnswer h us x ≡ At i
+unfolding viewAnswer infoAnswer
+view-info-same h us x e =
+    let f = found-at (valueLook h us x) _ e in
+    let y = dataIn (binsData h) (minorOf (sector h)) (f .0) in
+    let w = where-at (viewFault (f .0) y next dataFault Header (binsData h) [] y) _ (f .2) in
+    rw (f .1, both (viewFault (f .0) y) _ (w .0) .1) (ap At (w .1))
+
+-- the part of the hive that a view shows
+pub record Shown (h : List ℕ) (i : Info) : Type 0 where
+  pub ends : i .at .0 + i .len ≤ length h
+  pub bytes : take (i .len) (drop (i .at .0) h) ≡ bytesOf (binsData h) (i .content)
+
+-- a part of the bins data is a part of the hive, 4096 further on
+bins-part : (h : List ℕ) → baseFault h ≡ Sound → (p n : ℕ) → p + n ≤ length (binsData h)
+    → (4096 + p + n ≤ length h) × (take n (drop p (binsData h)) ≡ take n (drop (4096 + p) h))
+bins-part h e p n r =
+    let b = base-facts h e in
+    let l : length (binsData h) ≡ binsOf (sector h) = simp (length-take, length-drop) (omega arith) in
+    (omega arith, part-part h 4096 (binsOf (sector h)) p n r)
+
+shown-at : (h : List ℕ) (i : Info) (x : ValueData) → baseFault h ≡ Sound → PartLies (binsData h) x → i .content ≡ x → i .len ≡ lengthOf x → (p : ℕ)
+    → partOf x .at ≡ p → i .at .0 ≡ p + 4096 → Shown h i
+shown-at h i x b w c n p q a =
+    let len : partOf x .len ≡ i .len = w .whole ∙ sym n in
+    let s = bins-part h b (partOf x .at) (partOf x .len) (w .ends) in
+    let k : 4096 + partOf x .at ≡ i .at .0 = omega arith in
+    record {
+      ends = omega (arith, s .0);
+      bytes = sym (ap (bytesOf (binsData h)) c ∙ w .bytes ∙ s .1 ∙ ap₂ (λ (y z : ℕ). take y (drop z h)) len k);
+    }
+
+shown-empty : (h : List ℕ) (i : Info) → bytesOf (binsData h) (i .content) ≡ [] → i .at .0 ≡ 0 → i .len ≡ 0 → Shown h i
+shown-empty h i b a n = record { ends = omega arith; bytes = rw (n, b) }
+
+pub view-shown : (h us x : List ℕ) (i : Info) → Answered h us x i → isOne (i .content) ≡ true → Shown h i
+unfolding partOf placeIn bytesOf
+view-shown h us x i a t = by (i .content) refl (eqb (lengthOf (i .content)) 0) refl
+  where
+    lies : PartLies (binsData h) (i .content)
+    lies = part-lies (binsData h) (i .content) t (a .lies)
+
+    by : (y : ValueData) → i .content ≡ y → (z : Bool) → eqb (lengthOf (i .content)) 0 ≡ z → Shown h i
+    by (Inline at len) e z f = shown-at h i (Inline at len) (a .base) (rw e at lies) e (a .long ∙ ap lengthOf e) (at .0) refl (rw (a .place, e))
+    by (OneCell o len) e true f =
+        let n : eqb len 0 ≡ true = rw e at f in
+        shown-empty h i (rw (e, n)) (rw (a .place, e, n)) (a .long ∙ rw e (eqb-true len 0 n))
+    by (OneCell o len) e false f =
+        let n : eqb len 0 ≡ false = rw e at f in
+        let q : o .0 + 4096 + 4 ≡ o .0 + 4 + 4096 = omega arith in
+        shown-at h i (OneCell o len) (a .base) (rw e at lies) e (a .long ∙ ap lengthOf e) (o .0 + 4) (rw n) (rw (a .place, e, n) q)
+    by (Segments o len) e z f = absurd (let s = rw e at t in let q : _≡_ {A = ℕ} 0 1 = cc in omega arith)
+
+-- the ways out of a view and a copy
+module _ (h us x : List ℕ) where
+  pub view-none : {f : Refusal} → viewAnswer h us x ≡ Refused f → viewBytes h us x ≡ []
+  unfolding viewBytes
+  view-none e = rw e
+
+  pub start-none : {f : Refusal} → viewAnswer h us x ≡ Refused f → viewStart h us x ≡ 0
+  unfolding viewStart
+  start-none e = rw e
+
+  pub start-part : {i : Info} → viewAnswer h us x ≡ At i → viewStart h us x ≡ i .at .0
+  unfolding viewStart
+  start-part e = rw e
+
+  pub view-part : {i : Info} → viewAnswer h us x ≡ At i → viewBytes h us x ≡ take (i .len) (drop (i .at .0) h)
+  unfolding viewBytes
+  view-part e = rw e
+
+  module _ (out : List ℕ) where
+    module _ {f : Refusal} (e : infoAnswer h us x ≡ Refused f) where
+      pub copy-refused : copyAnswer h us x (length out) ≡ Uncopied f
+      unfolding copyAnswer
+      copy-refused = rw e
+
+      pub copy-untouched : copyOut h us x out ≡ out
+      unfolding copyOut
+      copy-untouched = rw e
+
+    module _ {i : Info} (e : infoAnswer h us x ≡ At i) where
+      module _ (p : length out < i .len) where
+        pub copy-short : copyAnswer h us x (length out) ≡ Uncopied (refusalOf (flaw OutputShort nowhere))
+        unfolding copyAnswer
+        copy-short = rw (e, lt-leb (i .len) (length out) p)
+
+        pub short-untouched : copyOut h us x out ≡ out
+        unfolding copyOut
+        short-untouched = rw (e, lt-leb (i .len) (length out) p)
+
+      module _ (p : i .len ≤ length out) where
+        pub copy-done : copyAnswer h us x (length out) ≡ Done (i .len)
+        unfolding copyAnswer
+        copy-done = rw (e, le-leb (i .len) (length out) p)
+
+        pub copy-written : copyOut h us x out ≡ bytesOf (binsData h) (i .content) ++ drop (i .len) out
+        unfolding copyOut
+        copy-written = rw (e, le-leb (i .len) (length out) p)

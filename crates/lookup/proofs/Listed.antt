@@ -1,0 +1,92 @@
+-- "Every key of the pre-order listing is found again by the path of its names: same cell."
+use Prim.Native.Nat.{ℕ, zero, suc, _<_, _≤_}
+use native.Mathlib.Omega.{arith}
+use mathlib.Core.Path.{_≡_, refl, sym, ap, _∙_, subst}
+use mathlib.Core.Bool.{true}
+use mathlib.Core.Logic.{⊎-elim}
+use mathlib.Core.List.{List, [], _∷_, List·Memᴰ, List·Memᴰ·cases-cons, List·Memᴰ·not-nil}
+use lib.ListN.{length}
+use Rattle.fields.specs.declared.Offset.{Offset}
+use Rattle.fields.specs.declared.Verdict.the-variants.{Sound}
+use Rattle.base.specs.Block.{binsData}
+use Rattle.cells.specs.declared.Rule.the-variants.{Header}
+use Rattle.cells.specs.Named.{dataAt}
+use Rattle.cells.specs.Tiled.{BinsTile}
+use Rattle.names.proofs.LawsOrder.{same-reflexive}
+use Rattle.records.specs.declared.Child.{Child}
+use Rattle.records.specs.Keys.{keyFault}
+use Rattle.records.specs.Lists.{children}
+use Rattle.records.proofs.LawsKey.{key-facts, name-codes}
+use Rattle.tree.specs.declared.Hive.{Hive}
+use Rattle.tree.specs.Tree.{nameAt, keysIn, levels, hiveOf, keysOf}
+use Rattle.tree.specs.WellFormed.{CleanAndWellFormed, TreeStands, key}
+use Rattle.tree.proofs.Once.{in-joined}
+use Rattle.lookup.specs.declared.KeyFound.the-variants.{At}
+use Rattle.lookup.specs.Paths.{partsOf, isPath}
+use Rattle.lookup.specs.Answers.{findAnswer}
+use Rattle.lookup.specs.Reach.{Holds, here, below, Named, itself, child, joinedBy}
+use Rattle.lookup.proofs.Finds.{key-good}
+use Rattle.lookup.proofs.Splits.{PartName, PartNames, no-names, names-on, parts-joined, path-joined}
+use Rattle.lookup.proofs.Exact.{find-exactly}
+
+-- a key that is listed has names along its way
+pub listed-named : (d : List ℕ) (n : ℕ) (at k : Offset) → List·Memᴰ k (keysIn d n at) → (xs : List (List ℕ)) × Named d at xs k
+unfolding keysIn
+listed-named d zero at k i = absurd (List·Memᴰ·not-nil i)
+listed-named d (suc n) at k i =
+    ⊎-elim (λ e. ([], subst (λ (o : Offset). Named d at [] o) (sym e) itself))
+    (λ j.
+    let x = in-joined (keysIn d n) (children d at) k j in
+    let r = listed-named d n (x .0 .at) k (x .2) in
+    (nameAt d (x .0 .at) ∷ r .0, child (x .1) (r .1)))
+    (List·Memᴰ·cases-cons i)
+
+-- names lead where they are compared
+named-holds : {d : List ℕ} {o e : Offset} {xs : List (List ℕ)} → Named d o xs e → Holds d o xs e
+named-holds itself = here
+named-holds {d} (child {c = c} i r) = below i (same-reflexive (nameAt d (c .at))) (named-holds r)
+
+module _ (d : List ℕ) (hive : Hive) (tiles : BinsTile d 0) where
+  -- a key's name may be a part of a path
+  part-name : (o : Offset) → keyFault Header d [] o ≡ Sound → PartName (nameAt d o)
+  part-name o s =
+      let f = key-facts Header d [] o s in
+      rw (name-codes Header d [] o s) (record { some = f .some; most = f .few; plain = f .no-backslash })
+
+  part-names : (n : ℕ) {o e : Offset} {xs : List (List ℕ)} → TreeStands d hive n o → Named d o xs e → PartNames xs
+  part-names n t itself = no-names
+  part-names (suc n) (key s a ch tree) (child {c = c} i r) =
+      names-on (part-name (c .at) (key-good d hive tiles n (c .at) (tree c i))) (part-names n (tree c i) r)
+
+  -- and there are fewer of them than levels
+  few-names : (n : ℕ) {o e : Offset} {xs : List (List ℕ)} → TreeStands d hive n o → Named d o xs e → length xs < n
+  few-names (suc n) t itself = omega arith
+  few-names (suc n) (key s a ch tree) (child {c = c} i r) = let f = few-names n (tree c i) r in omega arith
+
+module _ (h : List ℕ) (w : CleanAndWellFormed h) where
+  -- the names of a key, joined by backslashes, are a path, and it finds that key
+  module _ (k : Offset) (xs : List (List ℕ)) (named : Named (binsData h) (hiveOf h .root) xs k) where
+    good-names : PartNames xs
+    good-names = part-names (binsData h) (hiveOf h) (w .formed .tiled) levels (w .formed .tree) named
+
+    pub named-path : isPath (joinedBy xs) ≡ true
+    named-path =
+        let f = few-names (binsData h) (hiveOf h) (w .formed .tiled) levels (w .formed .tree) named in
+        path-joined xs good-names (omega arith)
+
+    pub named-found : findAnswer h (joinedBy xs) ≡ At k
+    named-found =
+        find-exactly h w (joinedBy xs) named-path k .1
+        (rw (parts-joined xs good-names) (named-holds named))
+
+  -- the theorem
+  pub record FoundAgain (k : Offset) : Type 0 where
+    pub names : List (List ℕ)
+    pub along : Named (binsData h) (hiveOf h .root) names k
+    pub is-path : isPath (joinedBy names) ≡ true
+    pub found : findAnswer h (joinedBy names) ≡ At k
+
+  pub listed-found : (k : Offset) → List·Memᴰ k (keysOf h) → FoundAgain k
+  listed-found k i =
+      let r = listed-named (binsData h) levels (hiveOf h .root) k i in
+      record { names = r .0; along = r .1; is-path = named-path k (r .0) (r .1); found = named-found k (r .0) (r .1) }

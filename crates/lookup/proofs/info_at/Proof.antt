@@ -1,0 +1,44 @@
+use Rattle.lookup.proofs.Value_answers.{info-bad, info-on}
+use Rattle.lookup.specs.declared.ValueFound.the-variants.{Refused}
+use Prim.Native.Nat.{_-_}
+use mathlib.Core.Path.{sym, ap, _∙_}
+use borrow.Author.Needs.{needs}
+use Rattle.lookup.proofs.info_at.Statement.{statement}
+use Rattle.lookup.proofs.info_at.Tie as tie
+
+slice-aggregate-value-at : tie.Need-slice-aggregate-value-at
+slice-aggregate-value-at c = search needs
+
+value-at-requires : tie.Need-value-at-requires
+value-at-requires c κs = search needs
+
+enum-known-f : tie.Need-enum-known-f
+enum-known-f c = search needs
+
+refused-requires : tie.Need-refused-requires
+refused-requires c κs = search needs
+
+enum-known-x : tie.Need-enum-known-x
+enum-known-x c = search needs
+
+info-where-requires : tie.Need-info-where-requires
+info-where-requires c κs = search needs
+
+returns : tie.Need-returns
+returns c = ap Refused (c .refused .ensures) ∙ sym (info-bad _ _ _ (sym (c .before .before .before .before .value-at .ensures) ∙ c .before .before .f .given .1))
+
+returns-2 : tie.Need-returns-2
+returns-2 c = c .info-where .ensures ∙ sym (info-on _ _ _ (sym (c .before .before .before .before .value-at .ensures) ∙ c .before .before .x .given .1))
+
+pub info-at-spec : {M : Type 1} → statement M
+info-at-spec =
+    tie.close
+    (tie.spec
+    slice-aggregate-value-at
+    value-at-requires
+    enum-known-f
+    refused-requires
+    enum-known-x
+    info-where-requires
+    returns
+    returns-2)

@@ -1,0 +1,73 @@
+use Rattle.lookup.proofs.Turns.{turn-found, turn-faulty, turn-on, turn-end}
+use Rattle.lookup.specs.Search.{valueNamed, firstOf}
+use Rattle.values.proofs.Rooms.{entries-length}
+use Rattle.values.specs.Entries.{entriesOf}
+use Rattle.fields.specs.Faults.{nowhere}
+use lib.ListN.{drop}
+use Prim.Native.Nat.{_-_, _≤_}
+use mathlib.Core.Path.{_≡_, refl, sym, _∙_}
+use native.Mathlib.Omega.{arith}
+use borrow.Author.Needs.{needs}
+use Rattle.lookup.proofs.search_values.Statement.{statement}
+use Rattle.lookup.proofs.search_values.Tie as tie
+
+abbrev Inv-loop : tie.InvT-loop
+Inv-loop bins minor name e count i₀ i = (i ≤ e .count) × (count ≡ e .count) × (firstOf (valueNamed bins minor name) (entriesOf bins e) ≡ firstOf (valueNamed bins minor name) (drop i (entriesOf bins e)))
+
+abbrev μ-loop : tie.MeasureT-loop
+μ-loop bins minor name e count i₀ i = count - i
+
+loop-holds : tie.Need-loop-holds Inv-loop μ-loop
+loop-holds c = (omega arith, refl, refl)
+
+entry-requires : tie.Need-entry-requires Inv-loop μ-loop
+entry-requires c κs = (search needs, omega arith)
+
+value-named-requires : tie.Need-value-named-requires Inv-loop μ-loop
+value-named-requires c κs = search needs
+
+enum-told : tie.Need-enum-told Inv-loop μ-loop
+enum-told c = search needs
+
+enum-known-o : tie.Need-enum-known-o Inv-loop μ-loop
+enum-known-o c = search needs
+
+returns : tie.Need-returns Inv-loop μ-loop
+returns c = let l = c .before .before .before .before .before .before .loop in let a = c .before .before .before .before .before .before .before .before .before .args in sym (turn-found _ _ (l .i) _ (l .inv .2) _ (omega (arith, entries-length (a .bins .now) (a .e))) (c .before .before .before .before .entry .ensures) (sym (c .before .before .before .value-named .ensures) ∙ c .before .o .given .1))
+
+enum-known-f : tie.Need-enum-known-f Inv-loop μ-loop
+enum-known-f c = search needs
+
+returns-2 : tie.Need-returns-2 Inv-loop μ-loop
+returns-2 c = let l = c .before .before .before .before .before .before .loop in let a = c .before .before .before .before .before .before .before .before .before .args in sym (turn-faulty _ _ (l .i) _ (l .inv .2) _ (omega (arith, entries-length (a .bins .now) (a .e))) (c .before .before .before .before .entry .ensures) (sym (c .before .before .before .value-named .ensures) ∙ c .before .f .given .1))
+
+add-i : tie.Need-add-i Inv-loop μ-loop
+add-i c = search needs
+
+loop-less : tie.Need-loop-less Inv-loop μ-loop
+loop-less c = search needs
+
+loop-again : tie.Need-loop-again Inv-loop μ-loop
+loop-again c = let l = c .before .before .before .before .before .loop in let a = c .before .before .before .before .before .before .before .before .args in (omega arith, l .inv .1, turn-on _ _ (l .i) _ (l .inv .2) _ (omega (arith, entries-length (a .bins .now) (a .e))) (c .before .before .before .entry .ensures) (sym (c .before .before .value-named .ensures) ∙ c .enum-told .given .1))
+
+returns-3 : tie.Need-returns-3 Inv-loop μ-loop
+returns-3 c = let l = c .before .loop in let a = c .before .before .before .before .args in sym (turn-end _ _ (l .i) nowhere (l .inv .2) (omega (arith, entries-length (a .bins .now) (a .e))))
+
+pub search-values-spec : {M : Type 1} → statement M
+search-values-spec =
+    tie.close
+    (tie.spec
+    Inv-loop
+    μ-loop
+    loop-holds
+    entry-requires
+    value-named-requires
+    enum-told
+    enum-known-o
+    returns
+    enum-known-f
+    returns-2
+    add-i
+    loop-less
+    loop-again
+    returns-3)

@@ -1,0 +1,57 @@
+use Rattle.lookup.proofs.Value_searches.{value-faulty, value-keyless, value-below}
+use Rattle.lookup.proofs.Opens.{bins-small, look-facts}
+use Rattle.records.proofs.LawsKey.{key-room}
+use Prim.Native.Nat.{_-_}
+use mathlib.Core.Path.{sym, _∙_}
+use borrow.Author.Needs.{needs}
+use Rattle.lookup.proofs.value_look.Statement.{statement}
+use Rattle.lookup.proofs.value_look.Tie as tie
+
+key-look-requires : tie.Need-key-look-requires
+key-look-requires c κs = search needs
+
+enum-known-f : tie.Need-enum-known-f
+enum-known-f c = search needs
+
+enum-told : tie.Need-enum-told
+enum-told c = search needs
+
+enum-known-o : tie.Need-enum-known-o
+enum-known-o c = search needs
+
+bins-of-requires : tie.Need-bins-of-requires
+bins-of-requires c κs = look-facts _ _ (sym (c .before .before .before .key-look .ensures) ∙ c .before .o .given .1) .0
+
+key-fields-requires : tie.Need-key-fields-requires
+key-fields-requires c κs = rw (c .bins-of .ensures) (key-room _ _ _ _ (look-facts _ _ (sym (c .before .before .before .before .key-look .ensures) ∙ c .before .before .o .given .1) .1))
+
+minor-of-requires : tie.Need-minor-of-requires
+minor-of-requires c κs = look-facts _ _ (sym (c .before .before .before .before .before .key-look .ensures) ∙ c .before .before .before .o .given .1) .0
+
+lookup-value-requires : tie.Need-lookup-value-requires
+lookup-value-requires c κs = rw (c .before .before .bins-of .ensures) (bins-small _ (look-facts _ _ (sym (c .before .before .before .before .before .before .key-look .ensures) ∙ c .before .before .before .before .o .given .1) .0))
+
+returns : tie.Need-returns
+returns c = sym (value-faulty _ _ _ (sym (c .before .before .before .key-look .ensures) ∙ c .before .f .given .1))
+
+returns-2 : tie.Need-returns-2
+returns-2 c = sym (value-keyless _ _ _ (sym (c .before .before .key-look .ensures) ∙ c .enum-told .given .1))
+
+returns-3 : tie.Need-returns-3
+returns-3 c = c .lookup-value .ensures ∙ rw (c .before .before .key-fields .ensures, c .before .before .before .bins-of .ensures, c .before .minor-of .ensures) (sym (value-below _ _ _ (sym (c .before .before .before .before .before .before .before .key-look .ensures) ∙ c .before .before .before .before .before .o .given .1)))
+
+pub value-look-spec : {M : Type 1} → statement M
+value-look-spec =
+    tie.close
+    (tie.spec
+    key-look-requires
+    enum-known-f
+    enum-told
+    enum-known-o
+    bins-of-requires
+    key-fields-requires
+    minor-of-requires
+    lookup-value-requires
+    returns
+    returns-2
+    returns-3)

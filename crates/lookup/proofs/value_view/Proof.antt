@@ -1,0 +1,66 @@
+use Rattle.lookup.proofs.Answered.{Shown, view-answered, view-shown, view-none, start-none, start-part, view-part}
+use denote.Ref.{now}
+use native.Mathlib.Nat.{add-sub-cancel-left}
+use Prim.Native.Nat.{_-_}
+use mathlib.Core.Path.{sym, _∙_}
+use native.Mathlib.Omega.{arith}
+use borrow.Author.Needs.{needs}
+use Rattle.lookup.proofs.value_view.Statement.{statement}
+use Rattle.lookup.proofs.value_view.Tie as tie
+
+-- the part that holds the data
+shown : (c : tie.After-struct-known) → Shown (now (c .before .before .before .before .before .before .before .before .args .hive)) (c .before .before .i .given .0 .0)
+shown c = let a = view-answered _ _ _ (sym (c .before .before .before .before .view-info .ensures) ∙ c .before .before .i .given .1) in view-shown _ _ _ _ (a .0) (a .1)
+
+view-info-requires : tie.Need-view-info-requires
+view-info-requires c κs = search needs
+
+enum-told : tie.Need-enum-told
+enum-told c = search needs
+
+sub-result : tie.Need-sub-result
+sub-result c = search needs
+
+part-result-start : tie.Need-part-result-start
+part-result-start c = search needs
+
+part-result-end : tie.Need-part-result-end
+part-result-end c = search needs
+
+enum-known-i : tie.Need-enum-known-i
+enum-known-i c = search needs
+
+add-end : tie.Need-add-end
+add-end c = let s = shown c in omega arith
+
+sub-result-2 : tie.Need-sub-result-2
+sub-result-2 c = search needs
+
+part-result-start-2 : tie.Need-part-result-start-2
+part-result-start-2 c = search needs
+
+part-result-end-2 : tie.Need-part-result-end-2
+part-result-end-2 c = let s = shown c in omega arith
+
+returns : tie.Need-returns
+returns c = let e = sym (c .before .before .before .view-info .ensures) ∙ c .before .enum-told .given .1 in (sym (view-none _ _ _ e), rw (start-none _ _ _ e))
+
+returns-2 : tie.Need-returns-2
+returns-2 c = let i = c .before .before .before .i .given .0 .0 in let e = sym (c .before .before .before .before .before .view-info .ensures) ∙ c .before .before .before .i .given .1 in (rw (add-sub-cancel-left (i .at .0) (i .len)) (sym (view-part _ _ _ e)), rw (start-part _ _ _ e))
+
+pub value-view-spec : {M : Type 1} → statement M
+value-view-spec =
+    tie.close
+    (tie.spec
+    view-info-requires
+    enum-told
+    sub-result
+    part-result-start
+    part-result-end
+    enum-known-i
+    add-end
+    sub-result-2
+    part-result-start-2
+    part-result-end-2
+    returns
+    returns-2)
