@@ -11,8 +11,12 @@ ghost use mathlib.Core.Path.{_≡_};
 ghost use Prim.Native.Nat.{_≤_};
 ghost use lib.ListN.{length};
 ghost use Rattle.tree.specs.Tree.{checkAnswer};
+ghost use Rattle.fields.specs.declared.Verdict.the-variants.{Sound};
+ghost use Rattle.old_log.specs.Layout.{pageCount};
+ghost use Rattle.old_log.specs.Tests.{logFault};
 ghost use Rattle.recovery.specs.Calls.{startAnswer};
-ghost use Rattle.frames.specs.Frames.{framed, frameOf, checkedLine, repairedLine};
+ghost use Rattle.recovery.specs.Finished.{asked, afterPages};
+ghost use Rattle.frames.specs.Frames.{framed, frameOf, checkedLine, repairedLine, repairedHive};
 
 // "payload up to 20,480 bytes"
 const PAYLOAD_MOST: u32 = 20480;
@@ -76,10 +80,14 @@ fn hive_line(hive: &[u8], map: &mut [u8]) -> Line
     }
 }
 
-// Every logged page, rising. No bins data have more than 131,072 pages.
-fn install_pages(hive: &mut [u8], log: &[u8]) {
+// Every logged page, rising: at most as many turns as the log's bins have pages.
+fn install_pages(hive: &mut [u8], log: &[u8])
+    requires { ⌜ logFault (now log) ≡ Sound ⌝ }
+    ensures { λ _. ⌜ now (hive .exit) ≡ afterPages (now (hive .entry)) (now (log .entry)) (asked (pageCount (now (log .entry))) (now (log .entry)) 0) ⌝ }
+{
+    let mut left = old_log::bins_size(log) / 512;
     let mut from: usize = 0;
-    while from < 131072 {
+    while 0 < left {
         match recovery::next_page(log, from) {
             NextPage::NoMore => {
                 return;
@@ -93,21 +101,17 @@ fn install_pages(hive: &mut [u8], log: &[u8]) {
                 to: _,
             } => {
                 recovery::page(hive, log, page);
-                if page < from {
-                    return;
-                }
-                if 131072 <= page {
-                    return;
-                }
                 from = page + 1;
             }
         }
+        left -= 1;
     }
 }
 
-// The line of a log frame, and the repair.
+// "Log: repairs the last hive frame's bytes, pages rising": a refusal changes nothing.
 fn log_line(hive: &mut [u8], log: &[u8]) -> Line
     ensures { λ r. ⌜ r ≡ repairedLine (startAnswer (now (hive .entry)) (now (log .entry))) ⌝ }
+    ensures { λ _. ⌜ now (hive .exit) ≡ repairedHive (now (hive .entry)) (now (log .entry)) ⌝ }
 {
     match recovery::start(hive, log) {
         Started::Clean => Line::Clean,
