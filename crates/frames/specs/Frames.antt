@@ -1,12 +1,13 @@
 -- What a frame is, and the line that answers it.
 use Prim.Native.Nat.{ℕ, _%_}
-use mathlib.Core.Bool.{Bool, cond}
+use mathlib.Core.Bool.{cond}
 use mathlib.Core.List.{List}
 use lib.Dec.{eqb, ltb}
 use Rattle.fields.specs.Number.{u16At, u32At}
 use Rattle.tree.specs.declared.Checked.{Checked}
 use Rattle.tree.specs.declared.Checked.the-variants as checked
-use Rattle.tree.specs.Tree.{checkAnswer}
+use Rattle.lookup.specs.declared.KeyFound.{KeyFound}
+use Rattle.lookup.specs.declared.KeyFound.the-variants as found
 use Rattle.recovery.specs.declared.Started.{Started}
 use Rattle.recovery.specs.declared.Started.the-variants as started
 use Rattle.recovery.specs.Calls.{startAnswer}
@@ -46,3 +47,8 @@ repairedAs (started.Refused r) new old = old
 -- the hive after a log frame
 unfoldable pub repairedHive : List ℕ → List ℕ → List ℕ
 repairedHive h l = repairedAs (startAnswer h l) (finished h l) h
+
+-- "Path, in that hive as it then stands: `key at N`. A refusal: `refused N at P`."
+abbrev pub foundLine : KeyFound → Line
+foundLine (found.At o) = line.KeyAt o
+foundLine (found.Refused r) = line.Refused r

@@ -3,20 +3,24 @@ mod say;
 
 use fields::Offset;
 use fields::Refusal;
+use lookup::KeyFound;
 use recovery::NextPage;
 use recovery::Started;
 use tree::Checked;
 use tree::Report;
 ghost use mathlib.Core.Path.{_≡_};
-ghost use Prim.Native.Nat.{_≤_};
-ghost use lib.ListN.{length};
+ghost use Prim.Native.Nat.{_≤_, _/_};
+ghost use mathlib.Core.Bool.{false};
+ghost use lib.ListN.{length, take};
+ghost use Rattle.names.specs.Codes.{codes};
 ghost use Rattle.tree.specs.Tree.{checkAnswer};
+ghost use Rattle.lookup.specs.Answers.{findAnswer};
 ghost use Rattle.fields.specs.declared.Verdict.the-variants.{Sound};
 ghost use Rattle.old_log.specs.Layout.{pageCount};
 ghost use Rattle.old_log.specs.Tests.{logFault};
 ghost use Rattle.recovery.specs.Calls.{startAnswer};
 ghost use Rattle.recovery.specs.Finished.{asked, afterPages};
-ghost use Rattle.frames.specs.Frames.{framed, frameOf, checkedLine, repairedLine, repairedHive};
+ghost use Rattle.frames.specs.Frames.{framed, frameOf, checkedLine, repairedLine, repairedHive, foundLine};
 
 // "payload up to 20,480 bytes"
 const PAYLOAD_MOST: u32 = 20480;
@@ -124,6 +128,32 @@ fn log_line(hive: &mut [u8], log: &[u8]) -> Line
     }
 }
 
+// The UTF-16 units of a path frame's bytes.
+fn path_units(path: &[u8], units: &mut [u16])
+    requires { ⌜ length (now path) / 2 ≤ length (now units) ⌝ }
+    ensures { λ _. ⌜ take (length (now (path .entry)) / 2) (now (units .exit)) ≡ codes false (now (path .entry)) ⌝ }
+{
+    let n = path.len() / 2;
+    let mut i: usize = 0;
+    while i < n {
+        units[i] = fields::u16_at(path, i * 2);
+        i += 1;
+    }
+}
+
+// "Path, in that hive as it then stands: `key at N`."
+fn path_line(hive: &[u8], path: &[u8], units: &mut [u16]) -> Line
+    requires { ⌜ length (now path) / 2 ≤ length (now units) ⌝ }
+    ensures { λ r. ⌜ r ≡ foundLine (findAnswer (now (hive .entry)) (codes false (now (path .entry)))) ⌝ }
+{
+    path_units(path, units);
+    let n = path.len() / 2;
+    match lookup::find_key(hive, &units[0..n]) {
+        KeyFound::At(o) => Line::KeyAt(o),
+        KeyFound::Refused(r) => Line::Refused(r),
+    }
+}
+
 // The hive that later frames speak of: how long it is.
 enum Held {
     Nothing,
@@ -135,12 +165,16 @@ enum Went {
     Ended,
 }
 
-// Reads a payload; false where the input is cut.
-fn payload(fd: i32, buf: &mut [u8], n: usize) -> bool {
-    if buf.len() < n {
-        return false;
-    }
-    io::read_full(fd, &mut buf[0..n]) == n
+fn least(a: usize, b: usize) -> usize
+    ensures { λ r. ⌜ (r ≤ a) × (r ≤ b) ⌝ }
+{
+    if a < b { a } else { b }
+}
+
+// Reads a payload; false where the input is cut. A longer payload than there is room for is no frame.
+fn payload(fd: i32, room: &mut [u8], n: usize) -> bool {
+    let end = least(n, room.len());
+    io::read_full(fd, &mut room[0..end]) == n
 }
 
 fn bad_frame() -> Went {
@@ -152,24 +186,45 @@ fn hive_frame(fd: i32, hive: &mut [u8], map: &mut [u8], n: usize) -> Went {
     if !payload(fd, hive, n) {
         return bad_frame();
     }
-    if n <= hive.len() {
-        say::line(hive_line(&hive[0..n], map));
-    }
+    let end = least(n, hive.len());
+    say::line(hive_line(&hive[0..end], map));
     Went::On(Held::Hive(n))
 }
 
-fn log_frame(fd: i32, hive: &mut [u8], buf: &mut [u8], held: Held, n: usize) -> Went {
-    if !payload(fd, buf, n) {
+fn log_frame(fd: i32, hive: &mut [u8], log: &mut [u8], held: Held, n: usize) -> Went {
+    if !payload(fd, log, n) {
         return bad_frame();
     }
     match held {
         Held::Nothing => say::line(Line::NoHive),
-        Held::Hive(end) => {
-            if end <= hive.len() {
-                if n <= buf.len() {
-                    say::line(log_line(&mut hive[0..end], &buf[0..n]));
-                }
-            }
+        Held::Hive(len) => {
+            let hive_end = least(len, hive.len());
+            let log_end = least(n, log.len());
+            say::line(log_line(&mut hive[0..hive_end], &log[0..log_end]));
+        }
+    }
+    Went::On(held)
+}
+
+fn path_frame(
+    fd: i32,
+    hive: &[u8],
+    path: &mut [u8],
+    units: &mut [u16],
+    held: Held,
+    n: usize,
+) -> Went
+    requires { ⌜ length (now path) / 2 ≤ length (now units) ⌝ }
+{
+    if !payload(fd, path, n) {
+        return bad_frame();
+    }
+    match held {
+        Held::Nothing => say::line(Line::NoHive),
+        Held::Hive(len) => {
+            let hive_end = least(len, hive.len());
+            let path_end = least(n, path.len());
+            say::line(path_line(&hive[0..hive_end], &path[0..path_end], units));
         }
     }
     Went::On(held)
@@ -178,10 +233,10 @@ fn log_frame(fd: i32, hive: &mut [u8], buf: &mut [u8], held: Held, n: usize) -> 
 // One frame: "`bad frame`, before all else", then its line.
 fn turn(
     fd: i32,
-    hive: &mut [u8],
-    buf: &mut [u8],
-    units: &mut [u16],
-    map: &mut [u8],
+    hive: &mut [u8; 20480],
+    room: &mut [u8; 20480],
+    units: &mut [u16; 10240],
+    map: &mut [u8; 320],
     held: Held,
 ) -> Went {
     let mut head = [0u8; 6];
@@ -195,18 +250,24 @@ fn turn(
     match frame_of(&head) {
         Frame::Bad => bad_frame(),
         Frame::Hive(n) => hive_frame(fd, hive, map, n),
-        Frame::Log(n) => log_frame(fd, hive, buf, held, n),
-        Frame::Path(_) => bad_frame(),
+        Frame::Log(n) => log_frame(fd, hive, room, held, n),
+        Frame::Path(n) => path_frame(fd, hive, room, units, held, n),
     }
 }
 
-// The first line, then one for each frame. Nothing says that the input ends, so the turns are counted down from a number that no run uses up.
-pub fn run(fd: i32, hive: &mut [u8], buf: &mut [u8], units: &mut [u16], map: &mut [u8]) {
+// "First the line `hive`, then one per frame." Nothing says that the input ends, so the turns are counted down from a number that no run uses up.
+pub fn run(
+    fd: i32,
+    hive: &mut [u8; 20480],
+    room: &mut [u8; 20480],
+    units: &mut [u16; 10240],
+    map: &mut [u8; 320],
+) {
     say::hive();
     let mut held = Held::Nothing;
     let mut left = u64::MAX;
     while 0 < left {
-        match turn(fd, hive, buf, units, map, held) {
+        match turn(fd, hive, room, units, map, held) {
             Went::Ended => {
                 return;
             }

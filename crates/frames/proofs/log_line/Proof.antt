@@ -44,8 +44,8 @@ same-length-3 c = search needs
 
 returns-3 : tie.Need-returns-3
 returns-3 c = let e = sym (c .before .before .before .before .before .before .before .before .before .before .before .start .ensures) ∙ c .before .before .before .before .before .before .before .before .before .n .given .1 in
-        let l = c .before .before .before .before .before .before .before .before .before .before .before .before .before .before .before .args .log .now in
-        (sym (ap repairedLine e), c .before .before .close .ensures .1 ∙ ap (λ (d : List ℕ). closeHive d l) (c .before .before .before .before .before .before .install-pages .ensures) ∙ finishes _ _ _ e ∙ sym (repaired-by _ _ _ e))
+    let l = c .before .before .before .before .before .before .before .before .before .before .before .before .before .before .before .args .log .now in
+    (sym (ap repairedLine e), c .before .before .close .ensures .1 ∙ ap (λ (d : List ℕ). closeHive d l) (c .before .before .before .before .before .before .install-pages .ensures) ∙ finishes _ _ _ e ∙ sym (repaired-by _ _ _ e))
 
 pub log-line-spec : {M : Type 1} → statement M
 log-line-spec =
