@@ -1,7 +1,7 @@
 #!/usr/bin/env python3
 """Frame streams for the test program, and the lines that it must write.
 
-Run at the top of the repository it writes crates/hive_frames/stdin and stdout, and crates/frame_ends/data and stdout.
+Run at the top of the repository it writes crates/hive_frames/stdin and stdout, and crates/frame_ends/args, data and stdout.
 Each case states its line by hand; the model of hives.py has to say the same, or the script stops.
 compare imports `frame` and `lines_of`."""
 import os
@@ -564,6 +564,7 @@ def main():
         write("crates/frame_ends/data/" + name, data)
         said += [name] + expected
     write("crates/frame_ends/stdout", ("\n".join(said) + "\n").encode())
+    write("crates/frame_ends/args", "".join(name + "\n" for name, _, _ in ends()).encode())
     numbers = sorted({int(l.split()[1]) for l in lines if l.startswith("refused")})
     print("%d frames, %d bytes, refusals %s" % (len(lines) - 2, len(stream), numbers))
 
