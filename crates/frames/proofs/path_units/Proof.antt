@@ -1,0 +1,73 @@
+use Prim.Native.Nat.{ℕ}
+use Rattle.frames.proofs.Units.{one-more}
+use Rattle.names.specs.Codes.{codes}
+use Rattle.names.proofs.LawsCodes.{wide-length}
+use Prim.Native.Nat.{_≤_, _-_, _/_}
+use native.Mathlib.Omega.{arith}
+use mathlib.Core.Bool.{false}
+use mathlib.Core.Path.{_≡_, refl, sym, ap, _∙_}
+use lib.ListN.{length, take, length-set}
+use lib.Seq.{take-all}
+use borrow.Author.Needs.{needs}
+use Rattle.frames.proofs.path_units.Statement.{statement}
+use Rattle.frames.proofs.path_units.Tie as tie
+
+abbrev Inv-loop : tie.InvT-loop
+Inv-loop path units₀ n i₀ units i =
+    (i ≤ n) × (length units ≡ length units₀) × (take i units ≡ take i (codes false path))
+
+abbrev μ-loop : tie.MeasureT-loop
+μ-loop path units₀ n i₀ units i = n - i
+
+loop-holds : tie.Need-loop-holds Inv-loop μ-loop
+loop-holds c = search needs
+
+mul-u16-at : tie.Need-mul-u16-at Inv-loop μ-loop
+mul-u16-at c = search needs
+
+u16-at-requires : tie.Need-u16-at-requires Inv-loop μ-loop
+u16-at-requires c κs = search needs
+
+mul-units : tie.Need-mul-units Inv-loop μ-loop
+mul-units c = search needs
+
+slice-write-units : tie.Need-slice-write-units Inv-loop μ-loop
+slice-write-units c = search needs
+
+add-i : tie.Need-add-i Inv-loop μ-loop
+add-i c = search needs
+
+loop-less : tie.Need-loop-less Inv-loop μ-loop
+loop-less c = search needs
+
+loop-again : tie.Need-loop-again Inv-loop μ-loop
+loop-again c = let p = c .before .before .before .before .before .args .path .now in
+    let m = wide-length p in
+    (omega arith, simp length-set (c .before .before .loop .inv .1), one-more p _ _ _ (omega (arith, c .before .before .loop .inv .1)) (omega (arith, m)) (c .u16-at .ensures) (c .before .before .loop .inv .2))
+
+same-length : tie.Need-same-length Inv-loop μ-loop
+same-length c = search needs
+
+returns : tie.Need-returns Inv-loop μ-loop
+returns c = let p = c .before .before .before .before .args .path .now in
+    let m = wide-length p in
+    let i = c .before .loop .i in
+    let e : length p / 2 ≡ i = omega arith in
+    ap (λ (n : ℕ). take n (c .before .loop .units)) e ∙ c .before .loop .inv .2 ∙ take-all i (codes false p) (omega arith)
+
+pub path-units-spec : {M : Type 1} → statement M
+path-units-spec =
+    tie.close
+    (tie.spec
+    Inv-loop
+    μ-loop
+    loop-holds
+    mul-u16-at
+    u16-at-requires
+    mul-units
+    slice-write-units
+    add-i
+    loop-less
+    loop-again
+    same-length
+    returns)

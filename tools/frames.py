@@ -1,0 +1,573 @@
+#!/usr/bin/env python3
+"""Frame streams for the test program, and the lines that it must write.
+
+Run at the top of the repository it writes crates/hive_frames/stdin and stdout, and crates/frame_ends/args, data and stdout.
+Each case states its line by hand; the model of hives.py has to say the same, or the script stops.
+compare imports `frame` and `lines_of`."""
+import os
+import struct
+
+import hives
+from hives import BASE, Builder, Key, Refused, Value, edited, old_log, torn, u32
+
+LONGEST = 20480
+HIVE, LOG, PATH = 1, 2, 3
+
+
+def frame(kind, payload):
+    return struct.pack("<IH", len(payload), kind) + bytes(payload)
+
+
+def path_bytes(path):
+    return b"".join(struct.pack("<H", c) for c in hives.units(path))
+
+
+def answer(kind, payload, hive):
+    """The line of a whole frame. A repair changes `hive`, a bytearray."""
+    if kind != HIVE and hive is None:
+        return "no hive"
+    try:
+        if kind == HIVE:
+            return "accepted bins %d keys %d values %d used %d free %d" % hives.check(payload, bytearray(320))
+        if kind == LOG:
+            done = hives.repair(hive, payload)
+            return done if done == "clean" else "repaired %d" % done
+        return "key at %d" % hives.find_key(hive, [hives.u16(payload, i) for i in range(0, len(payload), 2)])
+    except Refused as r:
+        return "refused %d at %d" % (r.number, r.place)
+
+
+def lines_of(stream):
+    """What the program must write for an input."""
+    lines, hive, at = ["hive"], None, 0
+    while at < len(stream):
+        head = stream[at:at + 6]
+        length, kind = struct.unpack("<IH", head) if len(head) == 6 else (LONGEST + 1, 0)
+        payload = stream[at + 6:at + 6 + min(length, LONGEST)]
+        if length > LONGEST or len(payload) < length or kind not in (HIVE, LOG, PATH) or kind == PATH and length % 2:
+            lines.append("bad frame")
+            break
+        if kind == HIVE:
+            hive = bytearray(payload)
+        lines.append(answer(kind, payload, hive))
+        at += 6 + length
+    return lines
+
+
+# ---- the cases
+
+stream, lines = bytearray(), ["hive"]
+
+
+def case(kind, payload, line):
+    stream.extend(frame(kind, payload))
+    lines.append(line)
+
+
+def hive(h, line):
+    case(HIVE, h, line)
+
+
+def refused(number, h, place=0):
+    hive(h, "refused %d at %d" % (number, place))
+
+
+def path(p, line):
+    case(PATH, path_bytes(p), line)
+
+
+def log(l, line):
+    case(LOG, l, line)
+
+
+def word(n):
+    return struct.pack("<I", n % 2**32)
+
+
+def half(n):
+    return struct.pack("<H", n)
+
+
+def place(at, i=0):
+    """Byte i of the data of the cell at an offset."""
+    return BASE + 4 + at + i
+
+
+def bases():
+    minimal = Builder(Key("R")).hive
+    hive(minimal, "accepted bins 1 keys 1 values 0 used 88 free 3976")
+    hive(minimal + bytes(100), "accepted bins 1 keys 1 values 0 used 88 free 3976")
+    refused(1, b"")
+    refused(1, minimal[:4095])
+    refused(2, edited(minimal, (0, b"Regf")))
+    refused(3, minimal[:508] + word(u32(minimal, 508) ^ 1) + minimal[512:])
+    refused(3, minimal[:100] + b"\1" + minimal[101:])
+    for at, number in ((20, 0), (20, 2), (24, 2), (24, 6), (24, 0x103), (28, 1), (32, 0), (44, 2), (44, 0x10001)):
+        refused(4, edited(minimal, (at, word(number))))
+    for size in (0, 4095, 4097, 67108864 + 4096, 0x80000000, 0xFFFFF000):
+        refused(5, edited(minimal, (40, word(size))))
+    for size in (8192, 67108864):
+        refused(6, edited(minimal, (40, word(size))))
+    refused(6, minimal[:-1])
+    refused(6, edited(minimal[:-1], (4, word(9))))
+    refused(7, edited(minimal, (4, word(9))))
+    refused(7, edited(minimal, (4, word(9)), (BASE, b"H")))
+    for minor in (3, 4):
+        hive(edited(minimal, (24, word(minor))), "accepted bins 1 keys 1 values 0 used 88 free 3976")
+    # the root's parent field is not read, and its list offsets are not where the counts are 0
+    hive(edited(minimal, (place(32, 16), word(32)), (place(32, 28), word(77)), (place(32, 40), word(77))),
+         "accepted bins 1 keys 1 values 0 used 88 free 3976")
+
+
+def tilings():
+    two = Builder(Key("R", [Key("A" * 200), Key("B" * 200)], [Value("v", b"x" * 3900)])).hive
+    hive(two, "accepted bins 2 keys 3 values 1 used 4616 free 3512")
+    for at in (0, 4096):
+        refused(9, edited(two, (BASE + at, b"hbiN")), at)
+        refused(9, edited(two, (BASE + at + 4, word(at + 8))), at)
+        for size in (0, 4095, 4097, 12288 - at, 0xFFFFF000):
+            refused(9, edited(two, (BASE + at + 8, word(size))), at)
+    refused(10, edited(two, (BASE + 32, word(0)), (BASE + 4096, b"none")), 32)
+    refused(10, edited(two, (BASE + 32, word(0x80000000))), 32)
+    refused(10, edited(two, (BASE + 32, word(-84))), 32)
+    refused(10, edited(two, (BASE + 32, word(-4072))), 32)
+    refused(10, edited(two, (BASE + 32, word(4072))), 32)
+    refused(10, edited(two, (BASE + 4096 + 32, word(0))), 4096 + 32)
+    refused(11, edited(two, (BASE + 32, word(4064))), 32)
+    # neighbouring free cells
+    minimal = Builder(Key("R")).hive
+    hive(edited(minimal, (BASE + 120, word(8)), (BASE + 128, word(3968))), "accepted bins 1 keys 1 values 0 used 88 free 3976")
+    hive(edited(minimal, (BASE + 120, word(-8)), (BASE + 128, word(3968))), "accepted bins 1 keys 1 values 0 used 96 free 3968")
+    for root in (0, 31, 33, 36, 120, 128, 4096, 4095, 0x80000000, 0xFFFFFFFF):
+        refused(11, edited(minimal, (36, word(root))), root)
+
+
+def keys():
+    root = Key("Root")
+    h = Builder(root).hive
+    at = root.at
+    for change in ((place(at), b"NK"), (place(at), b"vk"), (place(at, 72), half(0)), (place(at, 72), half(9)), (place(at, 72), half(0xFFFF)),
+                   (place(at, 78), b"\\")):
+        refused(12, edited(h, change), at)
+    refused(12, edited(h, (BASE + at, word(-72)), (BASE + at + 72, word(4064 - 72))), at)
+    # the four bytes as two units
+    hive(edited(h, (place(at, 2), half(0))), "accepted bins 1 keys 1 values 0 used 88 free 3976")
+    refused(12, edited(h, (place(at, 2), half(0)), (place(at, 72), half(3))), at)
+    # 0x5C00 and 0x5C01 are no backslashes
+    hive(edited(h, (place(at, 2), half(0)), (place(at, 76), b"\0\\\1\\")), "accepted bins 1 keys 1 values 0 used 88 free 3976")
+    refused(12, edited(h, (place(at, 2), half(0)), (place(at, 78), b"\\\0")), at)
+    for wide, count in ((False, 255), (True, 255)):
+        k = Key("n" * count, wide=wide)
+        b = Builder(k, slack=8)
+        used = (4 + 76 + count * (2 if wide else 1) + 8 + 7) // 8 * 8
+        hive(b.hive, "accepted bins 1 keys 1 values 0 used %d free %d" % (used, 4064 - used))
+        more = b"n\0" * (count + 1) if wide else b"n" * (count + 1)
+        refused(12, edited(b.hive, (place(k.at, 72), half(len(more))), (place(k.at, 76), more)), k.at)
+
+
+def family(lists, names=("Alpha", "beta", "GAMMA", "delta\u0416")):
+    """A root with subkeys whose names ascend."""
+    root = Key("Root", [Key(n) for n in sorted(names, key=lambda n: hives.folded(hives.units(n)))], lists=lists)
+    return root, Builder(root).hive
+
+
+def lists():
+    for kind in ("li", "lf", "lh", [("lh", 4)], [("li", 1), ("lf", 2), ("lh", 1)], [("lh", 1), ("li", 3)]):
+        root, h = family(kind)
+        used = sum(abs(n) for n in cells_in_use(h))
+        hive(h, "accepted bins 1 keys 5 values 0 used %d free %d" % (used, 4064 - used))
+    root, h = family("lh")
+    at, leaf = root.at, u32(h, place(root.at, 28))
+    a, b, c, d = [k.at for k in root.subkeys]
+    refused(12, edited(h, (place(leaf), b"xh")), leaf)
+    refused(12, edited(h, (place(leaf), b"ri")), a)
+    refused(12, edited(h, (place(leaf, 2), half(0))), leaf)
+    refused(12, edited(h, (place(leaf, 2), half(5))), leaf)
+    refused(12, edited(h, (place(leaf, 2), half(0xFFFF))), leaf)
+    refused(14, edited(h, (place(leaf, 2), half(3))), at)
+    for count in (1, 3, 5, 0xFFFFFFFF):
+        refused(14, edited(h, (place(at, 20), word(count))), at)
+    hive(edited(h, (place(at, 20), word(0))), "accepted bins 1 keys 1 values 0 used 488 free 3576")
+    for o in (0, leaf + 4, 8, 0xFFFFFFF8, 0x80000000):
+        refused(11, edited(h, (place(at, 28), word(o))), o)
+    refused(12, edited(h, (place(at, 28), word(a))), a)
+    # elements
+    refused(11, edited(h, (place(leaf, 4), word(40))), 40)
+    refused(12, edited(h, (place(leaf, 4), word(leaf))), leaf)
+    refused(13, edited(h, (place(leaf, 8), word(1))), a)
+    refused(13, edited(h, (place(leaf, 12), h[place(leaf, 4):place(leaf, 12)])), a)
+    refused(13, edited(h, (place(leaf, 4), h[place(leaf, 12):place(leaf, 20)] + h[place(leaf, 4):place(leaf, 12)])), a)
+    refused(13, edited(h, (place(leaf, 32), word(0))), d)
+    refused(14, edited(h, (place(b, 16), word(a))), b)
+    refused(14, edited(h, (place(leaf, 4), word(at))), at)
+    refused(14, edited(h, (place(leaf, 4), word(at)), (place(at, 16), word(at))), at)
+    # the hash is of the upper-cased name, and lf hints are not read
+    root, h = family("lf", ("ab",))
+    leaf = u32(h, place(root.at, 28))
+    hive(edited(h, (place(leaf, 8), word(7))), "accepted bins 1 keys 2 values 0 used 192 free 3872")
+    hive(edited(h, (place(leaf), b"lh"), (place(leaf, 8), word(2471))), "accepted bins 1 keys 2 values 0 used 192 free 3872")
+    refused(13, edited(h, (place(leaf), b"lh"), (place(leaf, 8), word(2470))), root.subkeys[0].at)
+    names()
+    across()
+    below()
+
+
+def cells_in_use(h):
+    at, sizes = 32, []
+    while at < 4096:
+        size = hives.signed_size(h, BASE + at)
+        if size < 0:
+            sizes.append(size)
+        at += abs(size)
+    return sizes
+
+
+def names():
+    """Order: a prefix first, a to z as A to Z, and strictly."""
+    for first, second, good in (("a", "ab", True), ("ab", "a", False), ("A", "b", True), ("b", "A", False), ("a", "A", False), ("Z", "_", True), ("z", "_", True),
+                                ("_", "z", False), ("z", "{", True), ("a", "\u0416", True), ("\u00e9", "\u00c9", False), ("\u00c9", "\u00e9", True)):
+        root = Key("R", [Key(first), Key(second)])
+        h = Builder(root).hive
+        if good:
+            hive(h, "accepted bins 1 keys 3 values 0 used 288 free 3776")
+        else:
+            refused(13, h, root.subkeys[1].at)
+
+
+def across():
+    """Several leaves below an ri."""
+    root, h = family([("li", 2), ("lh", 2)])
+    at, ri = root.at, u32(h, place(root.at, 28))
+    a, b, c, d = [k.at for k in root.subkeys]
+    first, second = u32(h, place(ri, 4)), u32(h, place(ri, 8))
+    refused(12, edited(h, (place(ri, 4), word(ri))), ri)
+    refused(12, edited(h, (place(ri, 8), word(ri))), ri)
+    refused(12, edited(h, (place(ri, 8), word(a))), a)
+    refused(11, edited(h, (place(ri, 8), word(second + 8))), second + 8)
+    refused(12, edited(h, (place(ri, 2), half(0))), ri)
+    refused(12, edited(h, (place(ri, 2), half(3))), ri)
+    refused(14, edited(h, (place(ri, 2), half(1))), at)
+    refused(13, edited(h, (place(ri, 4), word(second) + word(first))), a)
+    refused(13, edited(h, (place(ri, 8), word(first))), a)
+    refused(13, edited(h, (place(second, 4), word(b) + word(0))), b)
+    refused(13, edited(h, (place(second, 4), word(c) + word(0))), c)
+    # all leaves and the total come before any element
+    refused(12, edited(h, (place(first, 4), word(0)), (place(second), b"??")), second)
+    refused(14, edited(h, (place(first, 4), word(0)), (place(at, 20), word(3))), at)
+    refused(11, edited(h, (place(first, 4), word(0)), (place(second, 8), word(9))), 0)
+
+
+def below():
+    """Depth: a whole subtree before the next sibling; a cycle through the root; the order of faults in a key."""
+    inner = Key("inner", [Key("leaf", values=[Value("v", b"12345678")])])
+    root = Key("R", [Key("a", [inner]), Key("b")])
+    h = Builder(root).hive
+    hive(h, "accepted bins 1 keys 5 values 1 used 552 free 3512")
+    leaf, b, a = inner.subkeys[0].at, root.subkeys[1].at, root.subkeys[0].at
+    refused(12, edited(h, (place(leaf), b"kn"), (place(b), b"kn")), leaf)
+    refused(12, edited(h, (place(leaf), b"kn"), (place(b, 16), word(a))), leaf)
+    refused(14, edited(h, (place(leaf, 16), word(root.at))), leaf)
+    refused(14, edited(h, (place(leaf, 36), word(0)), (place(leaf, 20), word(1)), (place(leaf, 28), word(u32(h, place(root.at, 28))))), leaf)
+    # the inner key lists the root, and the root's parent field says so
+    listed = u32(h, place(inner.at, 28))
+    refused(14, edited(h, (place(listed, 4), word(root.at)), (place(root.at, 16), word(inner.at))), root.at)
+    # parent before order and hash, these before the values, these before the lists
+    refused(14, edited(h, (place(b, 16), word(0)), (place(b, 76), b"A")), b)
+    refused(13, edited(h, (place(leaf, 76), b"x"), (place(leaf, 40), word(1))), leaf)
+    refused(11, edited(h, (place(leaf, 40), word(1)), (place(leaf, 20), word(1)), (place(leaf, 28), word(2))), 1)
+    refused(11, edited(h, (place(leaf, 20), word(1)), (place(leaf, 28), word(2))), 2)
+
+
+def values():
+    vs = [Value("", b""), Value("one", b"1"), Value("two", b"12"), Value("three", b"123"), Value("four", b"1234"), Value("five", b"12345"), Value("none", b"", inline=False),
+          Value("wide\u0416", b"wide"), Value("with\\backslash", b"w"), Value("five", b"again"), Value("kind", b"\1\0\0\0", 4)]
+    root = Key("R", [Key("shares")], vs)
+    h = Builder(root).hive
+    at, listed = root.at, u32(h, place(root.at, 40))
+    used = -sum(cells_in_use(h))
+    hive(h, "accepted bins 1 keys 2 values 11 used %d free %d" % (used, 4064 - used))
+    # the child has the same value list
+    hive(edited(h, (place(root.subkeys[0].at, 36), word(11) + word(listed))), "accepted bins 1 keys 2 values 22 used %d free %d" % (used, 4064 - used))
+    hive(edited(h, (place(at, 36), word(3))), "accepted bins 1 keys 2 values 3 used %d free %d" % (used, 4064 - used))
+    for count in (12, 0x40000001, 0xFFFFFFFF):
+        refused(12, edited(h, (place(at, 36), word(count))), listed)
+    for o in (0, 33, listed + 8, 0xFFFFFFFF):
+        refused(11, edited(h, (place(at, 40), word(o))), o)
+        refused(11, edited(h, (place(listed, 4), word(o))), o)
+    four, five, wide = vs[4].at, vs[5].at, vs[7].at
+    for change in ((0, b"kv"), (2, half(0xFFFF)), (2, half(29)), (4, word(0x80000005)), (4, word(0xFFFFFFFF)), (4, word(1048577)), (4, word(0x7FFFFFFF))):
+        refused(12, edited(h, (place(five, change[0]), change[1])), five)
+    refused(12, edited(h, (place(wide, 2), half(9))), wide)
+    refused(12, edited(h, (place(listed, 4), word(at))), at)
+    data = u32(h, place(five, 8))
+    refused(12, edited(h, (place(five, 4), word(13))), data)
+    hive(edited(h, (place(five, 4), word(12))), "accepted bins 1 keys 2 values 11 used %d free %d" % (used, 4064 - used))
+    refused(11, edited(h, (place(five, 8), word(data + 4))), data + 4)
+    refused(11, edited(h, (place(four, 4), word(4))), u32(b"1234", 0))
+    hive(edited(h, (place(five, 4), word(0)), (place(five, 8), word(1))), "accepted bins 1 keys 2 values 11 used %d free %d" % (used, 4064 - used))
+    # a value's record and data come before the next value's
+    refused(11, edited(h, (place(five, 8), word(2)), (place(wide), b"kv")), 2)
+    refused(12, edited(h, (place(five), b"kv"), (place(wide, 8), word(2))), five)
+    segments()
+
+
+def segments():
+    """Over 16,344 bytes: a `db` record with minor 4 and 5, one cell with minor 3. No frame has room for the data."""
+    v = Value("big", b"12345678")
+    root = Key("R", values=[v])
+    h = Builder(root, slack=16).hive
+    data = u32(h, place(v.at, 8))
+    listed = u32(h, place(root.at, 40))
+    large = (place(v.at, 4), word(16345))
+    refused(12, edited(h, large), data)
+    refused(12, edited(h, large, (24, word(3))), data)
+    refused(12, edited(h, large, (place(data), b"db" + half(1) + word(listed))), data)
+    refused(12, edited(h, large, (place(data), b"db" + half(3) + word(listed))), data)
+    refused(12, edited(h, large, (place(data), b"bd" + half(2) + word(listed))), data)
+    refused(12, edited(h, large, (24, word(3)), (place(data), b"db" + half(2) + word(listed))), data)
+    refused(11, edited(h, large, (place(data), b"db" + half(2) + word(4))), 4)
+    # the list of segments is the value list: its first element is the value, which is too short for a segment
+    refused(12, edited(h, large, (place(data), b"db" + half(2) + word(listed))), v.at)
+    refused(12, edited(h, (place(v.at, 4), word(1048576)), (place(data), b"db" + half(65) + word(listed))), listed)
+    refused(12, edited(h, (place(v.at, 4), word(16344)), (24, word(4))), data)
+
+
+def paths():
+    deep = Key("c", [Key("D", [Key("e\u0416\u00e9")])])
+    root = Key("R", [Key("Alpha"), Key("beta", [deep, Key("d")]), Key("Gamma"), Key("z\u0436"), Key("\u0416one", wide=True), Key("\u0416two", wide=True)],
+               lists=[("li", 2), ("lf", 1), ("lh", 3)])
+    h = Builder(root).hive
+    stream_hive(h)
+    alpha, beta, gamma, z, one, two = [k.at for k in root.subkeys]
+    path("", "key at %d" % root.at)
+    for p, at in (("Alpha", alpha), ("ALPHA", alpha), ("alpha", alpha), ("aLPHa", alpha), ("BETA", beta), ("gamma", gamma), ("Z\u0436", z), ("z\u0436", z), ("\u0416ONE", one),
+                  ("\u0416two", two), ("beta\\C", deep.at), ("Beta\\c\\d", deep.subkeys[0].at), ("beta\\C\\D\\E\u0416\u00e9", deep.subkeys[0].subkeys[0].at),
+                  ("beta\\D", root.subkeys[1].subkeys[1].at)):
+        path(p, "key at %d" % at)
+    for p in ("Alph", "Alphaa", "z\u0416", "\u0436one", "beta\\x", "alpha\\x", "beta\\c\\d\\e\u0416\u00c9", "R", "\0", "x" * 255, "\\".join("x" * 512)):
+        path(p, "refused 17 at 0")
+    for p in ("\\", "\\beta", "beta\\", "beta\\\\c", "x" * 256, "beta\\" + "y" * 256, "\\".join("x" * 513), "x" * 5000):
+        path(p, "refused 16 at 0")
+    broken(root, h, deep)
+    # lookup needs no accepted hive: here order, hash, parent and total are wrong
+    leaf = u32(h, place(u32(h, place(root.at, 28)), 12))
+    stream_hive(edited(h, (place(root.at, 20), word(99)), (place(alpha, 16), word(0)), (place(leaf, 8), word(0)), (place(gamma, 76), b"A")))
+    path("alpha", "key at %d" % alpha)
+    path("aamma", "key at %d" % gamma)
+    path("z\u0436", "key at %d" % z)
+    stream_hive(edited(h, (place(root.at, 20), word(0))))
+    path("alpha", "refused 17 at 0")
+
+
+def stream_hive(h):
+    """A hive frame whose line is the model's."""
+    hive(h, answer(HIVE, h, None))
+
+
+def broken(root, h, deep):
+    """Faults on the way: met before the match, not behind it."""
+    beta, gamma = root.subkeys[1].at, root.subkeys[2].at
+    ri = u32(h, place(root.at, 28))
+    second, third = u32(h, place(ri, 8)), u32(h, place(ri, 12))
+    stream_hive(edited(h, (place(beta), b"vk")))
+    path("alpha", "key at %d" % root.subkeys[0].at)
+    path("beta", "refused 12 at %d" % beta)
+    path("gamma", "refused 12 at %d" % beta)
+    path("nothing", "refused 12 at %d" % beta)
+    path("\\", "refused 16 at 0")
+    stream_hive(edited(h, (place(third), b"ri")))
+    path("gamma", "key at %d" % gamma)
+    path("zz", "refused 12 at %d" % third)
+    stream_hive(edited(h, (place(ri, 8), word(second + 4))))
+    path("BETA", "key at %d" % beta)
+    path("gamma", "refused 11 at %d" % (second + 4))
+    stream_hive(edited(h, (place(ri), b"li")))
+    path("x", "refused 12 at %d" % u32(h, place(ri, 4)))
+    stream_hive(edited(h, (36, word(0xFFFFFFFF))))
+    path("", "refused 11 at 4294967295")
+    path("a\\\\b", "refused 16 at 0")
+    # the root's record is read for every path; a bad file is said first
+    stream_hive(edited(h, (place(root.at), b"xx")))
+    path("", "refused 12 at %d" % root.at)
+    stream_hive(edited(h, (4, word(77))))
+    path("\\", "refused 7 at 0")
+    stream_hive(h[:100])
+    path("", "refused 1 at 0")
+    # a cell by its own header: inside another cell, and free
+    inside = place(deep.at, 44)
+    stream_hive(edited(h, (36, word(inside - BASE)), (inside, word(-16))))
+    path("", "refused 12 at %d" % (inside - BASE))
+    stream_hive(edited(h, (BASE + root.at, word(88))))
+    path("", "refused 11 at %d" % root.at)
+
+
+def logs():
+    root = Key("Root", [Key("kept")])
+    good = Builder(root, stamp=0x1122334455667788).hive
+    dirty = torn(good)
+    page0, page1 = bytes(good[BASE:BASE + 512]), bytes(good[BASE + 512:BASE + 1024])
+    accepted = "accepted bins 1 keys 2 values 0 used 192 free 3872"
+    whole = old_log(good, {0: page0})
+    # a clean hive answers clean, whatever the log
+    hive(good, accepted)
+    log(whole, "clean")
+    log(b"", "clean")
+    path("kept", "key at %d" % root.subkeys[0].at)
+    # usable: the sequence numbers differ
+    for kind in (1, 2):
+        refused(7, dirty)
+        log(old_log(good, {0: page0, 7: page1}, kind), "repaired 2")
+        log(whole, "clean")
+        path("KEPT", "key at %d" % root.subkeys[0].at)
+    refused(7, dirty)
+    log(old_log(good, {}), "repaired 0")
+    path("", "key at %d" % root.at)
+    # page 0 brings a tree back
+    refused(7, edited(dirty, (BASE + 32, bytes(300))))
+    path("kept", "refused 7 at 0")
+    log(whole, "repaired 1")
+    path("kept", "key at %d" % root.subkeys[0].at)
+    # not usable: the first bin's stamp counts, and page 0's
+    spoilt = bytearray(dirty)
+    spoilt[508] ^= 1
+    refused(3, spoilt)
+    log(whole, "repaired 1")
+    path("kept", "key at %d" % root.subkeys[0].at)
+    refused(3, spoilt)
+    log(old_log(good, {1: page1}), "repaired 1")
+    refused(2, bytes(4096) + spoilt[4096:])
+    log(whole, "repaired 1")
+    path("kept", "key at %d" % root.subkeys[0].at)
+    other_stamp = bytearray(spoilt)
+    other_stamp[BASE + 20] ^= 1
+    refused(3, other_stamp)
+    log(whole, "refused 25 at 0")
+    log(old_log(good, {1: page1}), "refused 25 at 0")
+    other_page = bytearray(page0)
+    other_page[27] ^= 1
+    refused(3, spoilt)
+    log(old_log(good, {0: bytes(other_page)}), "refused 25 at 0")
+    log(old_log(good, {1: bytes(other_page)}), "repaired 1")
+    # of a usable hive the base stamp counts, and no other
+    refused(7, edited(dirty, (BASE + 20, b"?")))
+    log(old_log(good, {0: bytes(other_page)}), "repaired 1")
+    refused(7, edited(dirty, (12, b"?")))
+    log(whole, "refused 25 at 0")
+    bad_logs(good, dirty, whole, page0)
+    # equal sequence numbers, but not usable: not clean
+    unsealed = bytearray(good)
+    unsealed[508] ^= 1
+    refused(3, unsealed)
+    log(whole, "repaired 1")
+    # cut, and clean all the same
+    refused(6, good[:4096])
+    log(whole, "clean")
+    refused(1, good[:4095])
+    log(whole, "refused 1 at 0")
+
+
+def bad_logs(good, dirty, whole, page0):
+    """21 to 24; a refused log changes nothing, so the last one still repairs."""
+    refused(7, dirty)
+    two = edited(whole, (40, word(8192)))
+    for l in (b"", whole[:511], edited(whole, (0, b"x")), whole[:508] + b"????" + whole[512:], edited(whole, (28, word(0))), edited(whole, (28, word(3))), edited(whole, (24, word(9))),
+              edited(whole, (40, word(0))), edited(whole, (40, word(100))), edited(whole, (4, word(1)))):
+        log(l, "refused 21 at 0")
+    for l in (whole[:512], whole[:515], whole[:516], two[:517], whole[:517], whole[:1024], whole[:1535], edited(whole, (512, b"dirt"))[:516], edited(whole, (516, b"\3"))):
+        log(l, "refused 22 at 0")
+    log(edited(whole, (512, b"dirt")), "refused 23 at 0")
+    log(edited(whole, (512, b"dirt"))[:600], "refused 23 at 0")
+    log(two, "refused 24 at 0")
+    log(edited(two, (12, b"?")), "refused 24 at 0")
+    log(edited(whole, (40, word(67108864)), (516, bytes(16384)))[:17000], "refused 24 at 0")
+    path("", "refused 7 at 0")
+    log(edited(whole, (516, b"\0"))[:517], "repaired 0")
+    refused(7, dirty)
+    log(whole + b"behind", "repaired 1")
+    # two bins: the bitmap has two bytes, and the figures of the paper
+    root = Key("R", values=[Value("v", b"x" * 4000)])
+    large = Builder(root, stamp=5).hive
+    accepted = "accepted bins 2 keys 1 values 1 used %d free %d" % (sum_used(large))
+    hive(large, accepted)
+    at = {0: bytes(large[4096:4608]), 15: b"y" * 512}
+    l = old_log(large, at)
+    refused(7, torn(large))
+    log(l[:2047], "refused 22 at 0")
+    log(l[:2048], "repaired 2")
+    path("", "key at %d" % root.at)
+    # a log of fewer bins than the hive had
+    refused(7, torn(large))
+    log(old_log(edited(large, (40, word(4096))), {}), "repaired 0")
+
+
+def sum_used(h):
+    _, _, used, free = hives.tile(hives.open_hive(h))
+    return used, free
+
+
+def begin():
+    """Before any hive."""
+    path("a", "no hive")
+    log(b"", "no hive")
+    path("\\", "no hive")
+    log(b"x" * LONGEST, "no hive")
+    path("x" * (LONGEST // 2), "no hive")
+
+
+def write(name, data):
+    os.makedirs(os.path.dirname(name), exist_ok=True)
+    with open(name, "wb") as f:
+        f.write(data)
+
+
+def ends():
+    """Streams that end in every way: (name, bytes, lines). Each is a file of the program frame_ends."""
+    minimal = frame(HIVE, Builder(Key("R")).hive)
+    accepted = "accepted bins 1 keys 1 values 0 used 88 free 3976"
+    out = [("empty", b"", [])]
+    out += [("head%d" % n, minimal[:n], ["bad frame"]) for n in range(1, 6)]
+    out += [("cut", minimal[:-1], ["bad frame"]), ("bare", minimal[:6], ["bad frame"]),
+            ("later", minimal + minimal[:3000], [accepted, "bad frame"]),
+            ("whole", minimal, [accepted]),
+            ("long", struct.pack("<IH", 0xFFFFFFFF, HIVE) + bytes(100), ["bad frame"]),
+            ("longer", struct.pack("<IH", LONGEST + 1, HIVE) + bytes(LONGEST + 1), ["bad frame"]),
+            ("longest", frame(HIVE, bytes(LONGEST)), ["refused 2 at 0"]),
+            ("kind0", frame(0, b""), ["bad frame"]), ("kind4", frame(4, b"") + minimal, ["bad frame"]), ("kind257", frame(257, b""), ["bad frame"]),
+            ("odd", frame(PATH, b"a"), ["bad frame"]), ("odder", minimal + frame(PATH, b"abc") + minimal, [accepted, "bad frame"]),
+            ("oddcut", struct.pack("<IH", 3, PATH) + b"a", ["bad frame"]), ("pathcut", struct.pack("<IH", 4, PATH) + b"ab", ["bad frame"]),
+            ("nothings", frame(HIVE, b"") + frame(LOG, b"") + frame(PATH, b""), ["refused 1 at 0"] * 3),
+            ("loose", frame(PATH, b"") + minimal + frame(LOG, b"") + frame(PATH, b"") + b"\0", ["no hive", accepted, "clean", "key at 32", "bad frame"])]
+    return [(name, data, ["hive"] + said) for name, data, said in out]
+
+
+def hold(name, data, said):
+    """The lines stated by hand against the model's."""
+    modelled = lines_of(data)
+    for i, (a, b) in enumerate(zip(said, modelled)):
+        if a != b:
+            raise SystemExit("%s, line %d: stated %r, the model says %r" % (name, i + 1, a, b))
+    if len(said) != len(modelled):
+        raise SystemExit("%s: %d lines stated, %d by the model" % (name, len(said), len(modelled)))
+
+
+def main():
+    for part in (begin, bases, tilings, keys, lists, values, paths, logs):
+        part()
+    stream.extend(struct.pack("<IH", 0xFFFFFFFF, PATH))
+    lines.append("bad frame")
+    hold("hive_frames", bytes(stream), lines)
+    write("crates/hive_frames/stdin", stream)
+    write("crates/hive_frames/stdout", ("\n".join(lines) + "\n").encode())
+    said = []
+    for name, data, expected in ends():
+        hold(name, data, expected)
+        write("crates/frame_ends/data/" + name, data)
+        said += [name] + expected
+    write("crates/frame_ends/stdout", ("\n".join(said) + "\n").encode())
+    write("crates/frame_ends/args", "".join(name + "\n" for name, _, _ in ends()).encode())
+    numbers = sorted({int(l.split()[1]) for l in lines if l.startswith("refused")})
+    print("%d frames, %d bytes, refusals %s" % (len(lines) - 2, len(stream), numbers))
+
+
+if __name__ == "__main__":
+    main()

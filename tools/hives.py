@@ -1,0 +1,610 @@
+"""Hives and old logs in plain Python: a builder, and a reading of document 01 that owes nothing to the Rattle code.
+
+The other scripts of this folder import it. "The paper" is document 01; a number in brackets is the ruling of
+docs/DECISIONS.md that a line follows. Standard library only."""
+import struct
+import sys
+
+sys.setrecursionlimit(10000)
+
+BASE = 4096
+SEGMENT = 16344
+BINS_MOST = 67108864
+DATA_MOST = 1048576
+BACKSLASH = 0x5C
+
+
+def u16(b, i):
+    return b[i] | b[i + 1] << 8
+
+
+def u32(b, i):
+    return b[i] | b[i + 1] << 8 | b[i + 2] << 16 | b[i + 3] << 24
+
+
+def checksum(block):
+    """The XOR of the 127 words before the checksum."""
+    total = 0
+    for word in struct.unpack("<127I", bytes(block[:508])):
+        total ^= word
+    return total
+
+
+def seal(block):
+    """Puts the right checksum into a base block, or into the first sector of a log."""
+    struct.pack_into("<I", block, 508, checksum(block))
+    return block
+
+
+def upper(code):
+    return code - 32 if 97 <= code <= 122 else code
+
+
+def name_hash(codes):
+    h = 0
+    for c in codes:
+        h = (h * 37 + upper(c)) % 2**32
+    return h
+
+
+def folded(codes):
+    return [upper(c) for c in codes]
+
+
+def units(text):
+    """The UTF-16 units of a Python string; a list of codes stays as it is."""
+    if not isinstance(text, str):
+        return list(text)
+    b = text.encode("utf-16-le", "surrogatepass")
+    return [u16(b, i) for i in range(0, len(b), 2)]
+
+
+# ---- the model: the check
+
+class Refused(Exception):
+    def __init__(self, number, place=0):
+        Exception.__init__(self, number, place)
+        self.number, self.place = number, place
+
+
+def block_fault(block, types):
+    """2 to 5, of the first 512 bytes; 0 where the block is usable."""
+    if bytes(block[0:4]) != b"regf":
+        return 2
+    if u32(block, 508) != checksum(block):
+        return 3
+    if u32(block, 20) != 1 or u32(block, 24) not in (3, 4, 5) or u32(block, 28) not in types:
+        return 4
+    if u32(block, 32) != 1 or u32(block, 44) != 1:
+        return 4
+    size = u32(block, 40)
+    if size == 0 or size % 4096 or size > BINS_MOST:
+        return 5
+    return 0
+
+
+def open_hive(hive):
+    """1 to 7, and the bins data."""
+    if len(hive) < BASE:
+        raise Refused(1)
+    fault = block_fault(hive, (0,))
+    if fault:
+        raise Refused(fault)
+    size = u32(hive, 40)
+    if len(hive) < BASE + size:
+        raise Refused(6)
+    if u32(hive, 4) != u32(hive, 8):
+        raise Refused(7)
+    return bytes(hive[BASE:BASE + size])
+
+
+def signed_size(bins, at):
+    return struct.unpack_from("<i", bins, at)[0]
+
+
+def tile(bins):
+    """9 and 10, bin by bin; the number of bins, the starts of the cells in use, used and free bytes."""
+    count, starts, used, free, at = 0, set(), 0, 0, 0
+    while at < len(bins):
+        size = u32(bins, at + 8)
+        if bins[at:at + 4] != b"hbin" or u32(bins, at + 4) != at:
+            raise Refused(9, at)
+        if size == 0 or size % 4096 or at + size > len(bins):
+            raise Refused(9, at)
+        count += 1
+        cell, end = at + 32, at + size
+        while cell < end:
+            signed = signed_size(bins, cell)
+            length = abs(signed)
+            if length == 0 or length % 8 or cell + length > end:
+                raise Refused(10, cell)
+            if signed < 0:
+                starts.add(cell)
+                used += length
+            else:
+                free += length
+            cell += length
+        at = end
+    return count, starts, used, free
+
+
+class Reader:
+    """Records in the bins data. With `starts` an offset names a cell of the tiling (the check); without, one by the
+    cell's own header (lookup)."""
+
+    def __init__(self, bins, minor, starts=None):
+        self.bins, self.minor, self.starts = bins, minor, starts
+
+    def cell(self, at):
+        """The data of the cell in use at an offset, or 11."""
+        if self.starts is not None:
+            if at not in self.starts:
+                raise Refused(11, at)
+        else:
+            if at < 32 or at % 8 or at + 4 > len(self.bins):
+                raise Refused(11, at)
+            signed = signed_size(self.bins, at)
+            if signed >= 0 or signed % 8 or at - signed > len(self.bins):
+                raise Refused(11, at)
+        return self.bins[at + 4:at - signed_size(self.bins, at)]
+
+    def key(self, at):
+        d = self.cell(at)
+        if len(d) < 76 or d[0:2] != b"nk":
+            raise Refused(12, at)
+        length, one = u16(d, 72), u16(d, 2) & 0x20
+        if 76 + length > len(d):
+            raise Refused(12, at)
+        codes = name_codes(d[76:76 + length], one)
+        if codes is None or not 1 <= len(codes) <= 255 or BACKSLASH in codes:
+            raise Refused(12, at)
+        return {"at": at, "name": codes, "parent": u32(d, 16), "subkeys": u32(d, 20), "list": u32(d, 28),
+                "values": u32(d, 36), "value_list": u32(d, 40)}
+
+    def list_of(self, at, allowed):
+        """A list's signature and its elements: (offset, hash or None). 12 at the list (13)."""
+        d = self.cell(at)
+        if len(d) < 4 or d[0:2] not in allowed:
+            raise Refused(12, at)
+        sign, count = d[0:2], u16(d, 2)
+        width = 8 if sign in (b"lf", b"lh") else 4
+        if count == 0 or 4 + count * width > len(d):
+            raise Refused(12, at)
+        return sign, [(u32(d, 4 + i * width), u32(d, 8 + i * width) if sign == b"lh" else None) for i in range(count)]
+
+    def leaves(self, k):
+        """The leaves of a key, one after the other, each tested when it is asked for."""
+        if k["subkeys"] == 0:
+            return
+        sign, elements = self.list_of(k["list"], (b"li", b"lf", b"lh", b"ri"))
+        if sign != b"ri":
+            yield elements
+            return
+        for at, _ in elements:
+            yield self.list_of(at, (b"li", b"lf", b"lh"))[1]
+
+    def value(self, at):
+        d = self.cell(at)
+        if len(d) < 20 or d[0:2] != b"vk":
+            raise Refused(12, at)
+        length, one, size = u16(d, 2), u16(d, 16) & 1, u32(d, 4)
+        if 20 + length > len(d):
+            raise Refused(12, at)
+        codes = name_codes(d[20:20 + length], one)
+        if codes is None or len(codes) > 16383:
+            raise Refused(12, at)
+        inline = size >= 2**31
+        size %= 2**31
+        if size > (4 if inline else DATA_MOST):
+            raise Refused(12, at)
+        return {"at": at, "name": codes, "inline": inline, "size": size, "data": u32(d, 8), "kind": u32(d, 12)}
+
+    def value_offsets(self, k):
+        if k["values"] == 0:
+            return []
+        d = self.cell(k["value_list"])
+        if 4 * k["values"] > len(d):
+            raise Refused(12, k["value_list"])
+        return [u32(d, 4 * i) for i in range(k["values"])]
+
+    def segmented(self, v):
+        return not v["inline"] and v["size"] > SEGMENT and self.minor >= 4
+
+    def data(self, v):
+        """A value's bytes: 11 and 12 of its data."""
+        if v["inline"]:
+            return self.cell(v["at"])[8:8 + v["size"]]
+        if v["size"] == 0:
+            return b""
+        if not self.segmented(v):
+            return self.room(v["data"], v["size"])
+        d = self.cell(v["data"])
+        count = (v["size"] + SEGMENT - 1) // SEGMENT
+        if len(d) < 8 or d[0:2] != b"db" or u16(d, 2) != count:
+            raise Refused(12, v["data"])
+        listed = self.room(u32(d, 4), 4 * count)
+        out = b""
+        for i in range(count):
+            out += self.room(u32(listed, 4 * i), min(SEGMENT, v["size"] - SEGMENT * i))
+        return out
+
+    def room(self, at, length):
+        d = self.cell(at)
+        if len(d) < length:
+            raise Refused(12, at)
+        return d[:length]
+
+
+def name_codes(raw, one):
+    """The codes of a stored name, or None where a UTF-16 length is odd."""
+    if one:
+        return list(raw)
+    if len(raw) % 2:
+        return None
+    return [u16(raw, i) for i in range(0, len(raw), 2)]
+
+
+class Walk:
+    """The check from the root on."""
+
+    def __init__(self, reader, root):
+        self.reader, self.root, self.keys, self.values = reader, root, 0, 0
+
+    def key(self, at, parent, elder, hashed, level):
+        """One key, wholly; answers its name, for the order of the next."""
+        r = self.reader
+        k = r.key(at)
+        if parent is not None and (k["parent"] != parent or at == self.root):
+            raise Refused(14, at)
+        if elder is not None and not folded(elder) < folded(k["name"]):
+            raise Refused(13, at)
+        if hashed is not None and hashed != name_hash(k["name"]):
+            raise Refused(13, at)
+        if level > 512:
+            raise Refused(15, at)
+        for v in r.value_offsets(k):
+            r.data(r.value(v))
+        children = [child for leaf in r.leaves(k) for child in leaf]
+        if len(children) != k["subkeys"]:
+            raise Refused(14, at)
+        self.keys += 1
+        self.values += k["values"]
+        before = None
+        for child, child_hash in children:
+            before = self.key(child, at, before, child_hash, level + 1)
+        return k["name"]
+
+
+def check(hive, work):
+    """(bins, keys, values, used, free), or Refused. `work` is the map, a bytearray, left as the paper says."""
+    bins = open_hive(hive)
+    if len(work) < len(bins) // 64:
+        raise Refused(8)
+    work[:len(bins) // 64] = bytes(len(bins) // 64)
+    count, starts, used, free = tile(bins)
+    for at in starts:
+        work[at // 64] |= 1 << at % 64 // 8
+    walk = Walk(Reader(bins, u32(hive, 24), starts), u32(hive, 36))
+    walk.key(u32(hive, 36), None, None, None, 0)
+    return count, walk.keys, walk.values, used, free
+
+
+# ---- the model: lookup and values
+
+def path_parts(path):
+    """16: empty part, part over 255 units, over 512 parts."""
+    if not path:
+        return []
+    parts = [[]]
+    for unit in path:
+        if unit == BACKSLASH:
+            parts.append([])
+        else:
+            parts[-1].append(unit)
+    if len(parts) > 512 or any(not 1 <= len(p) <= 255 for p in parts):
+        raise Refused(16)
+    return parts
+
+
+def child_named(reader, k, name):
+    """Leaf by leaf and key by key, up to the first match (18)."""
+    for leaf in reader.leaves(k):
+        for at, _ in leaf:
+            child = reader.key(at)
+            if folded(child["name"]) == folded(name):
+                return child
+    raise Refused(17)
+
+
+def key_of(hive, path):
+    bins = open_hive(hive)
+    parts = path_parts(path)
+    reader = Reader(bins, u32(hive, 24))
+    k = reader.key(u32(hive, 36))
+    for part in parts:
+        k = child_named(reader, k, part)
+    return reader, k
+
+
+def find_key(hive, path):
+    """The key's offset for a path of UTF-16 units, or Refused."""
+    return key_of(hive, path)[1]["at"]
+
+
+def find_value(hive, path, name):
+    reader, k = key_of(hive, path)
+    found = None
+    for at in reader.value_offsets(k):
+        v = reader.value(at)
+        if folded(v["name"]) == folded(name):
+            found = v
+            break
+    if found is None:
+        raise Refused(18)
+    return reader, found
+
+
+def value_info(hive, path, name):
+    """(type, case, length, bytes) of a value's data."""
+    reader, v = find_value(hive, path, name)
+    case = "inline" if v["inline"] else "segments" if reader.segmented(v) else "cell"
+    return v["kind"], case, v["size"], reader.data(v)
+
+
+def value_view(hive, path, name):
+    reader, v = find_value(hive, path, name)
+    if reader.segmented(v):
+        raise Refused(19, v["at"])
+    return reader.data(v)
+
+
+def value_copy(hive, path, name, room):
+    data = value_info(hive, path, name)[3]
+    if room < len(data):
+        raise Refused(20)
+    return data
+
+
+# ---- the model: recovery from an old log
+
+def is_clean(hive):
+    return block_fault(hive, (0,)) == 0 and u32(hive, 4) == u32(hive, 8)
+
+
+def set_bits(log):
+    size = u32(log, 40) // 4096
+    return [8 * j + b for j in range(size) for b in range(8) if log[516 + j] >> b & 1]
+
+
+def pages_start(log):
+    return (516 + u32(log, 40) // 4096 + 511) // 512 * 512
+
+
+def start(hive, log):
+    """"clean" or the logged pages, or Refused."""
+    if len(hive) < BASE:
+        raise Refused(1)
+    if is_clean(hive):
+        return "clean"
+    if len(log) < 512 or block_fault(log, (1, 2)) or u32(log, 4) != u32(log, 8):
+        raise Refused(21)
+    if len(log) < 516 + u32(log, 40) // 4096:
+        raise Refused(22)
+    if bytes(log[512:516]) != b"DIRT":
+        raise Refused(23)
+    pages = set_bits(log)
+    if pages and len(log) < pages_start(log) + 512 * len(pages):
+        raise Refused(22)
+    if len(hive) < BASE + u32(log, 40):
+        raise Refused(24)
+    stamp = bytes(log[12:20])
+    if block_fault(hive, (0,)) == 0:
+        if bytes(hive[12:20]) != stamp:
+            raise Refused(25)
+    else:
+        if bytes(hive[4116:4124]) != stamp:
+            raise Refused(25)
+        first = pages_start(log)
+        if pages and pages[0] == 0 and bytes(log[first + 20:first + 28]) != stamp:
+            raise Refused(25)
+    return pages
+
+
+def repair(hive, log):
+    """A whole repair of a bytearray: "clean" or the number of set bits, or Refused and nothing changed."""
+    pages = start(hive, log)
+    if pages == "clean":
+        return pages
+    at = pages_start(log)
+    for page in pages:
+        hive[BASE + 512 * page:BASE + 512 * page + 512] = log[at:at + 512]
+        at += 512
+    block = bytearray(log[:512])
+    struct.pack_into("<I", block, 28, 0)
+    hive[:512] = seal(block)
+    return len(pages)
+
+
+# ---- the builder
+
+class Value:
+    """A value of a tree: its name, data, type. `inline` None: inline where four bytes are enough. `at` is set by the builder."""
+
+    def __init__(self, name, data=b"", kind=3, wide=None, inline=None):
+        self.name, self.data, self.kind, self.at = units(name), data, kind, None
+        self.wide = any(c > 255 for c in self.name) if wide is None else wide
+        self.inline = len(data) <= 4 if inline is None else inline
+
+
+class Key:
+    """A key of a tree. `lists` says how the subkeys are listed: a signature for one leaf, or a list of
+    (signature, count) for leaves below an `ri`."""
+
+    def __init__(self, name, subkeys=(), values=(), lists="lh", wide=None):
+        self.name, self.subkeys, self.values, self.lists = units(name), list(subkeys), list(values), lists
+        self.wide = any(c > 255 for c in self.name) if wide is None else wide
+        self.at = None
+
+
+class Builder:
+    """Lays a tree out. Afterwards `hive` is the file, and `fields` lists what was written where: (place, width, what)."""
+
+    def __init__(self, root, minor=5, stamp=1, sequence=1, bin_size=4096, segmented=None, slack=0):
+        self.minor, self.stamp, self.bin_size, self.slack = minor, stamp, bin_size, slack
+        self.segmented = minor >= 4 if segmented is None else segmented
+        self.bins, self.cells, self.fields = bytearray(), [], []
+        self.bin, self.free_at, self.bin_end = 0, 0, 0
+        self.lay_key(root, 0xFFFFFFFF)
+        self.end_bin()
+        self.root = root.at
+        self.hive = self.base(sequence) + self.bins
+        for place, width in ((4, 4), (8, 4), (12, 8), (20, 4), (24, 4), (28, 4), (32, 4), (36, 4), (40, 4), (44, 4), (508, 4)):
+            self.fields.append((place, width, "base"))
+
+    def base(self, sequence):
+        b = bytearray(BASE)
+        b[0:4] = b"regf"
+        struct.pack_into("<IIQ", b, 4, sequence, sequence, self.stamp)
+        struct.pack_into("<IIII", b, 20, 1, self.minor, 0, 1)
+        struct.pack_into("<III", b, 36, self.root, len(self.bins), 1)
+        return seal(b)
+
+    # cells
+
+    def end_bin(self):
+        if self.free_at < self.bin_end:
+            struct.pack_into("<i", self.bins, self.free_at, self.bin_end - self.free_at)
+            self.fields.append((BASE + self.free_at, 4, "size"))
+        self.free_at = self.bin_end
+
+    def new_bin(self, room):
+        self.end_bin()
+        at, size = len(self.bins), max(self.bin_size, (32 + room + 4095) // 4096 * 4096)
+        self.bins.extend(bytes(size))
+        struct.pack_into("<4sII", self.bins, at, b"hbin", at, size)
+        struct.pack_into("<Q", self.bins, at + 20, self.stamp)
+        for i in (0, 4, 8, 20):
+            self.fields.append((BASE + at + i, 4, "bin"))
+        self.bin, self.free_at, self.bin_end = at, at + 32, at + size
+
+    def cell(self, length):
+        """A cell in use with room for so many bytes of data."""
+        size = (4 + length + self.slack + 7) // 8 * 8
+        if self.bin_end - self.free_at < size:
+            self.new_bin(size)
+        at = self.free_at
+        struct.pack_into("<i", self.bins, at, -size)
+        self.free_at += size
+        self.cells.append(at)
+        self.fields.append((BASE + at, 4, "size"))
+        return at
+
+    def put(self, at, data, fields=()):
+        self.bins[at + 4:at + 4 + len(data)] = data
+        for i, width, what in fields:
+            self.fields.append((BASE + at + 4 + i, width, what))
+        return at
+
+    def store(self, data, fields=()):
+        return self.put(self.cell(len(data)), data, fields)
+
+    # records
+
+    def lay_key(self, k, parent):
+        name = name_bytes(k.name, k.wide)
+        k.at = self.cell(76 + len(name))
+        values = self.lay_values(k)
+        for child in k.subkeys:
+            self.lay_key(child, k.at)
+        listed = self.lay_lists(k)
+        d = bytearray(76)
+        struct.pack_into("<2sH", d, 0, b"nk", 0 if k.wide else 0x20)
+        struct.pack_into("<IIII", d, 16, parent, len(k.subkeys), 0, listed)
+        struct.pack_into("<II", d, 36, len(k.values), values)
+        struct.pack_into("<H", d, 72, len(name))
+        kinds = [(0, 2, "sign"), (2, 2, "flags"), (16, 4, "offset"), (20, 4, "count"), (28, 4, "offset"), (36, 4, "count"),
+                 (40, 4, "offset"), (72, 2, "count"), (76, 1, "name"), (76 + len(name) - 1, 1, "name")]
+        self.put(k.at, d + name, kinds)
+
+    def leaf(self, sign, keys):
+        d = bytearray(struct.pack("<2sH", sign.encode(), len(keys)))
+        fields = [(0, 2, "sign"), (2, 2, "count")]
+        for k in keys:
+            fields.append((len(d), 4, "offset"))
+            d += struct.pack("<I", k.at)
+            if sign in ("lf", "lh"):
+                fields.append((len(d), 4, "hash"))
+                d += struct.pack("<I", name_hash(k.name) if sign == "lh" else 0xA5A5A5A5)
+        return self.store(d, fields)
+
+    def lay_lists(self, k):
+        if not k.subkeys:
+            return 0xFFFFFFFF
+        if isinstance(k.lists, str):
+            return self.leaf(k.lists, k.subkeys)
+        d, fields, at = bytearray(struct.pack("<2sH", b"ri", len(k.lists))), [(0, 2, "sign"), (2, 2, "count")], 0
+        for sign, count in k.lists:
+            fields.append((len(d), 4, "offset"))
+            d += struct.pack("<I", self.leaf(sign, k.subkeys[at:at + count]))
+            at += count
+        return self.store(d, fields)
+
+    def lay_values(self, k):
+        if not k.values:
+            return 0xFFFFFFFF
+        for v in k.values:
+            self.lay_value(v)
+        d = b"".join(struct.pack("<I", v.at) for v in k.values)
+        return self.store(d, [(4 * i, 4, "offset") for i in range(len(k.values))])
+
+    def lay_value(self, v):
+        name = name_bytes(v.name, v.wide)
+        size, field = len(v.data), b"\xff\xff\xff\xff"
+        if v.inline:
+            size, field = size + 2**31, v.data.ljust(4, b"\0")
+        elif v.data:
+            field = struct.pack("<I", self.lay_data(v.data))
+        d = struct.pack("<2sHI4sIH2x", b"vk", len(name), size, field, v.kind, 0 if v.wide else 1) + name
+        v.at = self.store(d, [(0, 2, "sign"), (2, 2, "count"), (4, 4, "count"), (8, 4, "offset"), (16, 2, "flags")])
+
+    def lay_data(self, data):
+        if len(data) <= SEGMENT or not self.segmented:
+            return self.store(data)
+        parts = [data[i:i + SEGMENT] for i in range(0, len(data), SEGMENT)]
+        d = b"".join(struct.pack("<I", self.store(p)) for p in parts)
+        listed = self.store(d, [(4 * i, 4, "offset") for i in range(len(parts))])
+        return self.store(struct.pack("<2sHI", b"db", len(parts), listed), [(0, 2, "sign"), (2, 2, "count"), (4, 4, "offset")])
+
+
+def name_bytes(codes, wide):
+    return b"".join(struct.pack("<H", c) for c in codes) if wide else bytes(codes)
+
+
+def edited(hive, *changes):
+    """A copy with (place, bytes) written, and a right checksum."""
+    h = bytearray(hive)
+    for place, data in changes:
+        h[place:place + len(data)] = data
+    return seal(h)
+
+
+def torn(hive):
+    """A copy whose sequence numbers differ: what a cut store leaves."""
+    return edited(hive, (4, struct.pack("<I", (u32(hive, 8) + 1) % 2**32)))
+
+
+def old_log(hive, pages, kind=1, sequence=9):
+    """An old log for a hive: pages is {number: 512 bytes}. The stamp and the bins size are the hive's."""
+    head = bytearray(hive[:512])
+    struct.pack_into("<II", head, 4, sequence, sequence)
+    struct.pack_into("<I", head, 28, kind)
+    size = u32(hive, 40)
+    bitmap = bytearray(size // 4096)
+    for p in pages:
+        bitmap[p // 8] |= 1 << p % 8
+    log = seal(head) + b"DIRT" + bitmap
+    if pages:
+        log += bytes(-len(log) % 512)
+    for p in sorted(pages):
+        log += pages[p]
+    return bytearray(log)
