@@ -344,25 +344,30 @@ def find_value(hive, path, name):
     return reader, found
 
 
-def value_info(hive, path, name):
-    """(type, case, length, bytes) of a value's data."""
+def value_info(hive, path, name, view=False):
+    """(case, type, place, length) and the bytes. The place is one in the file: of the data, or of the `db` record; 0 where
+    nothing is read (22). As a view's sister it refuses 19 before any data cell is read."""
     reader, v = find_value(hive, path, name)
     case = "inline" if v["inline"] else "segments" if reader.segmented(v) else "cell"
-    return v["kind"], case, v["size"], reader.data(v)
+    if view and case == "segments":
+        raise Refused(19, v["at"])
+    place = BASE + 4 + (v["at"] + 8 if v["inline"] else v["data"])
+    if case == "cell" and v["size"] == 0:
+        place = 0
+    return (case, v["kind"], place, v["size"]), reader.data(v)
 
 
 def value_view(hive, path, name):
-    reader, v = find_value(hive, path, name)
-    if reader.segmented(v):
-        raise Refused(19, v["at"])
-    return reader.data(v)
+    return value_info(hive, path, name, view=True)[1]
 
 
-def value_copy(hive, path, name, room):
-    data = value_info(hive, path, name)[3]
-    if room < len(data):
+def value_copy(hive, path, name, out):
+    """Writes the data to the start of `out`, a bytearray, and answers their length."""
+    data = value_info(hive, path, name)[1]
+    if len(out) < len(data):
         raise Refused(20)
-    return data
+    out[:len(data)] = data
+    return len(data)
 
 
 # ---- the model: recovery from an old log

@@ -1,5 +1,5 @@
 // The test program's frames: what each one is, the line that answers it, and the run over a whole input.
-mod say;
+pub mod say;
 
 use fields::Offset;
 use fields::Refusal;
@@ -75,7 +75,7 @@ fn frame_of(head: &[u8]) -> Frame
 }
 
 // The line of a hive frame.
-fn hive_line(hive: &[u8], map: &mut [u8]) -> Line
+pub fn hive_line(hive: &[u8], map: &mut [u8]) -> Line
     ensures { λ r. ⌜ r ≡ checkedLine (checkAnswer (now (hive .entry)) (now (map .entry))) ⌝ }
 {
     match tree::check(hive, map) {
@@ -129,7 +129,7 @@ fn log_line(hive: &mut [u8], log: &[u8]) -> Line
 }
 
 // The UTF-16 units of a path frame's bytes.
-fn path_units(path: &[u8], units: &mut [u16])
+pub fn path_units(path: &[u8], units: &mut [u16])
     requires { ⌜ length (now path) / 2 ≤ length (now units) ⌝ }
     ensures { λ _. ⌜ take (length (now (path .entry)) / 2) (now (units .exit)) ≡ codes false (now (path .entry)) ⌝ }
 {
@@ -141,6 +141,16 @@ fn path_units(path: &[u8], units: &mut [u16])
     }
 }
 
+// The line of a path.
+pub fn key_line(hive: &[u8], path: &[u16]) -> Line
+    ensures { λ r. ⌜ r ≡ foundLine (findAnswer (now (hive .entry)) (now (path .entry))) ⌝ }
+{
+    match lookup::find_key(hive, path) {
+        KeyFound::At(o) => Line::KeyAt(o),
+        KeyFound::Refused(r) => Line::Refused(r),
+    }
+}
+
 // "Path, in that hive as it then stands: `key at N`."
 fn path_line(hive: &[u8], path: &[u8], units: &mut [u16]) -> Line
     requires { ⌜ length (now path) / 2 ≤ length (now units) ⌝ }
@@ -148,10 +158,7 @@ fn path_line(hive: &[u8], path: &[u8], units: &mut [u16]) -> Line
 {
     path_units(path, units);
     let n = path.len() / 2;
-    match lookup::find_key(hive, &units[0..n]) {
-        KeyFound::At(o) => Line::KeyAt(o),
-        KeyFound::Refused(r) => Line::Refused(r),
-    }
+    key_line(hive, &units[0..n])
 }
 
 // The hive that later frames speak of: how long it is.
@@ -165,14 +172,14 @@ enum Went {
     Ended,
 }
 
-fn least(a: usize, b: usize) -> usize
+pub fn least(a: usize, b: usize) -> usize
     ensures { λ r. ⌜ (r ≤ a) × (r ≤ b) ⌝ }
 {
     if a < b { a } else { b }
 }
 
 // Reads a payload; false where the input is cut. A longer payload than there is room for is no frame.
-fn payload(fd: i32, room: &mut [u8], n: usize) -> bool {
+pub fn payload(fd: i32, room: &mut [u8], n: usize) -> bool {
     let end = least(n, room.len());
     io::read_full(fd, &mut room[0..end]) == n
 }
