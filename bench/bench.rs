@@ -1,4 +1,4 @@
-// bench ROW SIDE FOLDER: runs one row of docs/BENCHMARKS.md once. bench times FOLDER: best of 20 of all rows. bench make FOLDER: writes the hives.
+// bench ROW SIDE FOLDER: runs one row of docs/BENCHMARKS.md once. bench times FOLDER [ROW..]: best of 20 of each row. bench make FOLDER: writes the hives.
 mod check;
 mod make;
 use check::{Flaw, Idiom, Plain, Report, Style};
@@ -162,9 +162,9 @@ fn input(row: &str, folder: &str) -> Input {
     Input { kind, hive, log, path: path.encode_utf16().collect(), out }
 }
 
-fn times(folder: &str) {
+fn times(folder: &str, rows: &[&str]) {
     println!("row,rattle us,plain us,idiom us,bytes,keys");
-    for row in ROWS {
+    for &row in rows {
         let rounds = if row == "repair-100000" { 1 } else if row == "repair-1000-of-131072" { 3 } else { 20 };
         let mut best = [f64::MAX; 3];
         let mut outcomes = vec![];
@@ -207,7 +207,8 @@ fn main() {
     let words: Vec<String> = std::env::args().skip(1).collect();
     match words.iter().map(String::as_str).collect::<Vec<_>>()[..] {
         ["make", folder] => make_all(folder),
-        ["times", folder] => times(folder),
+        ["times", folder] => times(folder, &ROWS),
+        ["times", folder, ref rows @ ..] => times(folder, rows),
         ["rows"] => ROWS.iter().for_each(|r| println!("{r}")),
         [row, side, folder] => {
             let mut i = input(row, folder);
