@@ -366,6 +366,10 @@ static void t_values(void)
     EXPECT(v.answer.number == 0 && v.kind == 3 && v.form == 3 && v.length == 40000);
     for (size_t i = 0; i < 40000; i++)
         EXPECT(data[i] == (uint8_t)(i * 7 + i / 251));
+    uint32_t list = get32(data_of(&m, found(m.file, n, key).value) + 40), large = get32(data_of(&m, list) + 4 * 8);
+    uint16_t path[64], name[8];
+    size_t path_len = units(key, path), name_len = units("LARGE", name);
+    EXPECT(is(hive_value_view(m.file, n, path, path_len, name, name_len).answer, 19, large));
     v = asked(m.file, n, key, "Empty", data);
     EXPECT(v.answer.number == 0 && v.form == 1 && v.length == 0);
     EXPECT(is(asked(m.file, n, key, "none", data).answer, 18, 0));
@@ -438,6 +442,7 @@ static void t_repair(void)
         p = hive_recover_next(l, log.length, p.page + 1);
     }
     EXPECT(p.state == 1 && is(p.answer, 0, 0));
+    EXPECT(hive_recover_next(l, log.length, 128).state == 1 && hive_recover_next(l, log.length, (size_t)-1).state == 1);
     r = hive_recover_close(h, n, l, log.length);
     EXPECT(r.state == 2 && is(r.answer, 0, 0) && memcmp(h, m.file, n) == 0);
     EXPECT(hive_recover_close(h, n, l, log.length).state == 1 && hive_recover_page(h, n, l, log.length, 1).state == 1);

@@ -1,0 +1,219 @@
+// bench ROW SIDE FOLDER: runs one row of docs/BENCHMARKS.md once. bench times FOLDER [ROW..]: best of 20 of each row. bench make FOLDER: writes the hives.
+mod check;
+mod make;
+use check::{Flaw, Idiom, Plain, Report, Style};
+use std::fs::{read, write};
+use std::hint::black_box;
+use std::time::Instant;
+
+#[repr(C)]
+#[derive(Clone, Copy)]
+pub struct HiveAnswer {
+    number: u32,
+    place: u32,
+    key: u32,
+    value: u32,
+}
+#[repr(C)]
+struct HiveReport {
+    answer: HiveAnswer,
+    report: [u64; 5],
+}
+#[repr(C)]
+struct HiveCopy {
+    answer: HiveAnswer,
+    length: u64,
+}
+#[repr(C)]
+struct HiveRecovery {
+    answer: HiveAnswer,
+    state: u64,
+    pages: u64,
+}
+#[repr(C)]
+struct HivePage {
+    answer: HiveAnswer,
+    state: u64,
+    page: u64,
+    from: u64,
+    to: u64,
+}
+unsafe extern "C" {
+    fn hive_check(h: *const u8, n: usize, m: *mut u8, k: usize) -> HiveReport;
+    fn hive_find_key(h: *const u8, n: usize, p: *const u16, k: usize) -> HiveAnswer;
+    fn hive_value_copy(h: *const u8, n: usize, p: *const u16, k: usize, x: *const u16, j: usize, o: *mut u8, m: usize) -> HiveCopy;
+    fn hive_recover_page(h: *mut u8, n: usize, l: *const u8, k: usize, page: usize) -> HiveRecovery;
+    fn hive_recover_close(h: *mut u8, n: usize, l: *const u8, k: usize) -> HiveRecovery;
+    fn hive_recover_next(l: *const u8, k: usize, from: usize) -> HivePage;
+}
+
+fn answer<T>(a: HiveAnswer, x: T) -> Result<T, Flaw> {
+    if a.number == 0 { Ok(x) } else { Err(Flaw(a.number, a.place)) }
+}
+
+// One row's input: all that a side is given.
+pub struct Input {
+    kind: Kind,
+    hive: Vec<u8>,
+    log: Vec<u8>,
+    path: Vec<u16>,
+    out: Vec<u8>,
+}
+
+#[derive(Clone, Copy, PartialEq)]
+enum Kind {
+    Check,
+    Find,
+    Copy,
+    Repair,
+}
+
+#[derive(PartialEq, Debug)]
+enum Outcome {
+    Check(Result<Report, Flaw>),
+    Find(Result<u32, Flaw>),
+    Copy(Result<usize, Flaw>),
+    Repair(Result<usize, Flaw>),
+}
+
+const LARGE: [u16; 5] = [76, 97, 114, 103, 101];
+
+fn rattle(i: &mut Input) -> Outcome {
+    let (h, n) = (i.hive.as_mut_ptr(), i.hive.len());
+    let (l, k) = (i.log.as_ptr(), i.log.len());
+    unsafe {
+        match i.kind {
+            Kind::Check => {
+                let r = hive_check(h, n, i.out.as_mut_ptr(), i.out.len());
+                let [bins, keys, values, used, free] = r.report;
+                Outcome::Check(answer(r.answer, Report { bins, keys, values, used, free }))
+            }
+            Kind::Find => {
+                let a = hive_find_key(h, n, i.path.as_ptr(), i.path.len());
+                Outcome::Find(answer(a, a.value))
+            }
+            Kind::Copy => {
+                let c = hive_value_copy(h, n, i.path.as_ptr(), i.path.len(), LARGE.as_ptr(), 5, i.out.as_mut_ptr(), i.out.len());
+                Outcome::Copy(answer(c.answer, c.length as usize))
+            }
+            Kind::Repair => {
+                let mut done = 0;
+                let mut p = hive_recover_next(l, k, 0);
+                while p.state == 2 {
+                    hive_recover_page(h, n, l, k, p.page as usize);
+                    done += 1;
+                    p = hive_recover_next(l, k, p.page as usize + 1);
+                }
+                Outcome::Repair(answer(hive_recover_close(h, n, l, k).answer, done))
+            }
+        }
+    }
+}
+
+fn rust<S: Style>(i: &mut Input) -> Outcome {
+    match i.kind {
+        Kind::Check => Outcome::Check(check::check::<S>(&i.hive, &mut i.out)),
+        Kind::Find => Outcome::Find(check::find::<S>(&i.hive, &i.path)),
+        Kind::Copy => Outcome::Copy(check::copy::<S>(&i.hive, &i.path, &LARGE, &mut i.out)),
+        Kind::Repair => {
+            let (mut done, mut at) = (0, check::next::<S>(&i.log, 0));
+            while let Some(p) = at {
+                check::page::<S>(&mut i.hive, &i.log, p).unwrap();
+                done += 1;
+                at = check::next::<S>(&i.log, p + 1);
+            }
+            Outcome::Repair(check::close::<S>(&mut i.hive, &i.log).map(|_| done))
+        }
+    }
+}
+
+// The counted functions: callgrind counts what runs inside them.
+#[unsafe(no_mangle)]
+#[inline(never)]
+fn measured(side: &str, i: &mut Input) -> Outcome {
+    match side {
+        "rattle" => rattle(i),
+        "plain" => rust::<Plain>(i),
+        _ => rust::<Idiom>(i),
+    }
+}
+
+const ROWS: [&str; 15] = [
+    "check-1", "check-4", "check-16", "check-64", "check-wide", "last-100", "absent-100", "last-5000", "absent-5000", "last-60000", "absent-60000",
+    "copy", "repair-1000", "repair-1000-of-131072", "repair-100000",
+];
+
+fn input(row: &str, folder: &str) -> Input {
+    let (kind, file) = match row.split_once('-') {
+        Some(("check", "wide")) => (Kind::Check, "wide-60000".into()),
+        Some(("check", n)) => (Kind::Check, format!("mixed-{n}")),
+        Some(("last" | "absent", n)) => (Kind::Find, format!("wide-{n}")),
+        Some(("repair", n)) => (Kind::Repair, format!("torn-{n}")),
+        _ => (Kind::Copy, "large".into()),
+    };
+    let hive = read(format!("{folder}/{file}")).unwrap();
+    let log = read(format!("{folder}/{file}.log")).unwrap_or_default();
+    let path = match row.split_once('-') {
+        Some(("last", n)) => format!("component{:06}", n.parse::<usize>().unwrap() - 1),
+        Some(("absent", _)) => "component999999".into(),
+        _ => String::new(),
+    };
+    let out = vec![0; if kind == Kind::Check { hive.len() / 64 } else { 1_048_576 }];
+    Input { kind, hive, log, path: path.encode_utf16().collect(), out }
+}
+
+fn times(folder: &str, rows: &[&str]) {
+    println!("row,rattle us,plain us,idiom us,bytes,keys");
+    for &row in rows {
+        let rounds = if row == "repair-100000" { 1 } else if row == "repair-1000-of-131072" { 3 } else { 20 };
+        let mut best = [f64::MAX; 3];
+        let mut outcomes = vec![];
+        let mut size = (0, 0);
+        for (k, side) in ["rattle", "plain", "idiom"].iter().enumerate() {
+            let fresh = input(row, folder);
+            for _ in 0..rounds {
+                let mut i = Input { hive: fresh.hive.clone(), log: fresh.log.clone(), path: fresh.path.clone(), out: fresh.out.clone(), ..fresh };
+                let start = Instant::now();
+                let outcome = black_box(measured(side, black_box(&mut i)));
+                best[k] = best[k].min(start.elapsed().as_secs_f64() * 1e6);
+                if let Outcome::Check(Ok(r)) = &outcome {
+                    size = (i.hive.len(), r.keys);
+                }
+                outcomes.push((outcome, i.hive, i.out));
+                outcomes.dedup();
+            }
+        }
+        assert!(outcomes.len() == 1, "{row}: the sides differ: {:?}", outcomes.iter().map(|o| &o.0).collect::<Vec<_>>());
+        println!("{row},{:.1},{:.1},{:.1},{},{}", best[0], best[1], best[2], size.0, size.1);
+    }
+}
+
+fn make_all(folder: &str) {
+    for n in [1, 4, 16, 64] {
+        write(format!("{folder}/mixed-{n}"), make::mixed(n << 20)).unwrap();
+    }
+    for n in [100, 5000, 60000] {
+        write(format!("{folder}/wide-{n}"), make::wide(n)).unwrap();
+    }
+    write(format!("{folder}/large"), make::large_value()).unwrap();
+    for (name, bins, pages) in [("1000", 1 << 20, 1000), ("1000-of-131072", 64 << 20, 1000), ("100000", 64 << 20, 100_000)] {
+        let (hive, log) = make::torn(bins, pages);
+        write(format!("{folder}/torn-{name}"), hive).unwrap();
+        write(format!("{folder}/torn-{name}.log"), log).unwrap();
+    }
+}
+
+fn main() {
+    let words: Vec<String> = std::env::args().skip(1).collect();
+    match words.iter().map(String::as_str).collect::<Vec<_>>()[..] {
+        ["make", folder] => make_all(folder),
+        ["times", folder] => times(folder, &ROWS),
+        ["times", folder, ref rows @ ..] => times(folder, rows),
+        ["rows"] => ROWS.iter().for_each(|r| println!("{r}")),
+        [row, side, folder] => {
+            let mut i = input(row, folder);
+            println!("{:?}", black_box(measured(side, black_box(&mut i))));
+        }
+        _ => std::process::exit(2),
+    }
+}

@@ -1,0 +1,227 @@
+// Hives and logs for the measurements.
+pub struct Maker {
+    pub file: Vec<u8>,
+    bin: usize,
+    next: usize,
+}
+
+fn put32(s: &mut [u8], i: usize, n: u32) {
+    s[i..i + 4].copy_from_slice(&n.to_le_bytes());
+}
+
+fn put16(s: &mut [u8], i: usize, n: u16) {
+    s[i..i + 2].copy_from_slice(&n.to_le_bytes());
+}
+
+pub fn seal(file: &mut [u8]) {
+    let x = (0..508).step_by(4).fold(0, |x, i| x ^ u32::from_le_bytes(file[i..i + 4].try_into().unwrap()));
+    put32(file, 508, x);
+}
+
+impl Maker {
+    pub fn new() -> Self {
+        Maker { file: vec![0; 4096], bin: 0, next: 4096 }
+    }
+    fn end_bin(&mut self) {
+        let left = self.file.len() - self.next;
+        if left > 0 {
+            put32(&mut self.file, self.next, left as u32);
+        }
+    }
+    // A cell, in a new bin where it does not fit.
+    pub fn cell(&mut self, len: usize) -> u32 {
+        let size = (len + 4).div_ceil(8) * 8;
+        if self.next + size > self.file.len() {
+            self.end_bin();
+            self.bin = self.file.len();
+            let room = (size + 32).div_ceil(4096) * 4096;
+            self.file.resize(self.bin + room, 0);
+            let b = self.bin;
+            self.file[b..b + 4].copy_from_slice(b"hbin");
+            put32(&mut self.file, b + 4, (b - 4096) as u32);
+            put32(&mut self.file, b + 8, room as u32);
+            self.file[b + 20] = 1;
+            self.next = b + 32;
+        }
+        let at = self.next;
+        put32(&mut self.file, at, (size as u32).wrapping_neg());
+        self.next += size;
+        (at - 4096) as u32
+    }
+    fn data(&mut self, cell: u32) -> &mut [u8] {
+        &mut self.file[cell as usize + 4100..]
+    }
+    pub fn key(&mut self, name: &str, parent: u32) -> u32 {
+        let o = self.cell(76 + name.len());
+        let d = self.data(o);
+        d[0..2].copy_from_slice(b"nk");
+        d[2] = 0x20;
+        put32(d, 16, parent);
+        put16(d, 72, name.len() as u16);
+        d[76..76 + name.len()].copy_from_slice(name.as_bytes());
+        o
+    }
+    pub fn value(&mut self, name: &str, data: &[u8]) -> u32 {
+        let o = self.cell(20 + name.len());
+        let d = self.data(o);
+        d[0..2].copy_from_slice(b"vk");
+        put16(d, 2, name.len() as u16);
+        put32(d, 12, 3);
+        d[16] = 1;
+        d[20..20 + name.len()].copy_from_slice(name.as_bytes());
+        let at = match data.len() {
+            n if n <= 4 => {
+                put32(d, 4, 0x8000_0000 | n as u32);
+                d[8..8 + n].copy_from_slice(data);
+                return o;
+            }
+            n if n <= 16344 => self.bytes(data),
+            n => {
+                let segments: Vec<u32> = data.chunks(16344).map(|s| self.bytes(s)).collect();
+                let list = self.offsets(&segments);
+                let db = self.cell(8);
+                let d = self.data(db);
+                d[0..2].copy_from_slice(b"db");
+                put16(d, 2, n.div_ceil(16344) as u16);
+                put32(d, 4, list);
+                db
+            }
+        };
+        let d = self.data(o);
+        put32(d, 4, data.len() as u32);
+        put32(d, 8, at);
+        o
+    }
+    fn bytes(&mut self, data: &[u8]) -> u32 {
+        let o = self.cell(data.len());
+        self.data(o)[..data.len()].copy_from_slice(data);
+        o
+    }
+    fn offsets(&mut self, all: &[u32]) -> u32 {
+        let o = self.cell(4 * all.len());
+        for (i, &x) in all.iter().enumerate() {
+            put32(self.data(o), 4 * i, x);
+        }
+        o
+    }
+    pub fn hang_values(&mut self, key: u32, all: &[u32]) {
+        let list = self.offsets(all);
+        put32(self.data(key), 36, all.len() as u32);
+        put32(self.data(key), 40, list);
+    }
+    // `lh` leaves of at most 500 keys, below an `ri` where there are several.
+    pub fn hang_keys(&mut self, key: u32, all: &[(u32, String)]) {
+        let leaves: Vec<u32> = all.chunks(500).map(|c| self.leaf(c)).collect();
+        let list = if leaves.len() == 1 {
+            leaves[0]
+        } else {
+            let o = self.cell(4 + 4 * leaves.len());
+            let d = self.data(o);
+            d[0..2].copy_from_slice(b"ri");
+            put16(d, 2, leaves.len() as u16);
+            for (i, &x) in leaves.iter().enumerate() {
+                put32(d, 4 + 4 * i, x);
+            }
+            o
+        };
+        put32(self.data(key), 20, all.len() as u32);
+        put32(self.data(key), 28, list);
+    }
+    fn leaf(&mut self, keys: &[(u32, String)]) -> u32 {
+        let o = self.cell(4 + 8 * keys.len());
+        let d = self.data(o);
+        d[0..2].copy_from_slice(b"lh");
+        put16(d, 2, keys.len() as u16);
+        for (i, (k, name)) in keys.iter().enumerate() {
+            let h = name.to_uppercase().bytes().fold(0u32, |h, c| h.wrapping_mul(37).wrapping_add(c as u32));
+            put32(d, 4 + 8 * i, *k);
+            put32(d, 8 + 8 * i, h);
+        }
+        o
+    }
+    pub fn finish(mut self) -> Vec<u8> {
+        self.end_bin();
+        let n = self.file.len() - 4096;
+        let f = &mut self.file;
+        f[0..4].copy_from_slice(b"regf");
+        put32(f, 4, 1);
+        put32(f, 8, 1);
+        f[12] = 1;
+        for (at, x) in [(20, 1), (24, 5), (32, 1), (36, 32), (40, n as u32), (44, 1)] {
+            put32(f, at, x);
+        }
+        seal(f);
+        self.file
+    }
+}
+
+// Keys with values of each kind, three levels deep, until the bins are about that long.
+pub fn mixed(bins: usize) -> Vec<u8> {
+    let mut m = Maker::new();
+    let root = m.key("ROOT", 0);
+    let bytes: Vec<u8> = (0..40000u32).map(|i| (i * 7 + i / 251) as u8).collect();
+    let (mut tops, mut i) = (vec![], 0);
+    while m.file.len() + 260_000 < bins {
+        let name = format!("Group{:05}", tops.len());
+        let top = m.key(&name, root);
+        let mut below = vec![];
+        for j in 0..100 {
+            let name = format!("Component {j:03} of many");
+            let k = m.key(&name, top);
+            let mut v = vec![m.value("Enabled", &[1, 0, 0, 0]), m.value("", &bytes[..20]), m.value("Description", &bytes[..120]), m.value("Policy", &bytes[..1500])];
+            if i % 64 == 0 {
+                v.push(m.value("Blob", &bytes));
+            }
+            m.hang_values(k, &v);
+            let child = m.key("Parameters", k);
+            m.hang_keys(k, &[(child, "Parameters".into())]);
+            below.push((k, name));
+            i += 1;
+        }
+        m.hang_keys(top, &below);
+        tops.push((top, name));
+    }
+    m.hang_keys(root, &tops);
+    m.finish()
+}
+
+pub fn wide(n: usize) -> Vec<u8> {
+    let mut m = Maker::new();
+    let root = m.key("ROOT", 0);
+    let all: Vec<(u32, String)> = (0..n).map(|i| format!("Component{i:06}")).map(|x| (m.key(&x, root), x)).collect();
+    m.hang_keys(root, &all);
+    m.finish()
+}
+
+pub fn large_value() -> Vec<u8> {
+    let mut m = Maker::new();
+    let root = m.key("ROOT", 0);
+    let bytes: Vec<u8> = (0..1_048_576u32).map(|i| (i * 31 + i / 977) as u8).collect();
+    let v = m.value("Large", &bytes);
+    m.hang_values(root, &[v]);
+    m.finish()
+}
+
+// A hive of that many pages and more, before a repair of the first `pages` pages with an odd pattern, and the log.
+pub fn torn(bins: usize, pages: usize) -> (Vec<u8>, Vec<u8>) {
+    let mut m = Maker::new();
+    m.key("ROOT", 0);
+    m.cell(bins - 4096 - 36 - 4);
+    let mut hive = m.finish();
+    let n = hive.len() - 4096;
+    let mut log = hive[..512].to_vec();
+    log[28] = 1;
+    seal(&mut log);
+    log.extend(b"DIRT");
+    log.resize((516 + n / 4096).div_ceil(512) * 512, 0);
+    for i in 0..pages {
+        let p = i * (n / 512) / pages;
+        log[516 + p / 8] |= 1 << (p % 8);
+        let mut page = hive[4096 + 512 * p..4096 + 512 * p + 512].to_vec();
+        page[100] ^= 0x55;
+        log.extend(page);
+    }
+    hive[4] = 2;
+    seal(&mut hive);
+    (hive, log)
+}
