@@ -4,12 +4,13 @@ use native.Mathlib.Omega.{arith}
 use native.Mathlib.Numerals.{add-one}
 use mathlib.Core.Path.{_≡_, refl, sym, ap, _∙_}
 use mathlib.Core.List.{List, [], _∷_}
-use mathlib.Core.Bool.{Bool, true, false, _&&_}
+use mathlib.Core.Bool.{Bool, true, false}
 use lib.ListN.{length, getD, drop, drop-of-length-le}
 use lib.Seq.{drop-cons}
 use lib.Dec.{eqb}
 use borrow.Author.Tests.{eq-eqb, ne-eqb, eqb-true}
 use Rattle.fields.specs.Bytes.{sameBytes}
+use Rattle.fields.proofs.Bools.{and-inv}
 
 pub step : (a b : List ℕ) (i : ℕ) → i < length a → i < length b → getD a i 0 ≡ getD b i 0
     → sameBytes (drop i a) (drop i b) ≡ sameBytes (drop (i + 1) a) (drop (i + 1) b)
@@ -30,11 +31,7 @@ unfolding sameBytes
 same-length [] [] e = refl
 same-length [] (y ∷ b) e = let z : _≡_ {A = ℕ} 0 1 = cc in absurd (omega arith)
 same-length (x ∷ a) [] e = let z : _≡_ {A = ℕ} 0 1 = cc in absurd (omega arith)
-same-length (x ∷ a) (y ∷ b) e = ap suc (same-length a b (both (eqb x y) _ e .1))
-  where
-    both : (p q : Bool) → p && q ≡ true → (p ≡ true) × (q ≡ true)
-    both true q e = (refl, e)
-    both false q e = let z : _≡_ {A = ℕ} 0 1 = cc in absurd (omega arith)
+same-length (x ∷ a) (y ∷ b) e = ap suc (same-length a b (and-inv (eqb x y) _ e .1))
 
 pub unequal : (a b : List ℕ) → (length a ≡ length b → ⊥) → sameBytes a b ≡ false
 unequal a b n = pick (sameBytes a b) refl
