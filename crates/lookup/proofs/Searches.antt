@@ -1,17 +1,14 @@
 -- The searches: a law for each way out of a key, a leaf, a list and a value.
-use Prim.Native.Nat.{ℕ, zero, suc, _+_, _<_, _≤_}
-use native.Mathlib.Omega.{arith}
-use mathlib.Core.Path.{_≡_, refl, sym, ap, ap₂, _∙_}
-use mathlib.Core.Bool.{Bool, false, cond}
-use mathlib.Core.List.{List, [], _∷_}
-use lib.ListN.{length, getD}
+use Prim.Native.Nat.{ℕ, _+_, _≤_}
+use mathlib.Core.Path.{_≡_}
+use mathlib.Core.Bool.{Bool, cond}
+use mathlib.Core.List.{List, []}
+use lib.ListN.{length}
 use borrow.Author.Tests.{eq-eqb, ne-eqb}
 use Rattle.fields.specs.declared.Flaw.{Flaw}
 use Rattle.fields.specs.declared.Offset.{Offset}
 use Rattle.fields.specs.declared.Verdict.the-variants.{Sound, Flawed}
-use Rattle.fields.specs.Faults.{nowhere}
 use Rattle.cells.specs.declared.Rule.the-variants.{Header}
-use Rattle.cells.specs.Named.{dataAt}
 use Rattle.names.specs.Comparison.{sameName}
 use Rattle.records.specs.declared.Child.{Child}
 use Rattle.records.specs.declared.Headed.the-variants as head
@@ -21,13 +18,14 @@ use Rattle.records.specs.declared.Leaf.{Leaf}
 use Rattle.records.specs.declared.Leafed.the-variants as leaf
 use Rattle.records.specs.declared.Leaves.{Leaves}
 use Rattle.records.specs.Keys.{keyFault, keyOf, keyed, codesOf}
-use Rattle.records.specs.Lists.{countOf, childrenFrom, leafChildren, leafFault, headFault}
-use Rattle.records.specs.Places.{leafIn, leafOf, leafed, ElementsLie, childNamed, leavesAt, headed, LeavesLie, leavesNamed}
+use Rattle.records.specs.Lists.{leafFault, headFault}
+use Rattle.records.specs.Places.{leafOf, leafed, ElementsLie, elementsOf, leavesAt, headed, LeavesLie, leavesNamed}
 use Rattle.records.proofs.LawsAnswer.{keyed-whole, keyed-flawed, leafed-whole, leafed-flawed, headed-whole, headed-flawed}
 use Rattle.records.proofs.LawsKey.{name-room}
-use Rattle.records.proofs.LawsPlaces.{child-is, elements-lie, leaves-lie, leaves-are}
+use Rattle.records.proofs.LawsPlaces.{elements-lie, leaves-lie, leaves-are}
+use Rattle.records.proofs.LawsElements.{elements-are}
 use Rattle.lookup.specs.declared.Look.the-variants.{Found, Missing, Faulty}
-use Rattle.lookup.specs.Search.{keyNamed, elementsFrom, elementsOf, searchKeys, searchLeaf, searchLeaves, searchBelow}
+use Rattle.lookup.specs.Search.{keyNamed, searchKeys, searchLeaf, searchLeaves, searchBelow}
 use Rattle.lookup.proofs.Finds.{named-bad}
 
 -- one key
@@ -46,38 +44,7 @@ module _ (d x : List ℕ) (c : Child) where
     unfolding keyNamed
     key-is p = rw (whole .0, ← whole .1, ← p)
 
--- the elements of a leaf where they stand; `noChild` is what stands past the end
-abbrev pub noChild : Child
-noChild = record { at = nowhere; hashed = false; hash = 0 }
-
-module _ (d : List ℕ) (l : Leaf) where
-  from-length : (i n : ℕ) → length (elementsFrom d l i n) ≡ n
-  unfolding elementsFrom
-  from-length i zero = refl
-  from-length i (suc n) = ap suc (from-length (suc i) n)
-
-  from-at : (i n j : ℕ) → j < n → getD (elementsFrom d l i n) j noChild ≡ childNamed d l (i + j)
-  unfolding elementsFrom
-  from-at i zero j h = absurd (omega arith)
-  from-at i (suc n) zero h = let e : i ≡ i + 0 = omega arith in ap (childNamed d l) e
-  from-at i (suc n) (suc j) h = let e : suc i + j ≡ i + suc j = omega arith in from-at (suc i) n j (omega arith) ∙ ap (childNamed d l) e
-
-  pub elements-length : length (elementsOf d l) ≡ l .count
-  elements-length = from-length 0 (l .count)
-
-  pub element-at : (j : ℕ) → j < l .count → childNamed d l j ≡ getD (elementsOf d l) j noChild
-  element-at j h = let e : j ≡ 0 + j = omega arith in ap (childNamed d l) e ∙ sym (from-at 0 (l .count) j h)
-
 module _ (d x : List ℕ) (o : Offset) where
-  -- are those of the leaf
-  elements-are : leafFault Header d [] o ≡ Sound → elementsOf d (leafOf d o) ≡ leafChildren (dataAt d o)
-  unfolding leafOf leafIn leafChildren elementsFrom childrenFrom
-  elements-are e = go 0 (countOf (dataAt d o)) (omega arith)
-    where
-      go : (i n : ℕ) → i + n ≤ countOf (dataAt d o) → elementsFrom d (leafOf d o) i n ≡ childrenFrom (dataAt d o) i n
-      go i zero p = refl
-      go i (suc n) p = ap₂ _∷_ (child-is Header d [] o e i (omega arith)) (go (suc i) n (omega arith))
-
   pub leaf-bad : {f : Flaw} → leafed (leafFault Header d [] o) (leafOf d o) ≡ leaf.Flawed f → searchLeaf d x o ≡ Faulty f
   unfolding searchLeaf
   leaf-bad e = rw (leafed-flawed (leafFault Header d [] o) _ e)
@@ -88,7 +55,7 @@ module _ (d x : List ℕ) (o : Offset) where
 
     pub leaf-is : searchLeaf d x o ≡ searchKeys d x (elementsOf d l)
     unfolding searchLeaf
-    leaf-is = let w = leafed-whole (leafFault Header d [] o) _ e in rw (w .0, w .1, elements-are (w .0))
+    leaf-is = let w = leafed-whole (leafFault Header d [] o) _ e in rw (w .0, elements-are Header d [] o (w .0) (w .1))
 
 -- below a key
 module _ (d x : List ℕ) (k : Key) where

@@ -1,6 +1,6 @@
 -- "then the records in list order up to the first match, each only for 11 and 12 (not order, hash, parent or total)". d is the bins data; there is no
 -- map, and a cell is named by its own header.
-use Prim.Native.Nat.{ℕ, zero, suc}
+use Prim.Native.Nat.{ℕ}
 use mathlib.Core.Bool.{cond}
 use mathlib.Core.List.{List, [], _∷_}
 use lib.Dec.{eqb}
@@ -12,10 +12,8 @@ use Rattle.cells.specs.Named.{dataAt}
 use Rattle.names.specs.Comparison.{sameName}
 use Rattle.records.specs.declared.Child.{Child}
 use Rattle.records.specs.declared.Key.{Key}
-use Rattle.records.specs.declared.Leaf.{Leaf}
 use Rattle.records.specs.Keys.{keyFault, keyOf, codesOf}
 use Rattle.records.specs.Lists.{leafFault, headFault, leafChildren, leavesOf}
-use Rattle.records.specs.Places.{childNamed}
 use Rattle.values.specs.declared.Value.{Value}
 use Rattle.values.specs.Records.{valueFault, valueOf}
 use Rattle.values.specs.Lists.{valuesOf, valueListFault}
@@ -50,14 +48,6 @@ keyNamed d x c = onSound (keyFault Header d [] (c .at)) (cond (sameName (nameAt 
 
 abbrev pub searchKeys : List ℕ → List ℕ → List Child → Look
 searchKeys d x cs = firstOf (keyNamed d x) cs
-
--- the elements of a leaf where they stand in the bins data: n of them from element i on, and all
-unfoldable pub elementsFrom : List ℕ → Leaf → ℕ → ℕ → List Child
-elementsFrom d leaf i zero = []
-elementsFrom d leaf i (suc n) = childNamed d leaf i ∷ elementsFrom d leaf (suc i) n
-
-abbrev pub elementsOf : List ℕ → Leaf → List Child
-elementsOf d leaf = elementsFrom d leaf 0 (leaf .count)
 
 -- "One leaf of an `ri` at a time: leaf 1, its keys, leaf 2, its keys."
 unfoldable pub searchLeaf : List ℕ → List ℕ → Offset → Look

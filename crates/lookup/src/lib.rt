@@ -28,14 +28,14 @@ ghost use Rattle.fields.specs.declared.Verdict.the-variants.{Sound};
 ghost use Rattle.base.specs.Block.{sector, minorOf, binsLimit, binsData, baseFault};
 ghost use Rattle.cells.specs.declared.Rule.the-variants.{Header};
 ghost use Rattle.records.specs.Keys.{keyFault};
-ghost use Rattle.records.specs.Places.{ElementsLie, LeavesLie, leavesNamed};
+ghost use Rattle.records.specs.Places.{ElementsLie, elementsOf, LeavesLie, leavesNamed};
 ghost use Rattle.values.specs.Entries.{Room, entriesOf};
 ghost use Rattle.values.specs.Records.{valueOf};
 ghost use Rattle.values.specs.Segments.{dataFault, lengthOf};
 ghost use Rattle.values.specs.Lists.{wholeValueFault};
 ghost use Rattle.tree.specs.Tree.{hiveOf};
 ghost use Rattle.lookup.specs.Paths.{firstPart, partsOf, isPath};
-ghost use Rattle.lookup.specs.Search.{keyNamed, elementsOf, searchKeys, searchLeaf, searchLeaves, searchBelow, descend as descendTo, lookupKey, valueNamed, searchValues, lookupValue};
+ghost use Rattle.lookup.specs.Search.{keyNamed, searchKeys, searchLeaf, searchLeaves, searchBelow, descend as descendTo, lookupKey, valueNamed, searchValues, lookupValue};
 ghost use Rattle.lookup.specs.Answers.{openFault, keyLook, findAnswer, valueLook, dataPlace, placeIn, infoOf, viewFault, viewedFault, infoWhere, infoAnswer, viewAnswer, viewStart, viewBytes, copyAnswer, copyOut};
 
 const BACKSLASH: u16 = 92;
@@ -222,7 +222,7 @@ fn lookup_key(bins: &[u8], root: Offset, path: &[u16]) -> Look
 }
 
 // The bins data of a hive whose base block passed.
-fn bins_of(hive: &[u8]) -> &[u8]
+pub fn bins_of(hive: &[u8]) -> &[u8]
     requires { ⌜ baseFault (now hive) ≡ Sound ⌝ }
     ensures { λ r. ⌜ now r ≡ binsData (now (hive .entry)) ⌝ }
 {
@@ -232,7 +232,7 @@ fn bins_of(hive: &[u8]) -> &[u8]
 }
 
 // "minor 3, 4 or 5 at 24"
-fn minor_of(hive: &[u8]) -> u32
+pub fn minor_of(hive: &[u8]) -> u32
     requires { ⌜ baseFault (now hive) ≡ Sound ⌝ }
     ensures { λ r. ⌜ r ≡ minorOf (sector (now (hive .entry))) ⌝ }
 {
@@ -433,7 +433,7 @@ fn info_where(bins: &[u8], x: Value) -> ValueFound
 }
 
 // The value at an offset: its record, then its data.
-fn info_at(bins: &[u8], minor: u32, v: Offset) -> ValueFound
+pub fn info_at(bins: &[u8], minor: u32, v: Offset) -> ValueFound
     requires { ⌜ length (now bins) ≤ binsLimit ⌝ }
     ensures { λ r. ⌜ r ≡ infoWhere (wholeValueFault Header (now (bins .entry)) [] minor v) (infoOf (valueOf (now (bins .entry)) minor v)) ⌝ }
 {

@@ -7,6 +7,7 @@ pub mod ListFacts
 pub mod LawsAnswer
 pub mod LawsSequence
 pub mod LawsPlaces
+pub mod LawsElements
 pub mod Totals
 pub mod LawsLists
 pub mod ListFronts

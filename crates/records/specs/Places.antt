@@ -1,5 +1,5 @@
 -- Where the leaves of a list and the elements of a leaf stand in the bins data, so that a loop over them reads each list's head once.
-use Prim.Native.Nat.{ℕ, _+_, _*_, _≤_}
+use Prim.Native.Nat.{ℕ, zero, suc, _+_, _*_, _≤_}
 use mathlib.Core.Path.{_≡_}
 use mathlib.Core.Bool.{true, false, cond}
 use mathlib.Core.List.{List, [], _∷_}
@@ -8,7 +8,7 @@ use Rattle.fields.specs.declared.Offset.{Offset}
 use Rattle.fields.specs.declared.Verdict.{Verdict}
 use Rattle.fields.specs.declared.Verdict.the-variants.{Sound, Flawed}
 use Rattle.fields.specs.Number.{u32At}
-use Rattle.fields.specs.Faults.{faultOver}
+use Rattle.fields.specs.Faults.{nowhere, faultOver}
 use Rattle.cells.specs.declared.Rule.{Rule}
 use Rattle.cells.specs.Named.{dataAt}
 use Rattle.records.specs.declared.Child.{Child}
@@ -54,6 +54,18 @@ unfoldable pub childNamed : List ℕ → Leaf → ℕ → Child
 childNamed d l i =
     let p = l .at + i * l .width in
     record { at = offsetAt d p; hashed = l .hashed; hash = cond (l .hashed) (u32At d (p + 4)) 0 }
+
+-- the elements of a leaf, as a loop reads them: n of them from element i on, and all
+unfoldable pub elementsFrom : List ℕ → Leaf → ℕ → ℕ → List Child
+elementsFrom d l i zero = []
+elementsFrom d l i (suc n) = childNamed d l i ∷ elementsFrom d l (suc i) n
+
+unfoldable pub elementsOf : List ℕ → Leaf → List Child
+elementsOf d l = elementsFrom d l 0 (l .count)
+
+-- what stands past the end of a list of children
+abbrev pub noChild : Child
+noChild = record { at = nowhere; hashed = false; hash = 0 }
 
 -- the elements of a leaf lie in the bins data, with their hashes where they have them
 pub record ElementsLie (d : List ℕ) (l : Leaf) : Type 0 where

@@ -18,6 +18,7 @@ use Rattle.records.specs.declared.Child.{Child}
 use Rattle.records.specs.declared.Key.{Key}
 use Rattle.records.specs.Keys.{keyFault, keyOf}
 use Rattle.records.specs.Lists.{leafChildren, childrenIn, childrenBelow, children, listsFault}
+use Rattle.records.specs.Places.{noChild}
 use Rattle.records.proofs.LawsKey.{key-room, name-room}
 use Rattle.tree.specs.declared.Count.{Count}
 use Rattle.tree.specs.declared.Hive.{Hive}
@@ -26,7 +27,7 @@ use Rattle.tree.specs.declared.Listed.the-variants.{Start, First, After}
 use Rattle.tree.specs.declared.Walk.{Walk}
 use Rattle.tree.specs.declared.Walk.the-variants.{Counted, Refused}
 use Rattle.tree.specs.Tree.{Charge, Free, Of, _after_, chargeOf, ownFault, keyCharge, listCharge, treeCharge, joined, keysIn, tally, tallied, walked, keyAnswer, listAnswer}
-use Rattle.tree.specs.Steps.{Fits, ListedFits, noChild, lastOf}
+use Rattle.tree.specs.Steps.{Fits, ListedFits, lastOf}
 use Rattle.tree.proofs.Charges.{both-free, after-assoc, own-parts, level-zero, key-parts, key-free, Own}
 
 pub refused-of : (a : Charge) (t : Count) {f : Refusal} → walked a t ≡ Refused f → a ≡ Of f

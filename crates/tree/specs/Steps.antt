@@ -1,24 +1,21 @@
 -- What the walk's functions ask of each other.
-use Prim.Native.Nat.{ℕ, zero, suc, _+_, _-_, _≤_}
+use Prim.Native.Nat.{ℕ, _+_, _-_, _≤_}
 use mathlib.Core.Path.{_≡_}
-use mathlib.Core.Bool.{false}
-use mathlib.Core.List.{List, [], _∷_}
+use mathlib.Core.List.{List}
 use lib.ListN.{length, getD}
 use Rattle.fields.specs.declared.Offset.{Offset}
 use Rattle.fields.specs.declared.Verdict.{Verdict}
 use Rattle.fields.specs.declared.Verdict.the-variants.{Sound}
-use Rattle.fields.specs.Faults.{nowhere, _next_}
+use Rattle.fields.specs.Faults.{_next_}
 use Rattle.cells.specs.declared.Rule.the-variants.{Map}
 use Rattle.base.specs.Block.{binsData, baseFault}
 use Rattle.cells.specs.declared.Tally.{Tally}
 use Rattle.cells.specs.Named.{dataAt}
 use Rattle.cells.specs.Tiled.{BinsTile, Mapped}
-use Rattle.records.specs.declared.Child.{Child}
 use Rattle.records.specs.declared.Key.{Key}
-use Rattle.records.specs.declared.Leaf.{Leaf}
 use Rattle.records.specs.Keys.{keyOf}
-use Rattle.records.specs.Places.{childNamed}
-use Rattle.records.specs.Lists.{leafFault, leafChildren, listsFault}
+use Rattle.records.specs.Places.{noChild}
+use Rattle.records.specs.Lists.{leafChildren, listsFault}
 use Rattle.tree.specs.declared.Listed.{Listed}
 use Rattle.tree.specs.declared.Listed.the-variants.{Start, First, After}
 use Rattle.tree.specs.declared.Checked.{Checked}
@@ -43,21 +40,9 @@ ListedFits d (After p b) = Fits d b
 unfoldable pub listingFault : List ℕ → List ℕ → Key → Offset → Verdict
 listingFault d m k at = listsFault Map d m k next totalFault d k at
 
--- what stands past the end of a list of children
-abbrev pub noChild : Child
-noChild = record { at = nowhere; hashed = false; hash = 0 }
-
 -- the last key of a leaf
 unfoldable pub lastOf : List ℕ → Offset → Offset
 lastOf d o = getD (leafChildren (dataAt d o)) (length (leafChildren (dataAt d o)) - 1) noChild .at
-
--- the elements of a leaf, as the loop reads them
-unfoldable pub elementsFrom : List ℕ → Leaf → ℕ → ℕ → List Child
-elementsFrom d leaf i zero = []
-elementsFrom d leaf i (suc n) = childNamed d leaf i ∷ elementsFrom d leaf (suc i) n
-
-unfoldable pub elementsOf : List ℕ → Leaf → List Child
-elementsOf d leaf = elementsFrom d leaf 0 (leaf .count)
 
 -- a hive whose bins and cells were surveyed, with its map
 pub record Ready (h m : List ℕ) : Type 0 where

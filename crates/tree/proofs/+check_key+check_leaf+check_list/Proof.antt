@@ -18,15 +18,16 @@ use Rattle.records.specs.declared.Child.{Child}
 use Rattle.records.specs.declared.Key.{Key}
 use Rattle.records.specs.Keys.{keyFault, keyOf}
 use Rattle.records.specs.Lists.{leafFault, leafChildren, childrenIn, childrenBelow}
-use Rattle.records.specs.Places.{leavesNamed, LeavesLie, ElementsLie}
+use Rattle.records.specs.Places.{leavesNamed, LeavesLie, elementsOf, ElementsLie}
 use Rattle.records.proofs.LawsAnswer.{keyed-whole, keyed-flawed}
 use Rattle.records.proofs.LawsKey.{name-room}
 use Rattle.records.proofs.LawsPlaces.{leaf-tested, leaf-some, elements-lie, leaves-lie, named-length}
 use Rattle.tree.specs.Tree.{listAnswer}
-use Rattle.tree.specs.Steps.{ListedFits, elementsOf}
+use Rattle.tree.specs.Steps.{ListedFits}
+use Rattle.records.proofs.LawsElements.{elements-length, element-at, elements-are}
 use Rattle.tree.proofs.Charges.{own-parts}
 use Rattle.tree.proofs.Walks.{key-record, key-own, level-left, key-on, end-nil, leaf-stop, leaf-on, leaf-end, leaves-stop, leaves-on, leaves-end, key-fits, leaf-fits}
-use Rattle.tree.proofs.Elements.{elements-length, element-at, as-leaf, leaf-there, leaf-in, no-children, head-sound, head-room, as-list, each-sound}
+use Rattle.tree.proofs.Elements.{leaf-there, leaf-in, no-children, head-sound, head-room, as-list, each-sound}
 use Rattle.tree.proofs.check_key.Reads as key
 use Rattle.tree.proofs.check_key.Kinds as key-kinds
 use Rattle.tree.proofs.+check_key+check_leaf+check_list.Lts-check_key as key-lts
@@ -182,7 +183,7 @@ module _ (t : ℕ) where
       let a = c .before .before .before .before .before .before .before .before .before .before .before .args in
       let o = c .before .before .before .before .before .before .before .loop in
       let n = elements-length (now (a .bins)) (c .before .before .before .before .before .before .before .before .leaf-fields .result) in
-      rw (as-leaf _ _ _ (c .before .before .before .before .before .before .before .before .before .before .before .pre .1 .1 .0) (c .before .before .before .before .before .before .before .before .leaf-fields .ensures))
+      rw (elements-are Map _ _ _ (c .before .before .before .before .before .before .before .before .before .before .before .pre .1 .1 .0) (c .before .before .before .before .before .before .before .before .leaf-fields .ensures))
       (sym (leaf-stop _ _ _ _ _ _ _ (elementsOf (now (a .bins)) (c .before .before .before .before .before .before .before .before .leaf-fields .result)) (o .i) _ _ (o .inv .3) _ (omega arith)
       (element-at _ _ (o .i) (c .before .before .before .before .before .if1 .taken) (c .before .before .before .before .child-of .ensures)) (sym (c .before .before .before .check-key .ensures) ∙ c .before .w .given .1)))
 
@@ -212,7 +213,7 @@ module _ (t : ℕ) where
       let a = c .before .before .before .before .before .before .args in
       let o = c .before .before .loop in
       let n = elements-length (now (a .bins)) (c .before .before .before .leaf-fields .result) in
-      rw (as-leaf _ _ _ (c .before .before .before .before .before .before .pre .1 .1 .0) (c .before .before .before .leaf-fields .ensures))
+      rw (elements-are Map _ _ _ (c .before .before .before .before .before .before .pre .1 .1 .0) (c .before .before .before .leaf-fields .ensures))
       (sym (leaf-end _ _ _ _ _ _ _ (elementsOf (now (a .bins)) (c .before .before .before .leaf-fields .result)) (o .i) _ _ (o .inv .3) (omega arith)))
 
   -- check_list

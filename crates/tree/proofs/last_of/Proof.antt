@@ -1,4 +1,5 @@
-use Rattle.tree.specs.Steps.{noChild, lastOf}
+use Rattle.tree.specs.Steps.{lastOf}
+use Rattle.records.specs.Places.{noChild}
 use Rattle.records.proofs.LawsPlaces.{leaf-count, leaf-tested, leaf-some, elements-lie, child-at}
 use Rattle.records.specs.Places.{leafOf, childNamed}
 use Rattle.records.specs.Lists.{leafChildren}
