@@ -31,6 +31,10 @@ done-is n i {k} e = by (leb (i .len) n) refl
     by true q = (leb-true (i .len) n q, let s = rw q at e in let p : i .len ≡ k = cc in p)
     by false q = absurd (let s = rw q at e in let z : _≡_ {A = ℕ} 0 1 = cc in omega arith)
 
+-- a view shows the data's bytes
+pub view-is : (h us x : List ℕ) {i : Info} → viewAnswer h us x ≡ At i → viewBytes h us x ≡ bytesOf (binsData h) (i .content)
+view-is h us x {i} e = let a = view-answered h us x e in view-part h us x e ∙ view-shown h us x i (a .0) (a .1) .bytes
+
 module _ (h us x out : List ℕ) where
   -- a copy that is done
   pub record Written (n : ℕ) : Type 0 where
@@ -93,11 +97,8 @@ module _ (h us x out : List ℕ) where
 
   -- "View and copy agree": where the view answers, a copy with room for it writes the view's bytes
   module _ {i : Info} (e : viewAnswer h us x ≡ At i) where
-    pub view-is : viewBytes h us x ≡ bytesOf (binsData h) (i .content)
-    view-is = let a = view-answered h us x e in view-part h us x e ∙ view-shown h us x i (a .0) (a .1) .bytes
-
     pub views-copied : i .len ≤ length out → copyOut h us x out ≡ viewBytes h us x ++ drop (i .len) out
-    views-copied p = copy-written h us x out (view-info-same h us x e) p ∙ ap (λ (s : List ℕ). s ++ drop (i .len) out) (sym view-is)
+    views-copied p = copy-written h us x out (view-info-same h us x e) p ∙ ap (λ (s : List ℕ). s ++ drop (i .len) out) (sym (view-is h us x e))
 
     pub view-copy : length out ≡ i .len → copyOut h us x out ≡ viewBytes h us x
     view-copy p =

@@ -20,12 +20,11 @@ use Rattle.cells.specs.declared.Rule.the-variants.{Header}
 use Rattle.records.proofs.Parts.{part-part}
 use Rattle.values.specs.declared.ValueData.{ValueData}
 use Rattle.values.specs.declared.ValueData.the-variants.{Inline, OneCell, Segments}
-use Rattle.values.specs.Records.{valueFault, dataIn, fieldsOf, valueOf}
+use Rattle.values.specs.Records.{dataIn, fieldsOf, valueOf}
 use Rattle.values.specs.Segments.{dataFault, bytesOf, lengthOf}
-use Rattle.values.specs.Parts.{partOf, inlineEnd, Lies}
+use Rattle.values.specs.Parts.{partOf, Lies}
 use Rattle.values.proofs.LawsData.{isOne, PartLies, part-lies}
-use Rattle.values.proofs.LawsValues.{Cased, inline, oneCell, segments, cased, value-says}
-use Rattle.values.proofs.Rooms.{names-roomy}
+use Rattle.values.proofs.LawsValues.{lies as data-lies}
 use Rattle.lookup.specs.declared.Copied.the-variants.{Done, Refused as Uncopied}
 use Rattle.lookup.specs.declared.Info.{Info}
 use Rattle.lookup.specs.declared.Look.{Look}
@@ -34,19 +33,6 @@ use Rattle.lookup.specs.declared.ValueFound.{ValueFound}
 use Rattle.lookup.specs.declared.ValueFound.the-variants.{At, Refused}
 use Rattle.lookup.specs.Answers.{valueLook, placeIn, infoOf, viewFault, infoWhere, valueFound, infoAnswer, viewAnswer, viewStart, viewBytes, copyAnswer, copyOut}
 use Rattle.lookup.proofs.Value_searches.{value-facts}
-
--- the data of a value that has passed its tests lie in the bins data
-value-lies : (d : List ℕ) (minor : ℕ) (v : Offset) → valueFault Header d [] v ≡ Sound → dataFault Header d [] (dataIn d minor v) ≡ Sound
-    → Lies d (dataIn d minor v)
-value-lies d minor v s t = record { inside = by (cased Header d [] minor v s); sound = t }
-  where
-    by : Cased d minor v → inlineEnd (dataIn d minor v) ≤ length d
-    by (inline n p e) =
-        let x = value-says Header d [] v s in
-        let w = names-roomy d v 20 (x .0) (x .1 .long) in
-        rw e (omega arith)
-    by (oneCell o n p e) = rw e (omega arith)
-    by (segments o n p q k e) = rw e (omega arith)
 
 where-at : (v : Verdict) (i : Info) {j : Info} → infoWhere v i ≡ At j → (v ≡ Sound) × (i ≡ j)
 where-at Sound i e = (refl, cc)
@@ -84,7 +70,7 @@ answered-as h us x i v e s q =
       info = sym q;
       content = content-as (binsData h) (minorOf (sector h)) i v q;
       base = f .0;
-      lies = rw (← q) (value-lies (binsData h) (minorOf (sector h)) v (f .1) s);
+      lies = rw (← q) (data-lies Header (binsData h) [] (minorOf (sector h)) v (f .1) Header [] s);
       long = rw (← q);
       place = rw (← q);
     }

@@ -12,8 +12,8 @@ use Rattle.fields.specs.declared.Flaw.{Flaw}
 use Rattle.fields.specs.declared.Verdict.{Verdict}
 use Rattle.fields.specs.declared.Verdict.the-variants.{Sound, Flawed}
 use Rattle.cells.specs.declared.Rule.the-variants.{Header}
-use Rattle.cells.specs.Named.{cellFault, dataAt}
-use Rattle.cells.specs.Tiled.{BinsTile, InUse}
+use Rattle.cells.specs.Named.{dataAt}
+use Rattle.cells.specs.Tiled.{BinsTile}
 use Rattle.cells.proofs.Mapped.{header-sound}
 use Rattle.names.specs.declared.Order.the-variants.{Before, Same}
 use Rattle.names.specs.Comparison.{compare, sameName}
@@ -135,28 +135,24 @@ module _ (d x : List ℕ) where
               absurd (let z : _≡_ {A = ℕ} 0 1 = cc in omega arith)
 
 module _ (d : List ℕ) (hive : Hive) (tiles : BinsTile d 0) where
-  -- the cells in use are named by their headers
-  named : (o : Offset) → InUse d o → cellFault Header d [] o ≡ Sound
-  named o u = header-sound d tiles [] o u
-
   pub key-good : (n : ℕ) (o : Offset) → TreeStands d hive n o → keyFault Header d [] o ≡ Sound
-  key-good (suc n) o (key s a ch tree) = of-key Header d [] named o (s .in-use) (s .record-good)
+  key-good (suc n) o (key s a ch tree) = of-key Header d [] (header-sound d tiles []) o (s .in-use) (s .record-good)
 
   -- a list that stands, leaf by leaf
-  list-head : (o : Offset) → ListStands d o → headFault Header d [] o ≡ Sound
+  pub list-head : (o : Offset) → ListStands d o → headFault Header d [] o ≡ Sound
   unfolding headFault
-  list-head o s = of-cell Header d [] named o (isList (dataAt d o)) _ (s .in-use) (s .record-good)
+  list-head o s = of-cell Header d [] (header-sound d tiles []) o (isList (dataAt d o)) _ (s .in-use) (s .record-good)
 
-  leaves-good : (o : Offset) → ListStands d o → (l : Offset) → List·Memᴰ l (leavesOf d o) → leafFault Header d [] l ≡ Sound
+  pub leaves-good : (o : Offset) → ListStands d o → (l : Offset) → List·Memᴰ l (leavesOf d o) → leafFault Header d [] l ≡ Sound
   unfolding leavesOf isList
   leaves-good o s l i = by (isRi (dataAt d o)) refl
     where
       by : (t : Bool) → isRi (dataAt d o) ≡ t → leafFault Header d [] l ≡ Sound
-      by true e = of-leaf Header d [] named l (s .leaves e l i)
+      by true e = of-leaf Header d [] (header-sound d tiles []) l (s .leaves e l i)
       by false e =
           let good : isLeaf (dataAt d o) ≡ true = rw e at (s .record-good) in
           let j : List·Memᴰ l (o ∷ []) = rw e at i in
-          ⊎-elim (λ q. subst (λ (y : Offset). leafFault Header d [] y ≡ Sound) (sym q) (of-leaf Header d [] named o (record { in-use = s .in-use; record-good = good })))
+          ⊎-elim (λ q. subst (λ (y : Offset). leafFault Header d [] y ≡ Sound) (sym q) (of-leaf Header d [] (header-sound d tiles []) o (record { in-use = s .in-use; record-good = good })))
           (λ k. absurd (List·Memᴰ·not-nil k)) (List·Memᴰ·cases-cons j)
 
   -- below a key that stands, its children are searched as one list

@@ -147,7 +147,7 @@ module _ (h : List ℕ) (w : CleanAndWellFormed h) (us : List ℕ) where
 
         shows : viewFault v (dataIn (binsData h) (minorOf (sector h)) v) ≡ Sound → viewBytes h us x ≡ bytesOf (binsData h) (dataIn (binsData h) (minorOf (sector h)) v)
         shows q =
-            view-is h us x [] (viewed q)
+            view-is h us x (viewed q)
             ∙ ap (bytesOf (binsData h)) (content-as (binsData h) (minorOf (sector h)) (infoOf (valueOf (binsData h) (minorOf (sector h)) v)) v refl)
 
         -- inline: the bytes at 8 of the record

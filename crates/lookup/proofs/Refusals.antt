@@ -70,13 +70,13 @@ pub data OfCopy (f : Refusal) : Type 0 where
 
 -- all flaws of a verdict, and all faults of a look
 module _ (P : Refusal → Type 0) where
-  abbrev Every : Verdict → Type 0
+  abbrev pub Every : Verdict → Type 0
   Every v = (f : Flaw) → v ≡ Flawed f → P (refusalOf f)
 
-  abbrev Each : Look → Type 0
+  abbrev pub Each : Look → Type 0
   Each l = (f : Flaw) → l ≡ Faulty f → P (refusalOf f)
 
-  every-next : (a b : Verdict) → Every a → Every b → Every (a next b)
+  pub every-next : (a b : Verdict) → Every a → Every b → Every (a next b)
   unfolding _next_
   every-next Sound b p q = q
   every-next (Flawed g) b p q = p
@@ -85,7 +85,7 @@ module _ (P : Refusal → Type 0) where
   every-unless true f p g e = absurd (let z : _≡_ {A = ℕ} 0 1 = cc in omega arith)
   every-unless false f p g e = let q : f ≡ g = cc in subst (λ (x : Flaw). P (refusalOf x)) q p
 
-  each-sound : (v : Verdict) (l : Look) → Every v → Each l → Each (onSound v l)
+  pub each-sound : (v : Verdict) (l : Look) → Every v → Each l → Each (onSound v l)
   each-sound Sound l p q f e = q f e
   each-sound (Flawed g) l p q f e = p f (let z : g ≡ f = cc in ap Flawed z)
 
@@ -112,7 +112,7 @@ module _ (P : Refusal → Type 0) where
 -- ---- the tests
 
 -- 11 and 12 of a cell or record
-only-key : (v : Verdict) → Only v → Every OfKey v
+pub only-key : (v : Verdict) → Only v → Every OfKey v
 only-key v p f e = ⊎-elim (λ q. in-cell q) (λ q. in-record q) (p f e)
 
 in-base : (t : Bool) (f : Fault) → 1 ≤ numberOf f → numberOf f ≤ 7 → Every OfKey (unless t (flaw f nowhere))
@@ -126,7 +126,7 @@ block-every s =
     (every-next OfKey (unless (isVersion s 0) (flaw Version nowhere)) _ (in-base (isVersion s 0) Version (omega arith) (omega arith))
     (in-base (isBinsSize (binsOf s)) BinsSize (omega arith) (omega arith))))
 
-base-every : (h : List ℕ) → Every OfKey (baseFault h)
+pub base-every : (h : List ℕ) → Every OfKey (baseFault h)
 unfolding baseFault
 base-every h =
     every-next OfKey (unless (leb 4096 (length h)) (flaw HiveShort nowhere)) _ (in-base (leb 4096 (length h)) HiveShort (omega arith) (omega arith))
@@ -142,19 +142,19 @@ open-every h us =
     (every-unless OfKey (isPath us) _ (in-path (record { least = omega arith; most = omega arith; place = refl })))
 
 module _ (d : List ℕ) where
-  key-only : (o : Offset) → Only (keyFault Header d [] o)
+  pub key-only : (o : Offset) → Only (keyFault Header d [] o)
   unfolding keyFault
   key-only o = only-test isKey Header d [] o
 
-  leaf-only : (o : Offset) → Only (leafFault Header d [] o)
+  pub leaf-only : (o : Offset) → Only (leafFault Header d [] o)
   unfolding leafFault
   leaf-only o = only-test isLeaf Header d [] o
 
-  head-only : (o : Offset) → Only (headFault Header d [] o)
+  pub head-only : (o : Offset) → Only (headFault Header d [] o)
   unfolding headFault
   head-only o = only-test isList Header d [] o
 
-  value-only : (o : Offset) → Only (valueFault Header d [] o)
+  pub value-only : (o : Offset) → Only (valueFault Header d [] o)
   unfolding valueFault
   value-only o = only-test isValue Header d [] o
 
@@ -162,7 +162,7 @@ module _ (d : List ℕ) where
   unfolding roomFault
   room-only o n = only-test (λ r. leb n (length r)) Header d [] o
 
-  list-only : (k : Key) → Only (valueListFault Header d [] k)
+  pub list-only : (k : Key) → Only (valueListFault Header d [] k)
   unfolding valueListFault
   list-only k = by (eqb (k .values) 0)
     where
@@ -177,7 +177,7 @@ module _ (d : List ℕ) where
       (only-next (dbFault Header d [] o n) _ (only-test (λ r. isDb r n) Header d [] o) (room-only (segmentList d o) (4 * segmentsFor n)))
       (only-over (segmentFault Header d []) (segmentsOf d o n) (λ s. room-only (s .at) (s .len)))
 
-  data-only : (x : ValueData) → Only (dataFault Header d [] x)
+  pub data-only : (x : ValueData) → Only (dataFault Header d [] x)
   unfolding dataFault
   data-only (Inline at len) = only-sound refl
   data-only (OneCell o len) = by (eqb len 0)

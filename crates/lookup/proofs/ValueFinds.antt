@@ -11,8 +11,7 @@ use Rattle.fields.specs.declared.Verdict.the-variants.{Sound}
 use Rattle.fields.proofs.Bools.{never}
 use Rattle.fields.proofs.Firsts.{both}
 use Rattle.cells.specs.declared.Rule.the-variants.{Header}
-use Rattle.cells.specs.Named.{cellFault}
-use Rattle.cells.specs.Tiled.{BinsTile, InUse}
+use Rattle.cells.specs.Tiled.{BinsTile}
 use Rattle.cells.proofs.Mapped.{header-sound}
 use Rattle.names.specs.Comparison.{sameName}
 use Rattle.names.proofs.LawsOrder.{name-same, same-name}
@@ -75,17 +74,14 @@ module _ (d : List ℕ) (minor : ℕ) (x : List ℕ) where
       by rest false e = rest e
 
 module _ (d : List ℕ) (tiles : BinsTile d 0) (minor : ℕ) (k : Key) (s : ValuesStand d minor k) where
-  named : (o : Offset) → InUse d o → cellFault Header d [] o ≡ Sound
-  named o u = header-sound d tiles [] o u
-
-  list-good : valueListFault Header d [] k ≡ Sound
+  pub list-good : valueListFault Header d [] k ≡ Sound
   unfolding valuesFault
-  list-good = both _ _ (of-values Header d [] named minor k s) .0
+  list-good = both _ _ (of-values Header d [] (header-sound d tiles []) minor k s) .0
 
-  each-good : (v : Offset) → List·Memᴰ v (valuesOf d k) → wholeValueFault Header d [] minor v ≡ Sound
-  each-good v i = of-value Header d [] named minor v (s .each v i)
+  pub each-good : (v : Offset) → List·Memᴰ v (valuesOf d k) → wholeValueFault Header d [] minor v ≡ Sound
+  each-good v i = of-value Header d [] (header-sound d tiles []) minor v (s .each v i)
 
-  value-good : (v : Offset) → List·Memᴰ v (valuesOf d k) → valueFault Header d [] v ≡ Sound
+  pub value-good : (v : Offset) → List·Memᴰ v (valuesOf d k) → valueFault Header d [] v ≡ Sound
   unfolding wholeValueFault
   value-good v i = both _ _ (each-good v i) .0
 

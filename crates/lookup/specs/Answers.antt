@@ -114,9 +114,9 @@ viewAnswer h us x =
     (λ v. infoWhere (viewFault v (dataIn d minor v) next dataFault Header d [] (dataIn d minor v)) (infoOf (valueOf d minor v)))
 
 -- "A view is the very part of the lent hive that holds the data, empty on refusal"
-abbrev pub partOf : List ℕ → ValueFound → List ℕ
-partOf h (ValueAt i) = take (i .len) (drop (i .at .0) h)
-partOf h (Unvalued f) = []
+abbrev pub viewedIn : List ℕ → ValueFound → List ℕ
+viewedIn h (ValueAt i) = take (i .len) (drop (i .at .0) h)
+viewedIn h (Unvalued f) = []
 
 -- where in the hive that part starts; the empty part stands at its start
 abbrev pub partStart : ValueFound → ℕ
@@ -127,7 +127,7 @@ unfoldable pub viewStart : List ℕ → List ℕ → List ℕ → ℕ
 viewStart h us x = partStart (viewAnswer h us x)
 
 unfoldable pub viewBytes : List ℕ → List ℕ → List ℕ → List ℕ
-viewBytes h us x = partOf h (viewAnswer h us x)
+viewBytes h us x = viewedIn h (viewAnswer h us x)
 
 -- "a copy checks all segments, then 20, and writes only the data's length"
 abbrev pub copiedTo : ℕ → ValueFound → Copied
