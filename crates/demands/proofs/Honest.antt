@@ -23,6 +23,7 @@ use Rattle.tree.specs.declared.Checked.{Checked}
 use Rattle.tree.specs.declared.Checked.the-variants as checked
 use Rattle.tree.specs.declared.Report.{Report}
 use Rattle.tree.specs.Tree.{_after_, placeFault, hashFault, levelFault, totalFault, restFault, ownFault, keyCharge, listCharge, treeCharge, joined, keysIn, valuesIn, checkAnswer}
+use Rattle.tree.proofs.Exactly.{accepted-as}
 use Rattle.lookup.specs.declared.KeyFound.{KeyFound}
 use Rattle.lookup.specs.declared.KeyFound.the-variants as found
 use Rattle.lookup.specs.Paths.{split, partsOf, isPart, areParts, isPath, pathFault}
@@ -80,5 +81,6 @@ no-fraud =
       constant-check = λ check p a f. let e = sym nothing-checked ∙ sym (p [] []) ∙ f [] [] ∙ sym (f minimal (replicate 64 0)) ∙ p minimal (replicate 64 0) ∙ minimal-accepted in let z : _≡_ {A = ℕ} 0 1 = cc in omega arith;
       do-nothing = λ left p f. let e = sym page-zero ∙ ap (λ (x : List ℕ). getD x 4124 0) (sym (p hive (log 512) 0) ∙ f hive (log 512) 0) in let z : _≡_ {A = ℕ} 7 0 = e in omega arith;
       install-all = λ left p f. let e = sym page-fifteen ∙ ap (λ (x : List ℕ). getD x 0 0) (ap (λ (x : List ℕ). page x 15) (sym (p hive (log 512) 0)) ∙ f hive (log 512) 0 15 (is-fifteen .0)) ∙ is-fifteen .1 in let z : _≡_ {A = ℕ} 0 9 = e in omega arith;
+      invent-report = λ check p h m r e. let a = accepted-as h m (sym (p h m) ∙ e) in (a .tally, a .surveys, a .report);
       invent-pages = λ start p h l n e. sym (start-accepted h l n (sym (p h l) ∙ e) .1);
     }

@@ -4,14 +4,17 @@ use Prim.Native.Nat.{ℕ}
 use mathlib.Core.Path.{_≡_}
 use mathlib.Core.Bool.{true}
 use mathlib.Core.List.{List}
+use lib.ListN.{length}
 use Rattle.fields.specs.declared.Refusal.{Refusal}
-use Rattle.fields.specs.declared.Offset.{Offset}
+use Rattle.cells.specs.declared.Surveyed.the-variants.{Tiled}
+use Rattle.cells.specs.declared.Tally.{Tally}
+use Rattle.cells.specs.Survey.{surveyAnswer}
 use Rattle.old_log.specs.Layout.{isLogged, logged, loggedCount}
 use Rattle.sectors.specs.Sector.{page}
 use Rattle.tree.specs.declared.Checked.{Checked}
 use Rattle.tree.specs.declared.Checked.the-variants as checked
 use Rattle.tree.specs.declared.Report.{Report}
-use Rattle.tree.specs.Tree.{checkAnswer}
+use Rattle.tree.specs.Tree.{reportOf, checkAnswer}
 use Rattle.lookup.specs.declared.KeyFound.{KeyFound}
 use Rattle.lookup.specs.Answers.{findAnswer}
 use Rattle.recovery.specs.declared.Started.{Started}
@@ -38,3 +41,6 @@ pub record NoFraud : Type 0 where
   -- "Invent the counts: dirty pages are the bitmap's ones": an accepted start gives no other number
   pub invent-pages : (start : List ℕ → List ℕ → Started) → ((h l : List ℕ) → start h l ≡ startAnswer h l)
       → (h l : List ℕ) (n : ℕ) → start h l ≡ started.Pages n → n ≡ loggedCount l
+  -- "the report the tiling's and tree's": an accepted report has the survey's counts and those of the keys reached
+  pub invent-report : (check : List ℕ → List ℕ → Checked) → ((h m : List ℕ) → check h m ≡ checkAnswer h m)
+      → (h m : List ℕ) (r : Report) → check h m ≡ checked.Accepted r → (t : Tally) × (surveyAnswer h (length m) ≡ Tiled t) × (r ≡ reportOf h t)

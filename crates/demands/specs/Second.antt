@@ -18,10 +18,11 @@ use Rattle.tree.specs.declared.Checked.the-variants as checked
 use Rattle.tree.specs.declared.Report.{Report}
 use Rattle.tree.specs.Tree.{hiveOf, keysOf, valuesIn, checkAnswer}
 use Rattle.tree.specs.WellFormed.{CleanAndWellFormed}
+use Rattle.lookup.specs.declared.Info.{Info}
 use Rattle.lookup.specs.declared.KeyFound.the-variants as found
 use Rattle.lookup.specs.Paths.{isPath, partsOf}
 use Rattle.lookup.specs.declared.ValueFound.the-variants as valued
-use Rattle.lookup.specs.Answers.{findAnswer, infoOf, infoAnswer, copyOut}
+use Rattle.lookup.specs.Answers.{findAnswer, infoOf, infoAnswer, viewAnswer, viewBytes, copyOut}
 use Rattle.lookup.specs.Reach.{Holds, FirstNamed}
 use Rattle.lookup.proofs.Listed.{FoundAgain}
 use Rattle.old_log.specs.Layout.{loggedCount}
@@ -54,6 +55,9 @@ pub record Demand2 : Type 0 where
       × ((out : List ℕ) → lengthOf (dataIn (binsData h) (minorOf (sector h)) v) ≤ length out
       → copyOut h us x out
       ≡ bytesOf (binsData h) (dataIn (binsData h) (minorOf (sector h)) v) ++ drop (lengthOf (dataIn (binsData h) (minorOf (sector h)) v)) out)
+  -- and a view, where there is one, answers as value_info does and shows the same bytes
+  pub view : (h us x : List ℕ) (i : Info) → viewAnswer h us x ≡ valued.At i
+      → (infoAnswer h us x ≡ valued.At i) × (viewBytes h us x ≡ bytesOf (binsData h) (i .content))
   pub no-value : (h : List ℕ) → CleanAndWellFormed h → (us : List ℕ) (o : Offset) → findAnswer h us ≡ found.At o → (x : List ℕ)
       → ((v : Offset) → FirstNamed (binsData h) (minorOf (sector h)) x (valuesOf (binsData h) (keyOf (binsData h) o)) v → ⊥)
       → infoAnswer h us x ≡ valued.Refused (refusalOf (flaw NoValue nowhere))
