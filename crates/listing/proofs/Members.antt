@@ -1,0 +1,226 @@
+-- The calls: a law for each way out of a leaf, a list, a key and a value.
+use Prim.Native.Nat.{ℕ, _+_, _-_, _<_, _≤_}
+use native.Mathlib.Omega.{arith}
+use native.Mathlib.Numerals.{add-one}
+use mathlib.Core.Path.{_≡_, ap, _∙_}
+use mathlib.Core.List.{List, []}
+use lib.ListN.{length, getD, drop}
+use lib.Seq.{drop-cons}
+use borrow.Author.Tests.{eq-eqb, ne-eqb, le-leb, lt-leb}
+use Rattle.fields.specs.declared.Flaw.{Flaw}
+use Rattle.fields.specs.declared.Offset.{Offset}
+use Rattle.fields.specs.declared.Verdict.{Verdict}
+use Rattle.fields.specs.declared.Verdict.the-variants.{Sound, Flawed}
+use Rattle.fields.specs.Faults.{nowhere, refusalOf}
+use Rattle.fields.proofs.Firsts.{on, stop}
+use Rattle.fields.proofs.Loops.{drop-all}
+use Rattle.base.specs.Block.{sector, minorOf, binsLimit, binsData, baseFault}
+use Rattle.cells.specs.declared.Rule.the-variants.{Header}
+use Rattle.cells.specs.Named.{dataAt}
+use Rattle.records.specs.declared.Child.{Child}
+use Rattle.records.specs.declared.Headed.the-variants as head
+use Rattle.records.specs.declared.Key.{Key}
+use Rattle.records.specs.declared.Keyed.the-variants as key
+use Rattle.records.specs.declared.Leaf.{Leaf}
+use Rattle.records.specs.declared.Leafed.the-variants as leaf
+use Rattle.records.specs.declared.Leaves.{Leaves}
+use Rattle.records.specs.Keys.{keyFault, keyOf, keyed}
+use Rattle.records.specs.Lists.{leafChildren, leafFault, headFault}
+use Rattle.records.specs.Places.{leafOf, leafed, ElementsLie, childNamed, leavesAt, headed, LeavesLie, leavesNamed}
+use Rattle.records.proofs.LawsAnswer.{keyed-whole, keyed-flawed, leafed-whole, leafed-flawed, headed-whole, headed-flawed}
+use Rattle.records.proofs.LawsElements.{elements-length, element-at, elements-are}
+use Rattle.records.proofs.LawsKey.{name-room}
+use Rattle.records.proofs.LawsPlaces.{elements-lie, leaves-lie, leaves-are}
+use Rattle.values.specs.declared.Entries.{Entries}
+use Rattle.values.specs.declared.Listing.the-variants as listedAs
+use Rattle.values.specs.declared.Value.{Value}
+use Rattle.values.specs.declared.Valued.the-variants as valuedAs
+use Rattle.values.specs.Entries.{Room, entriesOf, listing}
+use Rattle.values.specs.Records.{valueFault, valueOf, valued}
+use Rattle.values.specs.Lists.{valuesOf, valueListFault, valueEntries, wholeValueFault}
+use Rattle.values.proofs.LawsLists.{list-room, list-values}
+use Rattle.values.proofs.LawsValues.{name-inside}
+use Rattle.values.proofs.Rooms.{entries-length}
+use Rattle.values.proofs.Segment_faults.{listed, unlisted}
+use Rattle.values.proofs.Valued_at.{is-whole, is-flawed}
+use Rattle.lookup.specs.declared.Look.the-variants.{Found, Missing, Faulty}
+use Rattle.lookup.specs.declared.ValueFound.the-variants as found
+use Rattle.lookup.specs.Answers.{infoOf, infoWhere}
+use Rattle.listing.specs.declared.Member.the-variants.{At, NoMore, Refused}
+use Rattle.listing.specs.Members.{entryOf, memberWhere, nthIn, nthBelow, childLook, subkeyIn, subkeyAnswer, nthOf, valueLook, valueIn, valueAnswer, infoAnswer}
+
+-- a record by its offset
+module _ (d : List ℕ) (o : Offset) where
+  pub key-bad : {f : Flaw} → keyed (keyFault Header d [] o) (keyOf d o) ≡ key.Flawed f
+      → memberWhere (keyFault Header d [] o) (entryOf o (keyOf d o .name)) ≡ Refused (refusalOf f)
+  key-bad e = rw (keyed-flawed (keyFault Header d [] o) _ e)
+
+  module _ {k : Key} (e : keyed (keyFault Header d [] o) (keyOf d o) ≡ key.Whole k) where
+    pub key-is : memberWhere (keyFault Header d [] o) (entryOf o (keyOf d o .name)) ≡ At (entryOf o (k .name))
+    key-is = let w = keyed-whole (keyFault Header d [] o) _ e in rw (w .0, w .1)
+
+    pub key-name : length d ≤ binsLimit → k .name .at ≤ binsLimit
+    key-name p = let w = keyed-whole (keyFault Header d [] o) _ e in let r = name-room Header d [] o (w .0) in rw (w .1) (omega arith)
+
+module _ (d : List ℕ) (minor : ℕ) (v : Offset) where
+  pub value-bad : {f : Flaw} → valued (valueFault Header d [] v) (valueOf d minor v) ≡ valuedAs.Flawed f
+      → memberWhere (valueFault Header d [] v) (entryOf v (valueOf d minor v .name)) ≡ Refused (refusalOf f)
+  value-bad e = rw (is-flawed (valueFault Header d [] v) _ e)
+
+  module _ {x : Value} (e : valued (valueFault Header d [] v) (valueOf d minor v) ≡ valuedAs.Whole x) where
+    pub value-is : memberWhere (valueFault Header d [] v) (entryOf v (valueOf d minor v .name)) ≡ At (entryOf v (x .name))
+    value-is = let w = is-whole (valueFault Header d [] v) _ e in rw (w .0, w .1)
+
+    pub value-name : length d ≤ binsLimit → x .name .at ≤ binsLimit
+    value-name p =
+        let w = is-whole (valueFault Header d [] v) _ e in
+        let r = name-inside Header d [] minor v (w .0) in
+        rw (← w .1) (omega arith)
+
+-- the leaves from j on: what is left of n among them answers as n among all of them does
+module _ (d : List ℕ) (ls : List Offset) (n j left : ℕ) (inv : nthIn d ls n ≡ nthIn d (drop j ls) left) where
+  pub turn-end : length ls ≤ j → nthIn d ls n ≡ Missing
+  unfolding nthIn
+  turn-end p = inv ∙ rw (drop-all ls j p)
+
+  module _ (o : Offset) (more : j < length ls) (is : o ≡ getD ls j nowhere) where
+    pub turn-bad : {f : Flaw} → leafed (leafFault Header d [] o) (leafOf d o) ≡ leaf.Flawed f → nthIn d ls n ≡ Faulty f
+    unfolding nthIn
+    turn-bad e = inv ∙ rw (drop-cons ls j nowhere more, ← is, leafed-flawed (leafFault Header d [] o) _ e)
+
+    module _ {l : Leaf} (e : leafed (leafFault Header d [] o) (leafOf d o) ≡ leaf.Whole l) where
+      pub leaf-room : ElementsLie d l
+      leaf-room = let w = leafed-whole (leafFault Header d [] o) _ e in rw (w .1) (elements-lie Header d [] o (w .0))
+
+      has : length (leafChildren (dataAt d o)) ≡ l .count
+      has =
+          let w = leafed-whole (leafFault Header d [] o) _ e in
+          ap length (elements-are Header d [] o (w .0) (w .1)) ∙ elements-length d l
+
+      pub turn-here : left < l .count → {c : Child} → c ≡ childNamed d l left → nthIn d ls n ≡ Found (c .at)
+      unfolding nthIn
+      turn-here p {c} q =
+          let w = leafed-whole (leafFault Header d [] o) _ e in
+          let s = element-at d l left p q in
+          inv
+          ∙ rw (drop-cons ls j nowhere more, ← is, w .0, lt-leb (length (leafChildren (dataAt d o))) left (omega (arith, has)), elements-are Header d [] o (w .0) (w .1), ← s)
+
+      pub turn-on : l .count ≤ left → nthIn d ls n ≡ nthIn d (drop (j + 1) ls) (left - l .count)
+      unfolding nthIn
+      turn-on p =
+          let w = leafed-whole (leafFault Header d [] o) _ e in
+          inv
+          ∙ rw (drop-cons ls j nowhere more, ← is, w .0, le-leb (length (leafChildren (dataAt d o))) left (omega (arith, has)), has, add-one j)
+
+-- below a key
+module _ (d : List ℕ) (k : Key) (n : ℕ) where
+  pub below-none : k .subkeys ≡ 0 → nthBelow d k n ≡ Missing
+  unfolding nthBelow
+  below-none e = rw (eq-eqb (k .subkeys) 0 e)
+
+  pub below-bad : (k .subkeys ≡ 0 → ⊥) → {f : Flaw} → headed (headFault Header d [] (k .list)) (leavesAt d (k .list)) ≡ head.Flawed f
+      → nthBelow d k n ≡ Faulty f
+  unfolding nthBelow
+  below-bad z e = rw (ne-eqb (k .subkeys) 0 z, headed-flawed (headFault Header d [] (k .list)) _ e)
+
+  module _ {ls : Leaves} (e : headed (headFault Header d [] (k .list)) (leavesAt d (k .list)) ≡ head.Whole ls) where
+    pub below-room : LeavesLie d ls
+    below-room = let w = headed-whole (headFault Header d [] (k .list)) _ e in rw (w .1) (leaves-lie Header d [] (k .list) (w .0))
+
+    pub below-is : (k .subkeys ≡ 0 → ⊥) → nthBelow d k n ≡ nthIn d (leavesNamed d ls) n
+    unfolding nthBelow
+    below-is z =
+        let w = headed-whole (headFault Header d [] (k .list)) _ e in
+        rw (ne-eqb (k .subkeys) 0 z, w .0, w .1, leaves-are Header d [] (k .list) (w .0))
+
+  -- the values of a key
+  pub list-bad : {f : Flaw} → listing (valueListFault Header d [] k) (valueEntries k) ≡ listedAs.Flawed f → nthOf d k n ≡ Faulty f
+  unfolding nthOf
+  list-bad e = rw (unlisted (valueListFault Header d [] k) _ e)
+
+  module _ {e : Entries} (q : listing (valueListFault Header d [] k) (valueEntries k) ≡ listedAs.Whole e) where
+    whole : (valueListFault Header d [] k ≡ Sound) × (valuesOf d k ≡ entriesOf d e)
+    whole = let w = listed (valueListFault Header d [] k) _ q in (w .0, list-values Header d [] k (w .0) e (w .1))
+
+    pub values-room : Room d e
+    values-room = let w = listed (valueListFault Header d [] k) _ q in list-room Header d [] k (w .0) e (w .1)
+
+    pub value-there : n < e .count → {v : Offset} → v ≡ getD (entriesOf d e) n nowhere → nthOf d k n ≡ Found v
+    unfolding nthOf
+    value-there p s = rw (whole .0, whole .1, lt-leb (length (entriesOf d e)) n (omega (arith, entries-length d e)), ← s)
+
+    pub value-none : e .count ≤ n → nthOf d k n ≡ Missing
+    unfolding nthOf
+    value-none p = rw (whole .0, whole .1, le-leb (length (entriesOf d e)) n (omega (arith, entries-length d e)))
+
+-- from a key's offset
+module _ (d : List ℕ) (o : Offset) (n : ℕ) where
+  pub child-bad : {f : Flaw} → keyed (keyFault Header d [] o) (keyOf d o) ≡ key.Flawed f → childLook d o n ≡ Faulty f
+  unfolding childLook
+  child-bad e = rw (keyed-flawed (keyFault Header d [] o) _ e)
+
+  pub child-on : {k : Key} → keyed (keyFault Header d [] o) (keyOf d o) ≡ key.Whole k → childLook d o n ≡ nthBelow d k n
+  unfolding childLook
+  child-on e = let w = keyed-whole (keyFault Header d [] o) _ e in rw (w .0, w .1)
+
+  pub look-bad : {f : Flaw} → keyed (keyFault Header d [] o) (keyOf d o) ≡ key.Flawed f → valueLook d o n ≡ Faulty f
+  unfolding valueLook
+  look-bad e = rw (keyed-flawed (keyFault Header d [] o) _ e)
+
+  pub look-on : {k : Key} → keyed (keyFault Header d [] o) (keyOf d o) ≡ key.Whole k → valueLook d o n ≡ nthOf d k n
+  unfolding valueLook
+  look-on e = let w = keyed-whole (keyFault Header d [] o) _ e in rw (w .0, w .1)
+
+  pub subkey-bad : {f : Flaw} → childLook d o n ≡ Faulty f → subkeyIn d o n ≡ Refused (refusalOf f)
+  unfolding subkeyIn
+  subkey-bad e = rw e
+
+  pub subkey-none : childLook d o n ≡ Missing → subkeyIn d o n ≡ NoMore
+  unfolding subkeyIn
+  subkey-none e = rw e
+
+  pub subkey-is : {c : Offset} → childLook d o n ≡ Found c → subkeyIn d o n ≡ memberWhere (keyFault Header d [] c) (entryOf c (keyOf d c .name))
+  unfolding subkeyIn
+  subkey-is e = rw e
+
+  module _ (minor : ℕ) where
+    pub in-bad : {f : Flaw} → valueLook d o n ≡ Faulty f → valueIn d minor o n ≡ Refused (refusalOf f)
+    unfolding valueIn
+    in-bad e = rw e
+
+    pub in-none : valueLook d o n ≡ Missing → valueIn d minor o n ≡ NoMore
+    unfolding valueIn
+    in-none e = rw e
+
+    pub in-is : {v : Offset} → valueLook d o n ≡ Found v → valueIn d minor o n ≡ memberWhere (valueFault Header d [] v) (entryOf v (valueOf d minor v .name))
+    unfolding valueIn
+    in-is e = rw e
+
+-- in a hive
+module _ (h : List ℕ) (o : Offset) where
+  module _ {f : Flaw} (e : baseFault h ≡ Flawed f) where
+    pub subkey-stop : (n : ℕ) → subkeyAnswer h o n ≡ Refused (refusalOf f)
+    unfolding subkeyAnswer
+    subkey-stop n = rw e
+
+    pub value-stop : (n : ℕ) → valueAnswer h o n ≡ Refused (refusalOf f)
+    unfolding valueAnswer
+    value-stop n = rw e
+
+    pub info-stop : infoAnswer h o ≡ found.Refused (refusalOf f)
+    unfolding infoAnswer
+    info-stop = ap (λ (v : Verdict). infoWhere v (infoOf (valueOf (binsData h) (minorOf (sector h)) o))) (stop _ _ e)
+
+  module _ (e : baseFault h ≡ Sound) where
+    pub subkey-in : (n : ℕ) → subkeyAnswer h o n ≡ subkeyIn (binsData h) o n
+    unfolding subkeyAnswer
+    subkey-in n = rw e
+
+    pub value-in : (n : ℕ) → valueAnswer h o n ≡ valueIn (binsData h) (minorOf (sector h)) o n
+    unfolding valueAnswer
+    value-in n = rw e
+
+    pub info-in : infoAnswer h o
+        ≡ infoWhere (wholeValueFault Header (binsData h) [] (minorOf (sector h)) o) (infoOf (valueOf (binsData h) (minorOf (sector h)) o))
+    unfolding infoAnswer
+    info-in = ap (λ (v : Verdict). infoWhere v (infoOf (valueOf (binsData h) (minorOf (sector h)) o))) (on _ _ e)

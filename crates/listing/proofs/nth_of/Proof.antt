@@ -1,0 +1,43 @@
+use Rattle.listing.proofs.Members.{list-bad, values-room, value-there, value-none}
+use mathlib.Core.Path.{sym, _∙_}
+use native.Mathlib.Omega.{arith}
+use borrow.Author.Needs.{needs}
+use Rattle.listing.proofs.nth_of.Statement.{statement}
+use Rattle.listing.proofs.nth_of.Tie as tie
+
+slice-aggregate-value-list : tie.Need-slice-aggregate-value-list
+slice-aggregate-value-list c = search needs
+
+value-list-requires : tie.Need-value-list-requires
+value-list-requires c κs = search needs
+
+enum-known-f : tie.Need-enum-known-f
+enum-known-f c = search needs
+
+enum-known-e : tie.Need-enum-known-e
+enum-known-e c = search needs
+
+entry-requires : tie.Need-entry-requires
+entry-requires c κs = (values-room _ _ (c .before .before .before .before .before .before .before .before .args .n) (sym (c .before .before .before .before .before .value-list .ensures) ∙ c .before .before .before .e .given .1), c .if1 .taken)
+
+returns : tie.Need-returns
+returns c = sym (list-bad _ _ _ (sym (c .before .before .before .value-list .ensures) ∙ c .before .f .given .1))
+
+returns-2 : tie.Need-returns-2
+returns-2 c = sym (value-there _ _ _ (sym (c .before .before .before .before .before .before .value-list .ensures) ∙ c .before .before .before .before .e .given .1) (c .before .if1 .taken) (c .entry .ensures))
+
+returns-3 : tie.Need-returns-3
+returns-3 c = sym (value-none _ _ _ (sym (c .before .before .before .before .before .value-list .ensures) ∙ c .before .before .before .e .given .1) (omega arith))
+
+pub nth-of-spec : {M : Type 1} → statement M
+nth-of-spec =
+    tie.close
+    (tie.spec
+    slice-aggregate-value-list
+    value-list-requires
+    enum-known-f
+    enum-known-e
+    entry-requires
+    returns
+    returns-2
+    returns-3)

@@ -1,0 +1,91 @@
+-- What a key holds, one by one, for a host that lists it. The tests are lookup's, in its order: 1 to 7; the key's own record; its list's head; "one leaf of
+-- an `ri` at a time", each tested when it is reached, up to the one that has the element; then the element's own record. Each is tested "only for 11
+-- and 12 (not order, hash, parent or total)". h is the hive, d its bins data, o the key's offset, n counts from 0.
+use Prim.Native.Nat.{ℕ, _+_, _-_}
+use mathlib.Core.Bool.{cond}
+use mathlib.Core.List.{List, [], _∷_}
+use lib.Dec.{eqb, leb}
+use lib.ListN.{length, getD}
+use Rattle.fields.specs.declared.Offset.{Offset}
+use Rattle.fields.specs.declared.Verdict.{Verdict}
+use Rattle.fields.specs.declared.Verdict.the-variants.{Sound, Flawed}
+use Rattle.fields.specs.Faults.{nowhere, refusalOf, _next_}
+use Rattle.base.specs.Block.{sector, minorOf, binsData, baseFault}
+use Rattle.cells.specs.declared.Rule.the-variants.{Header}
+use Rattle.cells.specs.Named.{dataAt}
+use Rattle.records.specs.declared.Key.{Key}
+use Rattle.records.specs.declared.Name.{Name}
+use Rattle.records.specs.Keys.{keyFault, keyOf}
+use Rattle.records.specs.Lists.{leafFault, headFault, leafChildren, leavesOf}
+use Rattle.records.specs.Places.{noChild}
+use Rattle.values.specs.Records.{valueFault, valueOf}
+use Rattle.values.specs.Lists.{valuesOf, valueListFault, wholeValueFault}
+use Rattle.lookup.specs.declared.Look.{Look}
+use Rattle.lookup.specs.declared.Look.the-variants.{Found, Missing, Faulty}
+use Rattle.lookup.specs.declared.ValueFound.{ValueFound}
+use Rattle.lookup.specs.Search.{onSound}
+use Rattle.lookup.specs.Answers.{infoOf, infoWhere}
+use Rattle.listing.specs.declared.Entry.{Entry}
+use Rattle.listing.specs.declared.Member.{Member}
+use Rattle.listing.specs.declared.Member.the-variants.{At, NoMore, Refused}
+
+-- a record that a list names, and where in the file its name stands
+unfoldable pub entryOf : Offset → Name → Entry
+entryOf o n = record { at = o; name = record { 0 = n .at + 4096 }; len = n .len; narrow = n .narrow }
+
+abbrev pub memberWhere : Verdict → Entry → Member
+memberWhere Sound e = At e
+memberWhere (Flawed f) e = Refused (refusalOf f)
+
+-- what is named, past the end "no more", or the fault on the way
+abbrev pub memberOf : Look → (Offset → Member) → Member
+memberOf (Found o) go = go o
+memberOf Missing go = NoMore
+memberOf (Faulty f) go = Refused (refusalOf f)
+
+-- a hive's own tests, 1 to 7, then what follows them
+abbrev pub inHive : Verdict → Member → Member
+inHive Sound a = a
+inHive (Flawed f) a = Refused (refusalOf f)
+
+-- element n of the elements of some leaves: in the first leaf if that has so many, else the rest are counted from its end on
+unfoldable pub nthIn : List ℕ → List Offset → ℕ → Look
+nthIn d [] n = Missing
+nthIn d (l ∷ ls) n =
+    let cs = leafChildren (dataAt d l) in
+    onSound (leafFault Header d [] l) (cond (leb (length cs) n) (nthIn d ls (n - length cs)) (Found (getD cs n noChild .at)))
+
+-- below a key: "The subkey count is only asked whether it is 0"
+unfoldable pub nthBelow : List ℕ → Key → ℕ → Look
+nthBelow d k n = cond (eqb (k .subkeys) 0) Missing (onSound (headFault Header d [] (k .list)) (nthIn d (leavesOf d (k .list)) n))
+
+unfoldable pub childLook : List ℕ → Offset → ℕ → Look
+childLook d o n = onSound (keyFault Header d [] o) (nthBelow d (keyOf d o) n)
+
+unfoldable pub subkeyIn : List ℕ → Offset → ℕ → Member
+subkeyIn d o n = memberOf (childLook d o n) (λ c. memberWhere (keyFault Header d [] c) (entryOf c (keyOf d c .name)))
+
+-- nth_subkey
+unfoldable pub subkeyAnswer : List ℕ → Offset → ℕ → Member
+subkeyAnswer h o n = inHive (baseFault h) (subkeyIn (binsData h) o n)
+
+-- value n of a key
+unfoldable pub nthOf : List ℕ → Key → ℕ → Look
+nthOf d k n = onSound (valueListFault Header d [] k) (cond (leb (length (valuesOf d k)) n) Missing (Found (getD (valuesOf d k) n nowhere)))
+
+unfoldable pub valueLook : List ℕ → Offset → ℕ → Look
+valueLook d o n = onSound (keyFault Header d [] o) (nthOf d (keyOf d o) n)
+
+unfoldable pub valueIn : List ℕ → ℕ → Offset → ℕ → Member
+valueIn d minor o n = memberOf (valueLook d o n) (λ v. memberWhere (valueFault Header d [] v) (entryOf v (valueOf d minor v .name)))
+
+-- nth_value
+unfoldable pub valueAnswer : List ℕ → Offset → ℕ → Member
+valueAnswer h o n = inHive (baseFault h) (valueIn (binsData h) (minorOf (sector h)) o n)
+
+-- info_at: as `value_info` answers for the value that it finds
+unfoldable pub infoAnswer : List ℕ → Offset → ValueFound
+infoAnswer h v =
+    let d = binsData h in
+    let minor = minorOf (sector h) in
+    infoWhere (baseFault h next wholeValueFault Header d [] minor v) (infoOf (valueOf d minor v))

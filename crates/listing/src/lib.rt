@@ -1,0 +1,211 @@
+// What a key holds, one by one: its subkeys and its values in the order of their lists, each with its name; and the facts of a value by its offset. There
+// is no work map: an offset names a cell by the cell's own header.
+use cells::Rule;
+use fields::Flaw;
+use fields::Offset;
+use fields::Place;
+use fields::Refusal;
+use fields::Verdict;
+use lookup::Look;
+use lookup::ValueFound;
+use records::Headed;
+use records::Key;
+use records::Keyed;
+use records::Leafed;
+use records::Leaves;
+use records::Name;
+use values::Entries;
+use values::Listing;
+use values::Valued;
+ghost use mathlib.Core.Path.{_≡_};
+ghost use mathlib.Core.List.{[]};
+ghost use Prim.Native.Nat.{_≤_};
+ghost use lib.ListN.{length};
+ghost use Rattle.base.specs.Block.{binsLimit};
+ghost use Rattle.cells.specs.declared.Rule.the-variants.{Header};
+ghost use Rattle.records.specs.Keys.{keyFault, keyOf};
+ghost use Rattle.records.specs.Places.{LeavesLie, leavesNamed};
+ghost use Rattle.values.specs.Records.{valueFault, valueOf};
+ghost use Rattle.listing.specs.Members.{entryOf, memberWhere, nthIn, nthBelow, childLook, subkeyIn, subkeyAnswer, nthOf, valueLook, valueIn, valueAnswer, infoAnswer};
+
+// A key or a value that a list names, and where its name stands in the file: `len` bytes from `name` on, one for each character if narrow, else UTF-16LE.
+pub struct Entry {
+    pub at: Offset,
+    pub name: Place,
+    pub len: usize,
+    pub narrow: bool,
+}
+
+pub enum Member {
+    At(Entry),
+    NoMore,
+    Refused(Refusal),
+}
+
+fn entry_of(o: Offset, n: Name) -> Entry
+    requires { ⌜ n .at ≤ binsLimit ⌝ }
+    ensures { λ r. ⌜ r ≡ entryOf o n ⌝ }
+{
+    Entry {
+        at: o,
+        name: Place(n.at + 4096),
+        len: n.len,
+        narrow: n.narrow,
+    }
+}
+
+// A key by its offset.
+fn key_entry(bins: &[u8], o: Offset) -> Member
+    requires { ⌜ length (now bins) ≤ binsLimit ⌝ }
+    ensures { λ r. ⌜ r ≡ memberWhere (keyFault Header (now (bins .entry)) [] o) (entryOf o (keyOf (now (bins .entry)) o .name)) ⌝ }
+{
+    match records::key_at(bins, b"", Rule::Header, o) {
+        Keyed::Flawed(f) => Member::Refused(fields::refused(f)),
+        Keyed::Whole(k) => {
+            let name = k.name;
+            Member::At(entry_of(o, name))
+        }
+    }
+}
+
+// Element n of the leaves. Each leaf is tested when it is reached, and those before the element's own are only counted.
+fn nth_in(bins: &[u8], ls: Leaves, n: usize) -> Look
+    requires { ⌜ LeavesLie (now bins) ls ⌝ }
+    ensures { λ r. ⌜ r ≡ nthIn (now (bins .entry)) (leavesNamed (now (bins .entry)) ls) n ⌝ }
+{
+    let count = ls.count;
+    let mut left = n;
+    let mut j: usize = 0;
+    while j < count {
+        let o = records::leaf_offset(bins, ls, j);
+        match records::leaf_at(bins, b"", Rule::Header, o) {
+            Leafed::Flawed(f) => {
+                return Look::Faulty(f);
+            }
+            Leafed::Whole(leaf) => {
+                let here = leaf.count;
+                if left < here {
+                    let c = records::child_of(bins, leaf, left);
+                    let at = c.at;
+                    return Look::Found(at);
+                }
+                left -= here;
+            }
+        }
+        j += 1;
+    }
+    Look::Missing
+}
+
+// Subkey n of a key. The subkey count is only asked whether it is 0, as in a search.
+fn nth_below(bins: &[u8], k: Key, n: usize) -> Look
+    ensures { λ r. ⌜ r ≡ nthBelow (now (bins .entry)) k n ⌝ }
+{
+    if k.subkeys == 0 {
+        return Look::Missing;
+    }
+    let list = k.list;
+    match records::head_at(bins, b"", Rule::Header, list) {
+        Headed::Flawed(f) => Look::Faulty(f),
+        Headed::Whole(ls) => nth_in(bins, ls, n),
+    }
+}
+
+fn child_look(bins: &[u8], key: Offset, n: usize) -> Look
+    ensures { λ r. ⌜ r ≡ childLook (now (bins .entry)) key n ⌝ }
+{
+    match records::key_at(bins, b"", Rule::Header, key) {
+        Keyed::Flawed(f) => Look::Faulty(f),
+        Keyed::Whole(k) => nth_below(bins, k, n),
+    }
+}
+
+fn subkey_in(bins: &[u8], key: Offset, n: usize) -> Member
+    requires { ⌜ length (now bins) ≤ binsLimit ⌝ }
+    ensures { λ r. ⌜ r ≡ subkeyIn (now (bins .entry)) key n ⌝ }
+{
+    match child_look(bins, key, n) {
+        Look::Faulty(f) => Member::Refused(fields::refused(f)),
+        Look::Missing => Member::NoMore,
+        Look::Found(c) => key_entry(bins, c),
+    }
+}
+
+// Subkey n of the key at an offset, from 0 on.
+pub fn nth_subkey(hive: &[u8], key: Offset, n: usize) -> Member
+    ensures { λ r. ⌜ r ≡ subkeyAnswer (now (hive .entry)) key n ⌝ }
+{
+    match base::base_flaw(hive) {
+        Verdict::Flawed(f) => Member::Refused(fields::refused(f)),
+        Verdict::Sound => subkey_in(lookup::bins_of(hive), key, n),
+    }
+}
+
+// A value by its offset.
+fn value_entry(bins: &[u8], minor: u32, v: Offset) -> Member
+    requires { ⌜ length (now bins) ≤ binsLimit ⌝ }
+    ensures { λ r. ⌜ r ≡ memberWhere (valueFault Header (now (bins .entry)) [] v) (entryOf v (valueOf (now (bins .entry)) minor v .name)) ⌝ }
+{
+    match values::value_at(bins, b"", Rule::Header, minor, v) {
+        Valued::Flawed(f) => Member::Refused(fields::refused(f)),
+        Valued::Whole(x) => {
+            let name = x.name;
+            Member::At(entry_of(v, name))
+        }
+    }
+}
+
+fn nth_of(bins: &[u8], k: Key, n: usize) -> Look
+    ensures { λ r. ⌜ r ≡ nthOf (now (bins .entry)) k n ⌝ }
+{
+    match values::value_list(bins, b"", Rule::Header, k) {
+        Listing::Flawed(f) => Look::Faulty(f),
+        Listing::Whole(e) => {
+            if n < e.count {
+                Look::Found(values::entry(bins, e, n))
+            } else {
+                Look::Missing
+            }
+        }
+    }
+}
+
+fn value_look(bins: &[u8], key: Offset, n: usize) -> Look
+    ensures { λ r. ⌜ r ≡ valueLook (now (bins .entry)) key n ⌝ }
+{
+    match records::key_at(bins, b"", Rule::Header, key) {
+        Keyed::Flawed(f) => Look::Faulty(f),
+        Keyed::Whole(k) => nth_of(bins, k, n),
+    }
+}
+
+fn value_in(bins: &[u8], minor: u32, key: Offset, n: usize) -> Member
+    requires { ⌜ length (now bins) ≤ binsLimit ⌝ }
+    ensures { λ r. ⌜ r ≡ valueIn (now (bins .entry)) minor key n ⌝ }
+{
+    match value_look(bins, key, n) {
+        Look::Faulty(f) => Member::Refused(fields::refused(f)),
+        Look::Missing => Member::NoMore,
+        Look::Found(v) => value_entry(bins, minor, v),
+    }
+}
+
+// Value n of the key at an offset, from 0 on.
+pub fn nth_value(hive: &[u8], key: Offset, n: usize) -> Member
+    ensures { λ r. ⌜ r ≡ valueAnswer (now (hive .entry)) key n ⌝ }
+{
+    match base::base_flaw(hive) {
+        Verdict::Flawed(f) => Member::Refused(fields::refused(f)),
+        Verdict::Sound => value_in(lookup::bins_of(hive), lookup::minor_of(hive), key, n),
+    }
+}
+
+// The facts of the value at an offset, for all three cases of data.
+pub fn info_at(hive: &[u8], v: Offset) -> ValueFound
+    ensures { λ r. ⌜ r ≡ infoAnswer (now (hive .entry)) v ⌝ }
+{
+    match base::base_flaw(hive) {
+        Verdict::Flawed(f) => ValueFound::Refused(fields::refused(f)),
+        Verdict::Sound => lookup::info_at(lookup::bins_of(hive), lookup::minor_of(hive), v),
+    }
+}
