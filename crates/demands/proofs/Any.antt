@@ -19,6 +19,7 @@ use Rattle.tree.proofs.Tells.{check-tells}
 use Rattle.tree.proofs.Maps.{map-untouched, map-zero, map-complete, map-beyond}
 use Rattle.lookup.proofs.Agree.{refused-untouched}
 use Rattle.lookup.proofs.Refusals.{find-refuses, info-refuses, view-refuses, copy-refuses}
+use Rattle.listing.proofs.Any.{subkey-refuses, value-refuses, info-refuses as at-refuses}
 use Rattle.old_log.specs.Layout.{mapSize, isLogged, logBins, loggedCount, dirt}
 use Rattle.old_log.specs.Tests.{isLogBase, pagesFit, headFault, logFault, stampsAgree, allIn}
 use Rattle.recovery.specs.declared.Started.{Started}
@@ -135,6 +136,9 @@ demand1 =
       info-place = λ h us x r e. info-refuses h us x e;
       view-place = λ h us x r e. view-refuses h us x e;
       copy-place = λ h us x n r e. copy-refuses h us x n e;
+      subkey-place = λ h o n r e. subkey-refuses h o n e;
+      nth-place = λ h o n r e. value-refuses h o n e;
+      at-place = λ h v r e. at-refuses h v e;
       start-place = start-place;
       page-place = page-place;
       close-place = close-place;

@@ -1,14 +1,15 @@
 -- Demand 1. "Any bytes get an answer. Whatever is given as hive, log, path or name: every entry point tests its own input."
 --
 -- Every public call's contract is an equation, for all lists of bytes and with no condition on them: what it answers is `checkAnswer h m`, `findAnswer h us`,
--- `infoAnswer h us x`, `viewAnswer h us x`, `copyAnswer h us x n`, `startAnswer h l`, `pageAnswer h l p`, `closeAnswer h l` and `nextAnswer l from`. These are
--- total functions, so there is an answer. What is left to say is what a refusal is.
+-- `infoAnswer h us x`, `viewAnswer h us x`, `copyAnswer h us x n`, `subkeyAnswer h o n`, `valueAnswer h o n`, `infoAt h v`, `startAnswer h l`, `pageAnswer h l p`,
+-- `closeAnswer h l` and `nextAnswer l from`. These are total functions, so there is an answer. What is left to say is what a refusal is.
 use Prim.Native.Nat.{ℕ, _/_, _≤_}
 use mathlib.Core.Path.{_≡_}
 use mathlib.Core.List.{List}
 use lib.ListN.{length, drop}
 use Rattle.fields.specs.declared.Fault.{Fault}
 use Rattle.fields.specs.declared.Flaw.{Flaw}
+use Rattle.fields.specs.declared.Offset.{Offset}
 use Rattle.fields.specs.declared.Refusal.{Refusal}
 use Rattle.fields.specs.declared.Verdict.the-variants.{Sound, Flawed}
 use Rattle.fields.specs.Faults.{numberOf, refusalOf}
@@ -27,6 +28,8 @@ use Rattle.lookup.specs.declared.KeyFound.the-variants as key
 use Rattle.lookup.specs.declared.ValueFound.the-variants as value
 use Rattle.lookup.specs.Answers.{findAnswer, infoAnswer, viewAnswer, copyAnswer, copyOut}
 use Rattle.lookup.proofs.Refusals.{OfKey, OfValue, OfView, OfCopy}
+use Rattle.listing.specs.declared.Member.the-variants as member
+use Rattle.listing.specs.Members.{subkeyAnswer, valueAnswer, infoAnswer as infoAt}
 use Rattle.recovery.specs.declared.Started.the-variants as started
 use Rattle.recovery.specs.declared.Stepped.the-variants as stepped
 use Rattle.recovery.specs.Calls.{startAnswer, pageAnswer, pageHive, closeAnswer, closeHive}
@@ -40,6 +43,9 @@ pub record Demand1 : Type 0 where
   pub info-place : (h us x : List ℕ) (r : Refusal) → infoAnswer h us x ≡ value.Refused r → OfValue r
   pub view-place : (h us x : List ℕ) (r : Refusal) → viewAnswer h us x ≡ value.Refused r → OfView r
   pub copy-place : (h us x : List ℕ) (n : ℕ) (r : Refusal) → copyAnswer h us x n ≡ copied.Refused r → OfCopy r
+  pub subkey-place : (h : List ℕ) (o : Offset) (n : ℕ) (r : Refusal) → subkeyAnswer h o n ≡ member.Refused r → OfKey r
+  pub nth-place : (h : List ℕ) (o : Offset) (n : ℕ) (r : Refusal) → valueAnswer h o n ≡ member.Refused r → OfKey r
+  pub at-place : (h : List ℕ) (v : Offset) (r : Refusal) → infoAt h v ≡ value.Refused r → OfKey r
   pub start-place : (h l : List ℕ) (r : Refusal) → startAnswer h l ≡ started.Refused r → r .place .0 ≡ 0
   pub page-place : (h l : List ℕ) (p : ℕ) (r : Refusal) → pageAnswer h l p ≡ stepped.Refused r → r .place .0 ≡ 0
   pub close-place : (h l : List ℕ) (r : Refusal) → closeAnswer h l ≡ stepped.Refused r → r .place .0 ≡ 0

@@ -4,6 +4,7 @@ use Prim.Native.Nat.{ℕ}
 use mathlib.Core.Path.{_≡_}
 use mathlib.Core.List.{List}
 use lib.ListN.{length}
+use Rattle.fields.specs.declared.Offset.{Offset}
 use Rattle.cells.specs.declared.Surveyed.{Surveyed}
 use Rattle.cells.specs.Survey.{surveyAnswer, mapLeft}
 use Rattle.tree.specs.declared.Checked.{Checked}
@@ -12,6 +13,8 @@ use Rattle.lookup.specs.declared.KeyFound.{KeyFound}
 use Rattle.lookup.specs.declared.ValueFound.{ValueFound}
 use Rattle.lookup.specs.declared.Copied.{Copied}
 use Rattle.lookup.specs.Answers.{findAnswer, infoAnswer, viewAnswer, viewBytes, copyAnswer, copyOut}
+use Rattle.listing.specs.declared.Member.{Member}
+use Rattle.listing.specs.Members.{subkeyAnswer, valueAnswer, infoAnswer as infoAt}
 use Rattle.recovery.specs.declared.Started.{Started}
 use Rattle.recovery.specs.declared.Stepped.{Stepped}
 use Rattle.recovery.specs.declared.NextPage.{NextPage}
@@ -45,6 +48,9 @@ pub record Unique : Type 0 where
   pub view-info : (h us x : List ℕ) (r r′ : ValueFound) → r ≡ viewAnswer h us x → r′ ≡ viewAnswer h us x → r ≡ r′
   pub value-view : (h us x s s′ : List ℕ) → s ≡ viewBytes h us x → s′ ≡ viewBytes h us x → s ≡ s′
   pub value-copy : (h us x out : List ℕ) → Determines (Copies h us x out)
+  pub nth-subkey : (h : List ℕ) (o : Offset) (n : ℕ) (r r′ : Member) → r ≡ subkeyAnswer h o n → r′ ≡ subkeyAnswer h o n → r ≡ r′
+  pub nth-value : (h : List ℕ) (o : Offset) (n : ℕ) (r r′ : Member) → r ≡ valueAnswer h o n → r′ ≡ valueAnswer h o n → r ≡ r′
+  pub info-at : (h : List ℕ) (v : Offset) (r r′ : ValueFound) → r ≡ infoAt h v → r′ ≡ infoAt h v → r ≡ r′
   pub start : (h l : List ℕ) (r r′ : Started) → r ≡ startAnswer h l → r′ ≡ startAnswer h l → r ≡ r′
   pub page : (h l : List ℕ) (p : ℕ) → Determines (Pages h l p)
   pub close : (h l : List ℕ) → Determines (Closes h l)
