@@ -45,7 +45,8 @@ extern "C" {
 HIVE_ASSERT(sizeof(size_t) == 8); /* x86-64 only */
 
 /* Part of every answer. number: 0, or the refusal's number. place: the refusal's place. key: 0xFFFFFFFF, always, in this
- * version; a later one may name the key under examination. value: the offset of the key found by hive_find_key, else 0.
+ * version; a later one may name the key under examination. value: the offset of the key or value that hive_find_key,
+ * hive_nth_subkey or hive_nth_value found, else 0.
  * Where number is not 0, every other field of the answer but place and key is 0.
  */
 typedef struct {
@@ -105,6 +106,24 @@ typedef struct {
 HIVE_ASSERT(offsetof(HiveCopy, answer) == 0);
 HIVE_ASSERT(offsetof(HiveCopy, length) == 16);
 HIVE_ASSERT(sizeof(HiveCopy) == 24);
+
+/* A subkey or a value of a key. state: 0 refused, 1 no more, 2 there; then answer.value is its offset. name: the place in the
+ * file where its name stands, so hive + name in memory. length: how many bytes the name has. narrow: 1 where each byte is a
+ * character, 0 where the name is UTF-16LE.
+ */
+typedef struct {
+    HiveAnswer answer;
+    uint64_t state;
+    uint64_t name;
+    uint64_t length;
+    uint64_t narrow;
+} HiveMember;
+HIVE_ASSERT(offsetof(HiveMember, answer) == 0);
+HIVE_ASSERT(offsetof(HiveMember, state) == 16);
+HIVE_ASSERT(offsetof(HiveMember, name) == 24);
+HIVE_ASSERT(offsetof(HiveMember, length) == 32);
+HIVE_ASSERT(offsetof(HiveMember, narrow) == 40);
+HIVE_ASSERT(sizeof(HiveMember) == 48);
 
 /* An answer of recovery. state: 0 refused, 1 the hive is clean and nothing was changed, 2 accepted or done.
  * pages: the number of pages that the log holds, where hive_recover_start accepts it, else 0.
@@ -169,6 +188,21 @@ HiveValue hive_value_view(const uint8_t *hive, size_t hive_len, const uint16_t *
  * then 20 where `out` is shorter than the data. A refusal leaves `out` as it was. 1,048,576 bytes are enough for any value.
  */
 HiveCopy hive_value_copy(const uint8_t *hive, size_t hive_len, const uint16_t *path, size_t path_len, const uint16_t *name, size_t name_len, uint8_t *out, size_t out_len);
+
+/* Subkey n, from 0 on, of the key at an offset, in the order of its lists. Start with 0, and go on with n + 1 until state 1. A
+ * hive that the check refuses can be asked too, and any offset. Refuses 1 to 7, then 11 and 12 of the records on the way.
+ */
+HiveMember hive_nth_subkey(const uint8_t *hive, size_t hive_len, uint32_t key, size_t n);
+
+/* Value n, from 0 on, of the key at an offset, in the order of its value list. A name of no bytes is the unnamed value's.
+ * Refuses as hive_nth_subkey does.
+ */
+HiveMember hive_nth_value(const uint8_t *hive, size_t hive_len, uint32_t key, size_t n);
+
+/* The type, form, place and length of the data of the value at an offset, as hive_value_info answers. Refuses 1 to 7, then 11
+ * and 12 of the value and of its data.
+ */
+HiveValue hive_value_at(const uint8_t *hive, size_t hive_len, uint32_t value);
 
 /* Whether an old-format log (file type 1 or 2) repairs this hive. A hive that needs no repair answers state 1, whatever the
  * log. Refuses 1, 21, 22, 23, 22, 24, 25, in this order.

@@ -123,6 +123,26 @@ static HiveValue asked(const uint8_t *file, size_t length, const char *path, con
     return v;
 }
 
+/* A member as it must be: refused or at the end it says nothing, and a name lies in the file. */
+static HiveMember sound(HiveMember m, size_t length)
+{
+    EXPECT(m.answer.key == NO_KEY && m.state <= 2 && m.narrow <= 1 && (m.state == 0) == (m.answer.number != 0));
+    EXPECT(m.state == 2 ? m.name + m.length <= length : m.answer.value + m.name + m.length + m.narrow == 0);
+    return m;
+}
+
+/* All subkeys and values of a key, and below the keys all of theirs, to some depth. How many there are of both. */
+static size_t members(const uint8_t *h, size_t length, uint32_t key, int depth)
+{
+    size_t count = 0, n;
+    HiveMember m;
+    for (n = 0; n < 100 && (m = sound(hive_nth_subkey(h, length, key, n), length)).state == 2; n++)
+        count += 1 + (depth > 0 ? members(h, length, m.answer.value, depth - 1) : 0);
+    for (n = 0; n < 100 && (m = sound(hive_nth_value(h, length, key, n), length)).state == 2; n++)
+        count += hive_value_at(h, length, m.answer.value).answer.key == NO_KEY;
+    return count;
+}
+
 static void t_nothing(void)
 {
     EXPECT(hive_abi() == 1);
@@ -131,6 +151,9 @@ static void t_nothing(void)
     EXPECT(is(hive_value_info(NULL, 0, NULL, 0, NULL, 0).answer, 1, 0));
     EXPECT(is(hive_value_view(NULL, 0, NULL, 0, NULL, 0).answer, 1, 0));
     EXPECT(is(hive_value_copy(NULL, 0, NULL, 0, NULL, 0, NULL, 0).answer, 1, 0));
+    EXPECT(is(hive_nth_subkey(NULL, 0, 32, 0).answer, 1, 0));
+    EXPECT(is(hive_nth_value(NULL, 0, 32, 0).answer, 1, 0));
+    EXPECT(is(hive_value_at(NULL, 0, 32).answer, 1, 0));
     EXPECT(is(hive_recover_start(NULL, 0, NULL, 0).answer, 1, 0));
     EXPECT(is(hive_recover_page(NULL, 0, NULL, 0, 0).answer, 1, 0));
     EXPECT(is(hive_recover_close(NULL, 0, NULL, 0).answer, 1, 0));
@@ -154,6 +177,11 @@ static void all_calls(const uint8_t *bytes, size_t length)
     EXPECT(hive_value_info(h, length, p, length / 2, p, length / 2).answer.key == NO_KEY);
     EXPECT(hive_value_view(h, length, NULL, 0, p, length / 2).answer.key == NO_KEY);
     EXPECT(hive_value_copy(h, length, NULL, 0, p, length / 2, l, length).answer.key == NO_KEY);
+    for (uint32_t at = 0; at < 3; at++) {
+        EXPECT(hive_nth_subkey(h, length, 32 + 0x7fffffffu * at, at).answer.key == NO_KEY);
+        EXPECT(hive_nth_value(h, length, 32 + 0x7fffffffu * at, at).answer.key == NO_KEY);
+        EXPECT(hive_value_at(h, length, 32 + 0x7fffffffu * at).answer.key == NO_KEY);
+    }
     EXPECT(hive_recover_start(h, length, l, length).answer.key == NO_KEY);
     EXPECT(hive_recover_next(l, length, 0).answer.key == NO_KEY);
     for (size_t page = 0; page < 3; page++)
@@ -223,6 +251,7 @@ static void t_changed(void)
             reseal(file);
         refused += checked(file, n).number != 0;
         found(file, n, "A\\K6");
+        members(lend(0, file, n), n, m.root, 6);
         asked(file, n, "ControlSet001\\Services\\EventLog\\Application\\Print", round % 2 ? "Large" : "Several", data);
     }
     EXPECT(refused > 5000);
@@ -377,6 +406,41 @@ static void t_values(void)
     EXPECT(is(asked(m.file, n, "none", "", data).answer, 17, 0));
 }
 
+/* The keys of a list of three leaves one by one, each where lookup finds it; then the values, and what lies past their ends. */
+static void t_members(void)
+{
+    Made m = sample();
+    size_t n = made_length(&m);
+    const uint8_t *h = lend(0, m.file, n);
+    uint32_t a = found(m.file, n, "a").value;
+    char path[] = "a\\k1";
+    for (size_t i = 0; i < 7; i++, path[3]++) {
+        HiveMember k = sound(hive_nth_subkey(h, n, a, i), n);
+        EXPECT(k.state == 2 && k.answer.value == found(m.file, n, path).value);
+        EXPECT(k.length == 2 && k.narrow == 1 && memcmp(h + k.name, path + 2, 2) == 0);
+    }
+    for (size_t i = 0; i < 3; i++)
+        EXPECT(sound(hive_nth_subkey(h, n, a, i == 0 ? 7 : (size_t)-1 >> (i - 1)), n).state == 1);
+    EXPECT(sound(hive_nth_value(h, n, a, 0), n).state == 1);
+    EXPECT(members(h, n, m.root, 8) == 15 + 10);
+    uint32_t key = found(m.file, n, "controlset001\\services\\eventlog\\application\\print").value;
+    HiveMember v = sound(hive_nth_value(h, n, key, 2), n);
+    EXPECT(v.state == 2 && v.length == 14 && memcmp(h + v.name, "TypesSupported", 14) == 0);
+    HiveValue w = hive_value_at(h, n, v.answer.value);
+    EXPECT(is(w.answer, 0, 0) && w.kind == 4 && w.form == 1 && w.length == 4 && memcmp(h + w.at, "\7\0\0", 4) == 0);
+    EXPECT(sound(hive_nth_value(h, n, key, 1), n).length == 0 && sound(hive_nth_value(h, n, key, 10), n).state == 1);
+    EXPECT(is(hive_value_at(h, n, key).answer, 12, key) && is(hive_value_at(h, n, 4).answer, 11, 4));
+    EXPECT(is(hive_nth_subkey(h, n, v.answer.value, 0).answer, 12, v.answer.value) && is(hive_nth_value(h, n, 0xfffffffc, 0).answer, 11, 0xfffffffc));
+    put16(data_of(&m, a) + 2, 0);
+    uint32_t list = get32(data_of(&m, a) + 28), second = get32(data_of(&m, list) + 8);
+    data_of(&m, second)[0] = 'x';
+    h = lend(0, m.file, n);
+    EXPECT(sound(hive_nth_subkey(h, n, m.root, 0), n).state == 0 && sound(hive_nth_subkey(h, n, m.root, 1), n).state == 2);
+    put16(data_of(&m, a) + 2, 0x20);
+    h = lend(0, m.file, n);
+    EXPECT(sound(hive_nth_subkey(h, n, a, 2), n).state == 2 && is(hive_nth_subkey(h, n, a, 3).answer, 12, second));
+}
+
 /* Data on both sides of a segment, and the largest. */
 static void t_sizes(void)
 {
@@ -489,6 +553,7 @@ int main(void)
     test("level 512 and 513", t_levels);
     test("lookup", t_lookup);
     test("values", t_values);
+    test("members of keys", t_members);
     test("data of many sizes", t_sizes);
     test("a repair", t_repair);
     test("refusals of recovery", t_log_refusals);

@@ -1,6 +1,7 @@
 -- What C is told: the answers' cases, laid flat. "If an answer is an enum, a definition tells you this paper's number and values for each of its
 -- cases. The promises use that definition."
 use Prim.Native.Nat.{ℕ}
+use mathlib.Core.Bool.{Bool, cond}
 use Rattle.fields.specs.declared.Refusal.{Refusal}
 use Rattle.fields.specs.Faults.{numberOf}
 use Rattle.tree.specs.declared.Checked.{Checked}
@@ -13,6 +14,8 @@ use Rattle.lookup.specs.declared.ValueFound.{ValueFound}
 use Rattle.lookup.specs.declared.ValueFound.the-variants as value
 use Rattle.lookup.specs.declared.Copied.{Copied}
 use Rattle.lookup.specs.declared.Copied.the-variants as copy
+use Rattle.listing.specs.declared.Member.{Member}
+use Rattle.listing.specs.declared.Member.the-variants as member
 use Rattle.recovery.specs.declared.Started.{Started}
 use Rattle.recovery.specs.declared.Started.the-variants as start
 use Rattle.recovery.specs.declared.Stepped.{Stepped}
@@ -23,6 +26,7 @@ use Rattle.hive_c.specs.declared.HiveAnswer.{HiveAnswer}
 use Rattle.hive_c.specs.declared.HiveReport.{HiveReport}
 use Rattle.hive_c.specs.declared.HiveValue.{HiveValue}
 use Rattle.hive_c.specs.declared.HiveCopy.{HiveCopy}
+use Rattle.hive_c.specs.declared.HiveMember.{HiveMember}
 use Rattle.hive_c.specs.declared.HiveRecovery.{HiveRecovery}
 use Rattle.hive_c.specs.declared.HivePage.{HivePage}
 
@@ -70,6 +74,19 @@ copyWith a n = record { answer = a; length = n }
 abbrev pub copyIn : Copied → HiveCopy
 copyIn (copy.Done n) = copyWith (granted 0) n
 copyIn (copy.Refused f) = copyWith (refused f) 0
+
+-- one byte for each character, or UTF-16LE
+abbrev pub narrowIn : Bool → ℕ
+narrowIn t = cond t 1 0
+
+abbrev pub memberWith : HiveAnswer → ℕ → ℕ → ℕ → ℕ → HiveMember
+memberWith a s name len narrow = record { answer = a; state = s; name = name; length = len; narrow = narrow }
+
+-- state 0: refused; 1: no more; 2: there
+abbrev pub memberIn : Member → HiveMember
+memberIn (member.Refused f) = memberWith (refused f) 0 0 0 0
+memberIn member.NoMore = memberWith (granted 0) 1 0 0 0
+memberIn (member.At e) = memberWith (granted (e .at .0)) 2 (e .name .0) (e .len) (narrowIn (e .narrow))
 
 abbrev pub recoveryWith : HiveAnswer → ℕ → ℕ → HiveRecovery
 recoveryWith a s n = record { answer = a; state = s; pages = n }

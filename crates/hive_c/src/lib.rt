@@ -28,7 +28,10 @@
 //   12 wrong signature, length, count or name   26 page not marked dirty, or past the bitmap
 //   13 order of names, or lh hash               27 closing, but a logged page is not in yet
 //   14 parent, root listed, total count
+use fields::Offset;
 use fields::Refusal;
+use listing::Entry;
+use listing::Member;
 use lookup::Copied;
 use lookup::Info;
 use lookup::KeyFound;
@@ -43,11 +46,13 @@ ghost use lib.ListN.{length};
 ghost use Rattle.cells.specs.Survey.{mapLeft};
 ghost use Rattle.tree.specs.Tree.{checkAnswer};
 ghost use Rattle.lookup.specs.Answers.{findAnswer, infoAnswer, viewAnswer, copyAnswer, copyOut};
+ghost use Rattle.listing.specs.Members.{subkeyAnswer, valueAnswer, infoAnswer as infoAt};
 ghost use Rattle.recovery.specs.Calls.{startAnswer, pageAnswer, pageHive, closeAnswer, closeHive, nextAnswer};
-ghost use Rattle.hive_c.specs.Flat.{granted as grantedOf, refused as refusedOf, reportIn, keyIn, formOf, valueIn, copyIn, startIn, stepIn, pageIn};
+ghost use Rattle.hive_c.specs.Flat.{granted as grantedOf, refused as refusedOf, reportIn, keyIn, formOf, valueIn, copyIn, narrowIn, memberIn, startIn, stepIn, pageIn};
 
 // Part of every answer. number: 0, or the refusal's number. place: the refusal's place. key: 0xFFFFFFFF, always, in this
-// version; a later one may name the key under examination. value: the offset of the key found by hive_find_key, else 0.
+// version; a later one may name the key under examination. value: the offset of the key or value that hive_find_key,
+// hive_nth_subkey or hive_nth_value found, else 0.
 // Where number is not 0, every other field of the answer but place and key is 0.
 #[repr(C)]
 pub struct HiveAnswer {
@@ -86,6 +91,18 @@ pub struct HiveValue {
 pub struct HiveCopy {
     pub answer: HiveAnswer,
     pub length: u64,
+}
+
+// A subkey or a value of a key. state: 0 refused, 1 no more, 2 there; then answer.value is its offset. name: the place in the
+// file where its name stands, so hive + name in memory. length: how many bytes the name has. narrow: 1 where each byte is a
+// character, 0 where the name is UTF-16LE.
+#[repr(C)]
+pub struct HiveMember {
+    pub answer: HiveAnswer,
+    pub state: u64,
+    pub name: u64,
+    pub length: u64,
+    pub narrow: u64,
 }
 
 // An answer of recovery. state: 0 refused, 1 the hive is clean and nothing was changed, 2 accepted or done.
@@ -285,6 +302,73 @@ pub extern "C" fn hive_value_copy(
     ensures { λ _. ⌜ now (out .exit) ≡ copyOut (now (hive .entry)) (now (path .entry)) (now (name .entry)) (now (out .entry)) ⌝ }
 {
     copied(lookup::value_copy(hive, path, name, out))
+}
+
+fn narrow_of(narrow: bool) -> u64
+    ensures { λ r. ⌜ r ≡ narrowIn narrow ⌝ }
+{
+    if narrow { 1 } else { 0 }
+}
+
+fn member_facts(e: Entry) -> HiveMember
+    ensures { λ r. ⌜ r ≡ memberIn (Member.At e) ⌝ }
+{
+    HiveMember {
+        answer: granted(e.at.0),
+        state: 2,
+        name: e.name.0 as u64,
+        length: e.len as u64,
+        narrow: narrow_of(e.narrow),
+    }
+}
+
+fn member(m: Member) -> HiveMember
+    ensures { λ r. ⌜ r ≡ memberIn m ⌝ }
+{
+    match m {
+        Member::At(e) => member_facts(e),
+        Member::NoMore => HiveMember {
+            answer: granted(0),
+            state: 1,
+            name: 0,
+            length: 0,
+            narrow: 0,
+        },
+        Member::Refused(f) => HiveMember {
+            answer: refused(f),
+            state: 0,
+            name: 0,
+            length: 0,
+            narrow: 0,
+        },
+    }
+}
+
+// Subkey n, from 0 on, of the key at an offset, in the order of its lists. Start with 0, and go on with n + 1 until state 1. A
+// hive that the check refuses can be asked too, and any offset. Refuses 1 to 7, then 11 and 12 of the records on the way.
+#[no_mangle]
+pub extern "C" fn hive_nth_subkey(hive: &[u8], key: u32, n: usize) -> HiveMember
+    ensures { λ r. ⌜ r ≡ memberIn (subkeyAnswer (now (hive .entry)) (record { 0 = key }) n) ⌝ }
+{
+    member(listing::nth_subkey(hive, Offset(key), n))
+}
+
+// Value n, from 0 on, of the key at an offset, in the order of its value list. A name of no bytes is the unnamed value's.
+// Refuses as hive_nth_subkey does.
+#[no_mangle]
+pub extern "C" fn hive_nth_value(hive: &[u8], key: u32, n: usize) -> HiveMember
+    ensures { λ r. ⌜ r ≡ memberIn (valueAnswer (now (hive .entry)) (record { 0 = key }) n) ⌝ }
+{
+    member(listing::nth_value(hive, Offset(key), n))
+}
+
+// The type, form, place and length of the data of the value at an offset, as hive_value_info answers. Refuses 1 to 7, then 11
+// and 12 of the value and of its data.
+#[no_mangle]
+pub extern "C" fn hive_value_at(hive: &[u8], value: u32) -> HiveValue
+    ensures { λ r. ⌜ r ≡ valueIn (infoAt (now (hive .entry)) (record { 0 = value })) ⌝ }
+{
+    value_answer(listing::info_at(hive, Offset(value)))
 }
 
 fn started(s: Started) -> HiveRecovery
