@@ -38,9 +38,9 @@ build_library() {
 build_tool() {
     if [ ! -x "$out/hive" ] || [ "$library" -nt "$out/hive" ] || [ -n "$(find "$top/host" "$top/include" -newer "$out/hive" -type f | head -n 1)" ]; then
         : >"$out/log"
-        for part in main files text explain repair; do
+        for part in main files text explain list repair; do
             compile "$top/host/$part.c" "$out/$part.o" || return 1
         done
-        link "$out/hive.new" "$out/main.o" "$out/files.o" "$out/text.o" "$out/explain.o" "$out/repair.o" && mv "$out/hive.new" "$out/hive"
+        link "$out/hive.new" "$out/main.o" "$out/files.o" "$out/text.o" "$out/explain.o" "$out/list.o" "$out/repair.o" && mv "$out/hive.new" "$out/hive"
     fi
 }

@@ -34,11 +34,15 @@ int write_new(const char *path, Bytes bytes);
 int path_units(const char *text, Units *out);
 int name_units(const char *text, Units *out);
 void print_value(uint32_t kind, Bytes data);
+void print_name(Bytes name, bool narrow);
 
 /* explain.c */
 int explain(const char *number);
 int refusal(const char *file, const char *log, HiveAnswer answer);
 int report(const char *file, Bytes hive);
+
+/* list.c */
+int list(const char *file, Bytes hive, uint32_t key);
 
 /* repair.c */
 int repair(int count, char **words);

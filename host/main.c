@@ -8,6 +8,7 @@
 static const char HELP[] =
     "usage: hive check FILE                       is the hive sound?\n"
     "       hive key FILE PATH                    where is a key?\n"
+    "       hive ls FILE [PATH]                   what does a key hold?\n"
     "       hive value FILE PATH NAME [OUT]       shows a value's data, or writes them to the new file OUT\n"
     "       hive repair [--dry-run] [--backup COPY] FILE LOG\n"
     "                                             repairs the hive in place with its old-format log\n"
@@ -17,7 +18,8 @@ static const char HELP[] =
     "PATH is a key's path below the root, as ControlSet001\\Services\\EventLog: backslashes may be doubled, and one\n"
     "may stand in front; \\ alone is the root. NAME is a value's name, and @ the unnamed value.\n"
     "\n"
-    "check prints: accepted bins B keys K values V used U free F. key prints: key at OFFSET. value prints text\n"
+    "check prints: accepted bins B keys K values V used U free F. key prints: key at OFFSET. ls prints\n"
+    "key NAME for each subkey and value TYPE LENGTH NAME for each value, in their order. value prints text\n"
     "as UTF-8 (several strings one to a line), numbers in decimal and hexadecimal, other data as hexadecimal digits.\n"
     "repair prints: clean, or repaired PAGES and then what check prints. It holds a lock on FILE, writes the pages,\n"
     "syncs, writes the first sector and syncs; if it is cut off, run it again. --dry-run writes nothing. --backup\n"
@@ -44,6 +46,16 @@ static int key_command(char **words)
         return refusal(words[0], words[0], a);
     printf("key at %u\n", a.value);
     return GOOD;
+}
+
+static int list_command(int count, char **words)
+{
+    Bytes hive;
+    Units path;
+    if (path_units(count == 2 ? words[1] : "", &path) != GOOD || read_file(words[0], &hive) != GOOD)
+        return TROUBLE;
+    HiveAnswer a = hive_find_key(hive.at, hive.length, path.at, path.length);
+    return a.number != 0 ? refusal(words[0], words[0], a) : list(words[0], hive, a.value);
 }
 
 static int value_command(int count, char **words)
@@ -79,6 +91,8 @@ static int command(int count, char **words)
         return check_command(words + 1);
     if (strcmp(order, "key") == 0 && count == 3)
         return key_command(words + 1);
+    if (strcmp(order, "ls") == 0 && (count == 2 || count == 3))
+        return list_command(count - 1, words + 1);
     if (strcmp(order, "value") == 0 && (count == 4 || count == 5))
         return value_command(count - 1, words + 1);
     if (strcmp(order, "explain") == 0 && count == 2)

@@ -67,7 +67,7 @@ int name_units(const char *text, Units *out)
     return units_of(strcmp(text, "@") == 0 ? "" : text, out);
 }
 
-/* On a terminal a control character is shown as its code, so that a file cannot give the terminal orders. */
+/* Where it is to be shown, a control character is so by its code: a file cannot give a terminal orders. */
 static void encode(uint32_t c, bool shown)
 {
     if (shown && (c < 32 || (c >= 127 && c < 160))) {
@@ -89,10 +89,9 @@ static uint32_t unit(Bytes data, size_t i)
     return data.at[2 * i] + data.at[2 * i + 1] * 256u;
 }
 
-/* The units from i to end as one line; half of a pair is shown as U+FFFD. */
-static void print_line(Bytes data, size_t i, size_t end)
+/* The units from i to end; half of a pair is shown as U+FFFD. */
+static void print_units(Bytes data, size_t i, size_t end, bool shown)
 {
-    bool shown = isatty(1);
     for (; i < end; i++) {
         uint32_t c = unit(data, i);
         if (c >= 0xd800 && c < 0xe000) {
@@ -105,6 +104,26 @@ static void print_line(Bytes data, size_t i, size_t end)
         }
         encode(c, shown);
     }
+}
+
+static void print_line(Bytes data, size_t i, size_t end)
+{
+    print_units(data, i, end, isatty(1));
+    putchar('\n');
+}
+
+/* A name to its line's end: control characters always as their codes, so that a name stays on its line; the unnamed value as @, and a name @ as its code. */
+void print_name(Bytes name, bool narrow)
+{
+    if (name.length == 0)
+        printf("@");
+    else if ((narrow ? name.length == 1 : name.length == 2 && name.at[1] == 0) && name.at[0] == '@')
+        printf("\\x40");
+    else if (narrow)
+        for (size_t i = 0; i < name.length; i++)
+            encode(name.at[i], true);
+    else
+        print_units(name, 0, name.length / 2, true);
     putchar('\n');
 }
 
