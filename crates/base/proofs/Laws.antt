@@ -1,9 +1,8 @@
 -- What the crates above may know of a base block: what its soundness says, and that a file that is not clean is refused by the reader.
 use Prim.Native.Nat.{ℕ, _+_, _%_, _<_, _≤_}
 use native.Mathlib.Omega.{arith}
-use mathlib.Core.Path.{_≡_, refl, sym, ap, _∙_}
-use mathlib.Core.Bool.{Bool, true, false, not, _&&_}
-use mathlib.Core.Logic.{_↔_}
+use mathlib.Core.Path.{_≡_, refl}
+use mathlib.Core.Bool.{true, false, not}
 use mathlib.Core.List.{List}
 use lib.Dec.{eqb, leb}
 use lib.ListN.{length}
@@ -12,7 +11,7 @@ use Rattle.fields.specs.declared.Flaw.{Flaw}
 use Rattle.fields.specs.declared.Verdict.{Verdict}
 use Rattle.fields.specs.declared.Fault.the-variants.{HiveShort, NoRegf, Checksum, Version, BinsSize, BinsCut, Sequences}
 use Rattle.fields.specs.declared.Verdict.the-variants.{Sound, Flawed}
-use Rattle.fields.specs.Faults.{flaw, nowhere, unless, _next_}
+use Rattle.fields.specs.Faults.{flaw, nowhere, unless}
 use Rattle.fields.proofs.Firsts.{both, held, holds, sound}
 use Rattle.fields.proofs.Bools.{and-inv, and-both, never}
 use Rattle.base.specs.Block.{sector, isRegf, isSummed, isVersion, binsOf, binsLimit, isBinsSize, usable, isSettled, clean, blockFault, baseFault}

@@ -1,9 +1,9 @@
 -- The base block. What is said of it reads the file's first 512 bytes alone, so that a log's copy of them and a store elsewhere are one `ap` away.
 use Prim.Native.Nat.{ℕ, zero, suc, _+_, _*_, _%_}
-use mathlib.Core.Bool.{Bool, true, false, not, _&&_, _||_}
+use mathlib.Core.Bool.{Bool, not, _&&_}
 use mathlib.Core.List.{List, [], _∷_}
 use lib.Bits.{bitXor}
-use lib.Dec.{eqb, leb, ltb}
+use lib.Dec.{eqb, leb}
 use lib.ListN.{length, take, drop}
 use Rattle.fields.specs.declared.Fault.the-variants.{HiveShort, NoRegf, Checksum, Version, BinsSize, BinsCut, Sequences}
 use Rattle.fields.specs.declared.Verdict.{Verdict}

@@ -5,7 +5,7 @@ use fields::Verdict;
 ghost use mathlib.Core.Path.{_≡_};
 ghost use Prim.Native.Nat.{_+_, _≤_};
 ghost use lib.ListN.{length};
-ghost use Rattle.base.specs.Block.{isRegf, storedChecksum, isSummed, isVersion, isBinsSize, binsOf, usable as usableAs, isSettled, clean as cleanOf, blockFault, baseFault};
+ghost use Rattle.base.specs.Block.{isRegf, storedChecksum, isSummed, isVersion, isBinsSize, usable as usableAs, isSettled, clean as cleanOf, blockFault, baseFault};
 
 // The most bytes that bins data may have.
 pub const BINS_LIMIT: u32 = 67108864;

@@ -1,24 +1,22 @@
 -- The map, bit by bit: bit k is set exactly when a cell in use starts at offset 8 k.
 use Prim.Native.Nat.{ℕ, zero, suc, _+_, _-_, _*_, _/_, _%_, _^_, _≤_, _<_, max}
-use native.Mathlib.Nat.{div-self, mod-lt, div-eq-of-lt, mul-comm, zero-mod, max-zero, div-div-eq-div-mul, div-one, pow-suc, mul-mod-left, mul-div-mul-right}
+use native.Mathlib.Nat.{div-eq-of-lt, max-zero, div-div-eq-div-mul, div-one, pow-suc, mul-mod-left, mul-div-mul-right}
 use native.Mathlib.Omega.{arith}
 use mathlib.Core.Path.{_≡_, refl, sym, ap, _∙_}
-use mathlib.Core.Logic.{⊎-elim}
 use mathlib.Core.List.{List}
-use mathlib.Core.Bool.{Bool, true, false, cond, _&&_, _||_}
+use mathlib.Core.Bool.{Bool, true, false, cond, _||_}
 use lib.Dec.{eqb, eqb·zero-suc, eqb·suc-zero, eqb·suc-suc, lit<}
-use lib.ListN.{length, getD, set}
+use lib.ListN.{length, getD}
 use lib.Seq.{getD-set-same, getD-set-other}
 use lib.Bits.{bitOr, or-step, or-shr}
 use lib.Arith.{digits-mod}
-use lib.Pow.{pow-pos, pow-lt, pow-add, shl-shr}
+use lib.Pow.{pow-lt}
 use borrow.Author.Tests.{eq-eqb, ne-eqb, eqb-true, eqb-false, ltb-true}
 use lib.Dec.{ltb}
 use Rattle.fields.specs.Number.{sizeAt}
 use Rattle.cells.specs.Tiling.{tilingN, tiling, goodSize}
 use Rattle.cells.specs.Tiled.{Good}
 use Rattle.cells.proofs.Steps.{good, length-mark}
-use Rattle.fields.specs.declared.Size.{Size}
 use Rattle.cells.specs.Tiling.{Tiling, whole, bad, cell}
 use Rattle.cells.specs.Map.{markAt, marks, bitOf, starts}
 

@@ -1,40 +1,35 @@
 -- The work map over all bins, and what it names: the map's rule implies the header's, with the same bounds.
-use Prim.Native.Nat.{ℕ, zero, suc, _+_, _-_, _*_, _/_, _%_, _^_, _≤_, _<_, max}
+use Prim.Native.Nat.{ℕ, _+_, _-_, _*_, _/_, _%_, _≤_, _<_, max}
 use native.Mathlib.Nat.{zero-div, max-zero}
 use native.Mathlib.Omega.{arith}
 use mathlib.Core.Path.{_≡_, refl, sym, ap, _∙_}
-use mathlib.Core.Bool.{Bool, true, false, cond, _&&_, _||_}
-use mathlib.Core.Logic.{_↔_}
-use mathlib.Core.List.{List, _++_}
-use lib.Dec.{eqb, leb}
-use lib.ListN.{length, getD, drop, replicate, length-replicate, getD-replicate, length-append, length-take, length-drop, List·getD-append}
+use mathlib.Core.Bool.{Bool, true, false}
+use mathlib.Core.List.{List}
+use lib.Dec.{eqb}
+use lib.ListN.{length, drop, replicate, length-replicate, getD-replicate, length-append, length-take, length-drop, List·getD-append}
 use borrow.Author.Tests.{eq-eqb, eqb-true, eqb-false, le-leb}
 use Rattle.fields.specs.declared.Offset.{Offset}
-use Rattle.fields.specs.declared.Size.{Size}
 use Rattle.fields.specs.declared.Verdict.{Verdict}
 use Rattle.fields.specs.declared.Verdict.the-variants.{Sound, Flawed}
 use Rattle.fields.specs.Number.{sizeAt}
-use Rattle.fields.proofs.Bools.{and-inv, and-both, never}
+use Rattle.fields.proofs.Bools.{and-both}
 use Rattle.base.specs.Block.{sector, binsOf, binsData}
 use Rattle.base.proofs.Laws.{base-facts}
-use Rattle.cells.specs.declared.Cell.{Cell}
-use Rattle.cells.specs.declared.Found.{Found}
-use Rattle.cells.specs.declared.Found.the-variants.{Named, Missing}
+use Rattle.cells.specs.declared.Found.the-variants.{Named}
 use Rattle.cells.specs.declared.Rule.the-variants.{Map, Header}
 use Rattle.cells.specs.declared.Tally.{Tally}
-use Rattle.cells.specs.declared.Surveyed.{Surveyed}
-use Rattle.cells.specs.declared.Surveyed.the-variants.{Tiled, Refused}
-use Rattle.cells.specs.Tiling.{tiling, rowOf, Layout, last, bin, layout, surveyOf}
-use Rattle.cells.specs.Map.{marks, isBad, marksAll, zeros, mapAfter, bitOf, isMarked, starts, startsIn}
+use Rattle.cells.specs.declared.Surveyed.the-variants.{Tiled}
+use Rattle.cells.specs.Tiling.{tiling, layout, surveyOf}
+use Rattle.cells.specs.Map.{marks, isBad, marksAll, zeros, mapAfter, bitOf, isMarked, startsIn}
 use Rattle.cells.specs.Survey.{frontFault, surveyAnswer, mapLeft}
 use Rattle.cells.specs.Named.{isNamed, cellAt, byHeader, cellOf, cellFault}
-use Rattle.cells.specs.Tiled.{Good, BinsTile, bins-end, bin-on, InBin, InUse, Mapped}
+use Rattle.cells.specs.Tiled.{Good, BinsTile, bins-end, bin-on, InUse, Mapped}
 use Rattle.cells.proofs.Bit.{flag, flag-or, marks-bit, placed, placed-more, tiling-placed}
 use Rattle.cells.proofs.Steps.{of-good}
 use Rattle.cells.proofs.Total.{length-marks}
 use Rattle.cells.proofs.Turns.{done, step}
 use Rattle.cells.proofs.Marked.{marked-odd}
-use Rattle.cells.proofs.Naming.{Names, names, found, by-either, sound-names}
+use Rattle.cells.proofs.Naming.{names, sound-names}
 use Rattle.cells.proofs.Fronts.{front-facts, survey-front, survey-on}
 use Rattle.cells.proofs.Tiles.{tile-counted, of-header, of-header-some, wholly-inside, tiled-exactly, total}
 

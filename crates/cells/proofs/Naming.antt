@@ -14,7 +14,7 @@ use Rattle.fields.specs.declared.Verdict.the-variants.{Sound, Flawed}
 use Rattle.fields.specs.declared.Fault.the-variants.{NoCell}
 use Rattle.fields.specs.Number.{sizeAt}
 use Rattle.fields.specs.Faults.{flaw}
-use Rattle.fields.proofs.Bools.{and-inv, and-both}
+use Rattle.fields.proofs.Bools.{and-inv}
 use Rattle.cells.specs.declared.Cell.{Cell}
 use Rattle.cells.specs.declared.Found.{Found}
 use Rattle.cells.specs.declared.Found.the-variants.{Named, Missing}
@@ -22,7 +22,7 @@ use Rattle.cells.specs.declared.Rule.{Rule}
 use Rattle.cells.specs.declared.Rule.the-variants.{Map, Header}
 use Rattle.cells.specs.Tiling.{goodSize}
 use Rattle.cells.specs.Map.{isMarked}
-use Rattle.cells.specs.Named.{isNamed, cellAt, byHeader, cellOf, verdictOf, cellFault, dataOf, dataAt}
+use Rattle.cells.specs.Named.{isNamed, cellAt, byHeader, cellOf, cellFault, dataOf, dataAt}
 use Rattle.cells.specs.Tiled.{Good}
 use Rattle.cells.proofs.Steps.{good}
 

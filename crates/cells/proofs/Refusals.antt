@@ -1,20 +1,19 @@
 -- A refusal of the bins is 9 at a bin, or 10 at a cell.
 use Prim.Native.Nat.{ℕ, zero, suc, _+_, _-_, _%_, _≤_, _<_}
 use native.Mathlib.Omega.{arith}
-use mathlib.Core.Path.{_≡_, refl, sym, ap, _∙_, subst}
+use mathlib.Core.Path.{_≡_, refl, ap, _∙_, subst}
 use mathlib.Core.Bool.{Bool, true, false, cond}
 use mathlib.Core.List.{List}
 use lib.Dec.{eqb, ltb}
 use lib.ListN.{length}
 use borrow.Author.Tests.{ltb-true, ltb-false, eqb-true, eqb-false}
 use Rattle.fields.specs.declared.Flaw.{Flaw}
-use Rattle.fields.specs.declared.Size.{Size}
 use Rattle.fields.specs.declared.Fault.the-variants.{BinHeader, CellSize}
 use Rattle.fields.specs.Number.{sizeAt}
 use Rattle.fields.specs.Faults.{flaw}
 use Rattle.cells.specs.declared.Row.{Row}
 use Rattle.cells.specs.declared.Row.the-variants.{Counted, Bad}
-use Rattle.cells.specs.declared.Surveyed.the-variants.{Tiled, Refused}
+use Rattle.cells.specs.declared.Surveyed.the-variants.{Refused}
 use Rattle.cells.specs.Tiling.{goodSize, tiling, rowOf, binSize, layout, addRow, surveyOf}
 use Rattle.cells.specs.Tiled.{Good}
 use Rattle.cells.proofs.Steps.{good, done, fault, step}

@@ -4,14 +4,14 @@ use native.Mathlib.Nat.{one-mul}
 use native.Mathlib.Omega.{arith}
 use mathlib.Core.Path.{_≡_, refl, sym, ap, _∙_}
 use mathlib.Core.List.{List}
-use mathlib.Core.Bool.{Bool, true, false, not, _&&_}
-use lib.Dec.{eqb, leb, ltb}
+use mathlib.Core.Bool.{Bool, true, false, not}
+use lib.Dec.{eqb, ltb}
 use lib.Pow.{shl-exact}
 use borrow.Author.Tests.{lt-ltb, le-ltb, ltb-true, ltb-false, leb-true, eqb-true, eqb-false, not-true, ne-eqb, eq-eqb, le-leb}
 use Rattle.fields.specs.declared.Size.{Size}
 use Rattle.fields.proofs.Bools.{and-inv}
 use Rattle.fields.specs.Number.{sizeAt}
-use Rattle.cells.specs.Tiling.{goodSize, Tiling, whole, bad, cell, tilingN, tiling, rowOf}
+use Rattle.cells.specs.Tiling.{goodSize, whole, bad, cell, tilingN, tiling, rowOf}
 use Rattle.cells.specs.Map.{markAt, marks}
 use Rattle.cells.specs.Tiled.{Good}
 use lib.ListN.{length, length-set}

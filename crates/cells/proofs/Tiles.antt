@@ -1,28 +1,26 @@
 -- The survey accepts exactly the bins data that bins and cells tile; and what the listing of cells then says of each cell in use.
 use Prim.Native.Nat.{ℕ, zero, suc, _+_, _-_, _*_, _%_, _≤_, _<_}
 use native.Mathlib.Omega.{arith}
-use mathlib.Core.Path.{_≡_, refl, sym, ap, _∙_, subst}
+use mathlib.Core.Path.{_≡_, refl, subst}
 use mathlib.Core.Bool.{Bool, true, false, cond, _&&_, _||_}
 use mathlib.Core.Logic.{_⊎_, inl, inr, _↔_}
 use mathlib.Core.List.{List, [], _∷_}
 use lib.Dec.{eqb, leb, ltb}
 use lib.ListN.{length}
-use borrow.Author.Tests.{lt-ltb, le-ltb, ltb-true, ltb-false, leb-true, le-leb, eqb-true, eqb-false, eq-eqb}
-use Rattle.fields.specs.declared.Flaw.{Flaw}
-use Rattle.fields.specs.declared.Size.{Size}
+use borrow.Author.Tests.{ltb-true, ltb-false, leb-true, le-leb, eqb-true, eqb-false, eq-eqb}
 use Rattle.fields.specs.Number.{u32At, sizeAt}
 use Rattle.fields.specs.Bytes.{standsAt}
-use Rattle.fields.proofs.Bools.{and-inv, never}
+use Rattle.fields.proofs.Bools.{and-inv}
 use Rattle.cells.specs.declared.Row.{Row}
 use Rattle.cells.specs.declared.Row.the-variants.{Counted, Bad}
 use Rattle.cells.specs.declared.Tally.{Tally}
-use Rattle.cells.specs.declared.Surveyed.the-variants.{Tiled, Refused}
-use Rattle.cells.specs.Tiling.{goodSize, Tiling, whole, bad, cell, tilingN, tiling, rowOf, binSize, Layout, last, badBin, bin, layout, addRow, surveyOf}
+use Rattle.cells.specs.declared.Surveyed.the-variants.{Tiled}
+use Rattle.cells.specs.Tiling.{goodSize, whole, tiling, rowOf, binSize, bin, layout, addRow, surveyOf}
 use Rattle.cells.specs.Map.{starts, startsIn}
 use Rattle.cells.specs.Tiled.{Good, CellsTile, cells-end, cell-on, Header, BinsTile, bins-end, bin-on, CellIn, InBin}
 use Rattle.cells.proofs.Steps.{good, of-good, done, fault, step}
 use Rattle.cells.proofs.Total.{sum}
-use Rattle.cells.proofs.Turns.{Sized, sized, done as bins-done, fault as bins-fault, step as bins-step}
+use Rattle.cells.proofs.Turns.{done as bins-done, fault as bins-fault, step as bins-step}
 
 or-cases : (a b : Bool) → a || b ≡ true → (a ≡ true) ⊎ (b ≡ true)
 or-cases true b e = inl refl

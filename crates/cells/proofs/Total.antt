@@ -1,15 +1,14 @@
 -- What the crates above may use of `rowOf`: the bytes in use and the free bytes make up the bin; and of `marks`: the map keeps its length.
 use Prim.Native.Nat.{ℕ, zero, suc, _+_, _-_, _≤_, _<_}
 use native.Mathlib.Omega.{arith}
-use mathlib.Core.Path.{_≡_, refl, sym, ap, _∙_}
+use mathlib.Core.Path.{_≡_, refl, _∙_}
 use mathlib.Core.List.{List}
 use mathlib.Core.Bool.{Bool, true, false, cond}
 use lib.Dec.{ltb}
 use lib.ListN.{length}
 use borrow.Author.Tests.{ltb-true, ltb-false}
 use Rattle.fields.specs.declared.Size.{Size}
-use Rattle.cells.specs.declared.Row.{Row}
-use Rattle.cells.specs.declared.Row.the-variants.{Counted, Bad}
+use Rattle.cells.specs.declared.Row.the-variants.{Counted}
 use Rattle.fields.specs.Number.{sizeAt}
 use Rattle.cells.specs.Tiling.{goodSize, Tiling, whole, bad, cell, tilingN, tiling, rowOf}
 use Rattle.cells.specs.Map.{marks, markAt}

@@ -1,5 +1,5 @@
 -- The layout's three cases, and what a turn of `walk` keeps.
-use Prim.Native.Nat.{ℕ, zero, suc, _+_, _-_, _*_, _%_, _≤_, _<_}
+use Prim.Native.Nat.{ℕ, zero, suc, _+_, _-_, _%_, _≤_, _<_}
 use native.Mathlib.Omega.{arith}
 use mathlib.Core.Path.{_≡_, refl, sym, ap, _∙_}
 use mathlib.Core.Bool.{Bool, true, false, cond}
@@ -10,10 +10,9 @@ use borrow.Author.Tests.{lt-ltb, le-ltb, ltb-true, ltb-false, leb-true, eqb-true
 use Rattle.fields.specs.declared.Flaw.{Flaw}
 use Rattle.fields.specs.Number.{u32At}
 use Rattle.fields.specs.Bytes.{standsAt}
-use Rattle.cells.specs.declared.Row.{Row}
 use Rattle.cells.specs.declared.Row.the-variants.{Counted, Bad}
 use Rattle.cells.specs.declared.Surveyed.the-variants.{Refused}
-use Rattle.cells.specs.Tiling.{Tiling, tiling, rowOf, binSize, Layout, last, badBin, bin, layoutN, layout, addRow, surveyOf}
+use Rattle.cells.specs.Tiling.{tiling, rowOf, binSize, last, badBin, bin, layoutN, layout, addRow, surveyOf}
 use Rattle.cells.specs.Map.{marks, isBad, marksAll}
 use Rattle.cells.proofs.Total.{sum, length-marks}
 

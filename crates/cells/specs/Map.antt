@@ -5,7 +5,6 @@ use mathlib.Core.List.{List, _++_}
 use lib.Bits.{bitOr}
 use lib.Dec.{eqb}
 use lib.ListN.{length, getD, set, replicate, drop}
-use Rattle.fields.specs.declared.Size.{Size}
 use Rattle.cells.specs.declared.Row.{Row}
 use Rattle.cells.specs.declared.Row.the-variants.{Counted, Bad}
 use Rattle.cells.specs.declared.Surveyed.{Surveyed}

@@ -5,7 +5,6 @@ use mathlib.Core.List.{List}
 use lib.Dec.{eqb, leb}
 use lib.ListN.{length, take, drop}
 use Rattle.fields.specs.declared.Offset.{Offset}
-use Rattle.fields.specs.declared.Size.{Size}
 use Rattle.fields.specs.declared.Fault.the-variants.{NoCell}
 use Rattle.fields.specs.declared.Verdict.{Verdict}
 use Rattle.fields.specs.declared.Verdict.the-variants.{Sound, Flawed}

@@ -1,11 +1,10 @@
 -- What it means that cells tile the bins, said without an order of tests. d is the bins data.
-use Prim.Native.Nat.{ℕ, _+_, _-_, _*_, _%_, _≤_, _<_}
+use Prim.Native.Nat.{ℕ, _+_, _-_, _%_, _≤_, _<_}
 use mathlib.Core.Path.{_≡_}
-use mathlib.Core.Bool.{Bool, true}
+use mathlib.Core.Bool.{true}
 use mathlib.Core.List.{List, [], _∷_}
 use lib.ListN.{length}
 use Rattle.fields.specs.declared.Offset.{Offset}
-use Rattle.fields.specs.declared.Size.{Size}
 use Rattle.fields.specs.Number.{u32At, sizeAt}
 use Rattle.fields.specs.Bytes.{standsAt}
 use Rattle.cells.specs.Tiling.{layout}

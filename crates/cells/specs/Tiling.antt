@@ -1,12 +1,11 @@
 -- Bins tile the bins data, and cells tile the rest of each bin. d is the bins data.
 use Prim.Native.Nat.{ℕ, zero, suc, _+_, _-_, _*_, _%_, _≤_}
 use mathlib.Core.Path.{_≡_}
-use mathlib.Core.Bool.{Bool, true, false, cond, not, _&&_}
+use mathlib.Core.Bool.{Bool, cond, not, _&&_}
 use mathlib.Core.List.{List, [], _∷_}
 use lib.Dec.{eqb, leb, ltb}
 use lib.ListN.{length}
 use Rattle.fields.specs.declared.Size.{Size}
-use Rattle.fields.specs.declared.Flaw.{Flaw}
 use Rattle.fields.specs.declared.Fault.the-variants.{BinHeader, CellSize}
 use Rattle.fields.specs.Number.{u32At, sizeAt}
 use Rattle.fields.specs.Bytes.{standsAt}
@@ -14,7 +13,6 @@ use Rattle.fields.specs.Faults.{flaw}
 use Rattle.base.specs.Block.{binsLimit}
 use Rattle.cells.specs.declared.Row.{Row}
 use Rattle.cells.specs.declared.Row.the-variants.{Counted, Bad}
-use Rattle.cells.specs.declared.Tally.{Tally}
 use Rattle.cells.specs.declared.Surveyed.{Surveyed}
 use Rattle.cells.specs.declared.Surveyed.the-variants.{Tiled, Refused}
 

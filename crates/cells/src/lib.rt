@@ -7,7 +7,7 @@ use fields::Offset;
 use fields::Verdict;
 ghost use mathlib.Core.Path.{_≡_};
 ghost use Prim.Native.Nat.{_+_, _-_, _*_, _/_, _%_, _≤_, _<_};
-ghost use lib.ListN.{length, take, drop};
+ghost use lib.ListN.{length};
 ghost use Rattle.cells.specs.Tiling.{goodSize, tiling, rowOf, binSize, layout, surveyOf, Bin, Data};
 ghost use Rattle.cells.specs.Map.{markAt, marks, marksAll, zeros, isMarked, mapAfter};
 ghost use Rattle.cells.specs.Named.{byHeader, cellOf, dataOf};

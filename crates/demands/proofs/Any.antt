@@ -1,11 +1,11 @@
 -- Demand 1 is met.
-use Prim.Native.Nat.{ℕ, _+_, _*_, _≤_}
+use Prim.Native.Nat.{ℕ, _+_, _≤_}
 use native.Mathlib.Omega.{arith}
 use mathlib.Core.Path.{_≡_, refl, sym, ap, _∙_}
 use mathlib.Core.Bool.{Bool, true, false, cond}
-use mathlib.Core.List.{List, _++_}
+use mathlib.Core.List.{List}
 use lib.Dec.{leb, ltb}
-use lib.ListN.{length, drop}
+use lib.ListN.{length}
 use Rattle.fields.specs.declared.Fault.{Fault}
 use Rattle.fields.specs.declared.Fault.the-variants as named
 use Rattle.fields.specs.declared.Flaw.{Flaw}
@@ -14,7 +14,7 @@ use Rattle.fields.specs.declared.Verdict.{Verdict}
 use Rattle.fields.specs.declared.Verdict.the-variants.{Sound, Flawed}
 use Rattle.fields.specs.Bytes.{standsAt}
 use Rattle.fields.specs.Faults.{numberOf, flaw, nowhere, unless, _next_, refusalOf}
-use Rattle.base.specs.Block.{sector, clean, binsData}
+use Rattle.base.specs.Block.{sector, clean}
 use Rattle.tree.proofs.Tells.{check-tells}
 use Rattle.tree.proofs.Maps.{map-untouched, map-zero, map-complete, map-beyond}
 use Rattle.lookup.proofs.Agree.{refused-untouched}
@@ -24,9 +24,8 @@ use Rattle.old_log.specs.Layout.{mapSize, isLogged, logBins, loggedCount, dirt}
 use Rattle.old_log.specs.Tests.{isLogBase, pagesFit, headFault, logFault, stampsAgree, allIn}
 use Rattle.recovery.specs.declared.Started.{Started}
 use Rattle.recovery.specs.declared.Started.the-variants as started
-use Rattle.recovery.specs.declared.Stepped.{Stepped}
 use Rattle.recovery.specs.declared.Stepped.the-variants as stepped
-use Rattle.recovery.specs.Calls.{hiveFault, testFault, started as startedBy, startAnswer, tested, changed, pageAnswer, pageHive, closeAnswer, closeHive}
+use Rattle.recovery.specs.Calls.{hiveFault, testFault, started as startedBy, startAnswer, tested, pageAnswer, pageHive, closeAnswer, closeHive}
 use Rattle.demands.specs.First.{Demand1}
 
 listed : (f : Fault) → (1 ≤ numberOf f) × (numberOf f ≤ 27)

@@ -2,10 +2,9 @@
 use Prim.Native.Nat.{ℕ}
 use native.Mathlib.Omega.{arith}
 use mathlib.Core.Path.{_≡_, refl, sym, ap, _∙_}
-use mathlib.Core.Bool.{true, false}
-use mathlib.Core.List.{List, [], _∷_}
-use lib.ListN.{length, getD, replicate}
-use Rattle.fields.specs.declared.Refusal.{Refusal}
+use mathlib.Core.Bool.{true}
+use mathlib.Core.List.{List, []}
+use lib.ListN.{getD, replicate}
 use Rattle.fields.specs.declared.Fault.the-variants.{HiveShort}
 use Rattle.fields.specs.Number.{u16At, u32At, u64At, sizeAt}
 use Rattle.fields.specs.Bytes.{sameBytes, standsAt}
@@ -19,22 +18,17 @@ use Rattle.names.specs.Codes.{codes, charactersIn, hasCode}
 use Rattle.records.specs.Keys.{isKeyName, isKey, keyFault, keyIn, keyOf, codesOf}
 use Rattle.records.specs.Lists.{childrenIn, leavesBelow, childrenBelow, listsFault}
 use Rattle.values.specs.Lists.{valuesOf, valueListFault, valuesFault}
-use Rattle.tree.specs.declared.Checked.{Checked}
 use Rattle.tree.specs.declared.Checked.the-variants as checked
-use Rattle.tree.specs.declared.Report.{Report}
 use Rattle.tree.specs.Tree.{_after_, placeFault, hashFault, levelFault, totalFault, restFault, ownFault, keyCharge, listCharge, treeCharge, joined, keysIn, valuesIn, checkAnswer}
 use Rattle.tree.proofs.Exactly.{accepted-as}
-use Rattle.lookup.specs.declared.KeyFound.{KeyFound}
 use Rattle.lookup.specs.declared.KeyFound.the-variants as found
 use Rattle.lookup.specs.Paths.{split, partsOf, isPart, areParts, isPath, pathFault}
 use Rattle.lookup.specs.Search.{descend, lookupKey}
 use Rattle.lookup.specs.Answers.{openFault, keyLook, findAnswer}
 use Rattle.sectors.specs.Sector.{page}
 use Rattle.bitmap.specs.Bits.{bitsBefore, nextAmong}
-use Rattle.old_log.specs.Layout.{bitmap, isLogged, logged, loggedCount}
+use Rattle.old_log.specs.Layout.{bitmap, isLogged, logged}
 use Rattle.old_log.specs.Tests.{isLogBase, headFault, logFault, stampsAgree}
-use Rattle.recovery.specs.declared.Started.{Started}
-use Rattle.recovery.specs.declared.Started.the-variants as started
 use Rattle.recovery.specs.Calls.{hiveFault, testFault, startAnswer, pageAnswer, pageHive}
 use Rattle.recovery.proofs.Accepts.{start-accepted}
 use Rattle.recovery.proofs.Figures.{head, log, hive, long-log}

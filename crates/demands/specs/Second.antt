@@ -9,7 +9,6 @@ use Rattle.fields.specs.declared.Fault.the-variants.{PathParts, NoKey, NoValue}
 use Rattle.fields.specs.declared.Offset.{Offset}
 use Rattle.fields.specs.Faults.{flaw, nowhere, refusalOf}
 use Rattle.base.specs.Block.{sector, binsOf, minorOf, binsData}
-use Rattle.records.specs.declared.Key.{Key}
 use Rattle.records.specs.Keys.{keyOf}
 use Rattle.values.specs.Records.{dataIn, valueOf}
 use Rattle.values.specs.Segments.{bytesOf, lengthOf}

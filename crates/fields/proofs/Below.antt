@@ -8,9 +8,9 @@ use lib.IntN.{ℤ, pos, negsuc, natAbs, _-ℤ_}
 use lib.Signed.{ltZ, nonNeg}
 use lib.Dec.{T}
 use mir.Syntax.{w32}
-use mir.Val.{Fits, SFits, toZ, ofZ}
-use mir.ValLaws.{toZ-pos, toZ-fits, toZ-ofZ}
-use borrow.Author.Tests.{le-ltb, ltb-true, ltb-false}
+use mir.Val.{Fits, SFits, toZ}
+use mir.ValLaws.{toZ-pos}
+use borrow.Author.Tests.{le-ltb, ltb-true}
 use Rattle.fields.specs.declared.Size.{Size}
 use Rattle.fields.specs.Number.{sizeOf}
 

@@ -1,5 +1,5 @@
 -- "A place in the file and an offset in the bins data are two kinds of number (place = 4096 + offset) and must not be mixable."
-use Prim.Native.Nat.{ℕ, _+_, _-_}
+use Prim.Native.Nat.{_+_, _-_}
 use mathlib.Core.Bool.{cond}
 use lib.Dec.{leb, ltb}
 use Rattle.fields.specs.declared.Offset.{Offset}

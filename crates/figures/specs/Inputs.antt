@@ -1,6 +1,6 @@
 -- The inputs that the figures speak of.
 use Prim.Native.Nat.{ℕ}
-use mathlib.Core.List.{List, [], _∷_, _++_}
+use mathlib.Core.List.{List, _∷_, _++_}
 use lib.ListN.{replicate}
 
 -- "regf" and 504 zero bytes

@@ -4,9 +4,7 @@ use mathlib.Core.Path.{_≡_}
 use mathlib.Core.Bool.{true}
 use mathlib.Core.List.{List, [], _∷_, List·Memᴰ}
 use lib.ListN.{length, replicate}
-use Rattle.fields.specs.declared.Place.{Place}
-use Rattle.fields.specs.declared.Refusal.{Refusal}
-use Rattle.fields.specs.Faults.{numberOf, refusalOf}
+use Rattle.fields.specs.Faults.{numberOf}
 use Rattle.base.specs.Block.{storedChecksum}
 use Rattle.cells.specs.declared.Surveyed.{Surveyed}
 use Rattle.cells.specs.declared.Surveyed.the-variants.{Tiled, Refused as Untiled}

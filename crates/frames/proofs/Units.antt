@@ -5,7 +5,7 @@ use native.Mathlib.Omega.{arith}
 use mathlib.Core.Path.{_≡_, sym, ap, ap₂, _∙_}
 use mathlib.Core.Bool.{false}
 use mathlib.Core.List.{List, [], _∷_, _++_}
-use lib.ListN.{length, take, getD, set}
+use lib.ListN.{length, take, set}
 use lib.Seq.{take-suc, take-suc-set}
 use Rattle.fields.specs.Number.{u16At}
 use Rattle.names.specs.Codes.{codes}

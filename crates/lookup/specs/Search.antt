@@ -14,7 +14,6 @@ use Rattle.records.specs.declared.Child.{Child}
 use Rattle.records.specs.declared.Key.{Key}
 use Rattle.records.specs.Keys.{keyFault, keyOf, codesOf}
 use Rattle.records.specs.Lists.{leafFault, headFault, leafChildren, leavesOf}
-use Rattle.values.specs.declared.Value.{Value}
 use Rattle.values.specs.Records.{valueFault, valueOf}
 use Rattle.values.specs.Lists.{valuesOf, valueListFault}
 use Rattle.tree.specs.Tree.{nameAt}

@@ -1,18 +1,14 @@
 -- A list's kind and count stand in the first 4 bytes of its data.
 use Prim.Native.Nat.{ℕ, _+_, _≤_}
 use native.Mathlib.Omega.{arith}
-use mathlib.Core.Path.{_≡_, refl, sym, ap, _∙_}
-use mathlib.Core.Bool.{Bool}
+use mathlib.Core.Path.{_≡_, sym, ap, _∙_}
 use mathlib.Core.List.{List, [], _∷_}
 use lib.ListN.{length, take, drop}
 use lib.Seq.{take-take}
 use Rattle.fields.specs.declared.Offset.{Offset}
-use Rattle.fields.specs.Number.{u16At}
 use Rattle.fields.specs.Bytes.{sameBytes, standsAt}
 use Rattle.cells.specs.Named.{dataAt}
-use Rattle.records.specs.declared.Leaf.{Leaf}
-use Rattle.records.specs.declared.Leaves.{Leaves}
-use Rattle.records.specs.Lists.{isLi, isLh, isRi, countOf, widthOf}
+use Rattle.records.specs.Lists.{countOf, widthOf}
 use Rattle.records.specs.Places.{leavesIn, leavesAt, leafIn, leafOf}
 use Rattle.records.proofs.Parts.{data-room, data-u16, u16-part, data-part}
 

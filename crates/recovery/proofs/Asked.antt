@@ -2,21 +2,20 @@
 use Prim.Native.Nat.{ℕ, zero, suc, _+_, _≤_, _<_}
 use native.Mathlib.Decide.{ℕ-discrete, decLt}
 use native.Mathlib.Omega.{arith}
-use mathlib.Core.Path.{_≡_, refl, sym, ap, subst, _∙_}
-use mathlib.Core.Bool.{true, false}
-use mathlib.Core.List.{List, [], _∷_, List·Memᴰ, List·Memᴰ·head, List·Memᴰ·tail}
+use mathlib.Core.Path.{_≡_, refl, sym, ap, subst}
+use mathlib.Core.Bool.{true}
+use mathlib.Core.List.{List, _∷_, List·Memᴰ, List·Memᴰ·head, List·Memᴰ·tail}
 use Rattle.fields.specs.declared.Verdict.{Verdict}
 use Rattle.fields.specs.declared.Verdict.the-variants.{Sound}
 use Rattle.fields.proofs.Bools.{never}
 use Rattle.bitmap.specs.declared.Next.{Next}
 use Rattle.bitmap.specs.declared.Next.the-variants as bit
 use Rattle.bitmap.proofs.Laws.{Least, next-least, next-none}
-use Rattle.sectors.specs.Sector.{pagePlace}
-use Rattle.old_log.specs.Layout.{bitmap, pageCount, isLogged, loggedPlace, nextLogged}
+use Rattle.old_log.specs.Layout.{bitmap, pageCount, isLogged, nextLogged}
 use Rattle.old_log.specs.Tests.{logFault}
 use Rattle.old_log.proofs.Facts.{logged-below}
 use Rattle.recovery.specs.declared.NextPage.{NextPage}
-use Rattle.recovery.specs.declared.NextPage.the-variants.{At, NoMore}
+use Rattle.recovery.specs.declared.NextPage.the-variants.{At}
 use Rattle.recovery.specs.Calls.{nextOf, nextTested, nextAnswer}
 use Rattle.recovery.specs.Finished.{given, asked, Covers}
 

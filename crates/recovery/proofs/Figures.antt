@@ -1,20 +1,18 @@
 -- A small hive and its log, which figures and traces are computed on.
-use Prim.Native.Nat.{ℕ, _+_, _*_, _/_}
-use mathlib.Core.Path.{_≡_, refl, ap}
+use Prim.Native.Nat.{ℕ, _+_}
+use mathlib.Core.Path.{_≡_, refl}
 use mathlib.Core.List.{List, [], _∷_, _++_}
 use lib.ListN.{length, replicate}
 use Rattle.fields.specs.Number.{u16At, u32At, u64At}
 use Rattle.fields.specs.Bytes.{sameBytes, standsAt}
-use Rattle.fields.specs.declared.Fault.the-variants.{LogShort}
-use Rattle.fields.specs.Faults.{flaw, nowhere, refusalOf, _next_}
+use Rattle.fields.specs.Faults.{_next_}
 use Rattle.base.specs.Block.{xors, storedChecksum, isVersion, isBinsSize, usable, clean}
 use Rattle.sectors.specs.Sector.{page}
 use Rattle.bitmap.specs.Bits.{bitsBefore, nextAmong}
-use Rattle.old_log.specs.Layout.{logBins, bitmap, pagesAt, logged}
+use Rattle.old_log.specs.Layout.{bitmap, logged}
 use Rattle.old_log.specs.Tests.{isLogBase, headFault, logFault, stampsAgree}
-use Rattle.recovery.specs.declared.Started.the-variants.{Pages, Refused}
-use Rattle.recovery.specs.declared.NextPage.the-variants.{At, NoMore}
-use Rattle.recovery.specs.Calls.{hiveFault, testFault, startAnswer, nextAnswer}
+use Rattle.recovery.specs.declared.Started.the-variants.{Pages}
+use Rattle.recovery.specs.Calls.{hiveFault, testFault, startAnswer}
 
 -- a log's first sector, of bins size 8,192
 unfoldable pub head : List ℕ

@@ -1,7 +1,7 @@
 -- A tree has no charge exactly when it stands.
 use Prim.Native.Nat.{ℕ, zero, suc}
 use native.Mathlib.Omega.{arith}
-use mathlib.Core.Path.{_≡_, refl, sym, ap, _∙_, subst}
+use mathlib.Core.Path.{_≡_, refl, sym, ap, subst}
 use mathlib.Core.Logic.{_⊎_, inl, inr, ⊎-elim}
 use mathlib.Core.Bool.{Bool, true, false, not, _||_}
 use mathlib.Core.List.{List, [], _∷_, List·Memᴰ, List·Memᴰ·head, List·Memᴰ·tail, List·Memᴰ·cases-cons, List·Memᴰ·not-nil}
@@ -9,11 +9,10 @@ use lib.Dec.{eqb}
 use lib.ListN.{length}
 use borrow.Author.Tests.{eq-eqb, ne-eqb, eqb-true, eqb-false, not-true}
 use Rattle.fields.specs.declared.Offset.{Offset}
-use Rattle.fields.specs.declared.Flaw.{Flaw}
-use Rattle.fields.specs.declared.Verdict.the-variants.{Sound, Flawed}
+use Rattle.fields.specs.declared.Verdict.the-variants.{Sound}
 use Rattle.fields.specs.declared.Fault.the-variants.{Order, Parent}
-use Rattle.fields.specs.Faults.{flaw, unless, _next_}
-use Rattle.fields.proofs.Firsts.{on, both, sound, held, holds}
+use Rattle.fields.specs.Faults.{flaw, unless}
+use Rattle.fields.proofs.Firsts.{both, sound, held, holds}
 use Rattle.cells.specs.declared.Rule.the-variants.{Map}
 use Rattle.cells.specs.Tiled.{BinsTile, Mapped}
 use Rattle.cells.proofs.Mapped.{in-use-sound}
@@ -24,15 +23,15 @@ use Rattle.names.specs.Hashing.{hashOf}
 use Rattle.names.proofs.LawsOrder.{transitive}
 use Rattle.records.specs.declared.Child.{Child}
 use Rattle.records.specs.declared.Key.{Key}
-use Rattle.records.specs.Keys.{keyFault, keyOf, codesOf}
+use Rattle.records.specs.Keys.{keyOf}
 use Rattle.records.specs.Lists.{childrenBelow, children}
 use Rattle.tree.specs.declared.Hive.{Hive}
 use Rattle.tree.specs.declared.Listed.{Listed}
 use Rattle.tree.specs.declared.Listed.the-variants.{Start, First, After}
-use Rattle.tree.specs.Tree.{Charge, Free, Of, _after_, chargeOf, nameAt, parentFault, isBefore, orderFault, placeFault, hashFault, levelFault, totalFault, restFault, ownFault, keyCharge, listCharge, treeCharge, levels, hiveOf, rootChild}
+use Rattle.tree.specs.Tree.{Free, _after_, chargeOf, nameAt, parentFault, isBefore, orderFault, placeFault, hashFault, levelFault, totalFault, restFault, ownFault, keyCharge, listCharge, treeCharge, levels, rootChild}
 use Rattle.tree.specs.WellFormed.{KeyStands, ChildStands, Ascends, none, more, TreeStands, key}
 use Rattle.tree.proofs.Stands.{values-of, of-values, lists-of, of-lists, key-of, of-key}
-use Rattle.tree.proofs.Charges.{both-free, free, Own, own-parts, level-zero, key-parts, key-zero, key-free, lists-free, tree-free}
+use Rattle.tree.proofs.Charges.{both-free, free, key-parts, key-zero, key-free, lists-free, tree-free}
 
 before-is : (o : Ordering) → isBefore o ≡ true → o ≡ Before
 before-is Before e = refl

@@ -1,14 +1,10 @@
 -- The algebra of charges, and the parts of a key's charge.
-use Prim.Native.Nat.{ℕ, zero, suc, _≤_}
+use Prim.Native.Nat.{ℕ, zero, suc}
 use native.Mathlib.Omega.{arith}
-use mathlib.Core.Path.{_≡_, refl, sym, ap, _∙_}
-use mathlib.Core.List.{List, [], _∷_, _++_}
-use Rattle.fields.specs.declared.Offset.{Offset}
-use Rattle.fields.specs.declared.Refusal.{Refusal}
+use mathlib.Core.Path.{_≡_, refl}
+use mathlib.Core.List.{List}
 use Rattle.fields.specs.declared.Verdict.{Verdict}
 use Rattle.fields.specs.declared.Verdict.the-variants.{Sound, Flawed}
-use Rattle.fields.specs.declared.Fault.the-variants.{Level}
-use Rattle.fields.specs.Faults.{flaw, _next_}
 use Rattle.fields.proofs.Firsts.{both}
 use Rattle.cells.specs.declared.Rule.the-variants.{Map}
 use Rattle.records.specs.declared.Child.{Child}
@@ -18,7 +14,7 @@ use Rattle.records.specs.Lists.{children, listsFault}
 use Rattle.values.specs.Lists.{valuesFault}
 use Rattle.tree.specs.declared.Hive.{Hive}
 use Rattle.tree.specs.declared.Listed.{Listed}
-use Rattle.tree.specs.declared.Listed.the-variants.{Start, First, After}
+use Rattle.tree.specs.declared.Listed.the-variants.{First}
 use Rattle.tree.specs.Tree.{Charge, Free, Of, _after_, chargeOf, placeFault, hashFault, levelFault, totalFault, restFault, ownFault, keyCharge, listCharge, treeCharge}
 
 pub both-free : (a b : Charge) → a after b ≡ Free → (a ≡ Free) × (b ≡ Free)

@@ -4,24 +4,22 @@ use native.Mathlib.Omega.{arith}
 use mathlib.Core.Path.{_≡_, refl, sym, ap, ap₂, _∙_, subst}
 use mathlib.Core.Bool.{Bool, true, false}
 use mathlib.Core.Logic.{⊎-elim}
-use mathlib.Core.List.{List, [], _∷_, _++_, List·Memᴰ, List·Memᴰ·head, List·Memᴰ·tail, List·Memᴰ·cases-cons, List·Memᴰ·not-nil, Memᴰ·cast}
+use mathlib.Core.List.{List, [], _∷_, List·Memᴰ, List·Memᴰ·head, List·Memᴰ·tail, List·Memᴰ·cases-cons, Memᴰ·cast}
 use lib.Dec.{ltb, eqb}
 use lib.ListN.{length, length-take, length-drop}
 use borrow.Author.Tests.{ltb-true, ltb-false, lt-ltb, le-ltb, eqb-true, eqb-false}
 use Rattle.fields.specs.declared.Offset.{Offset}
 use Rattle.base.specs.Block.{binsLimit}
-use Rattle.cells.specs.Named.{cellAt, dataOf, dataAt}
-use Rattle.cells.specs.Tiled.{BinsTile, InUse}
+use Rattle.cells.specs.Named.{dataOf, dataAt}
+use Rattle.cells.specs.Tiled.{BinsTile}
 use Rattle.cells.proofs.Tiles.{wholly-inside}
-use Rattle.records.specs.declared.Child.{Child}
-use Rattle.records.specs.declared.Key.{Key}
 use Rattle.records.specs.Keys.{keyOf}
 use Rattle.records.specs.Lists.{children}
 use Rattle.tree.specs.declared.Count.{Count}
 use Rattle.tree.specs.declared.Hive.{Hive}
-use Rattle.tree.specs.Tree.{joined, keysIn, valuesIn, tally, tallied}
-use Rattle.tree.specs.WellFormed.{Room, ValuesStand, KeyStands, TreeStands, key}
-use Rattle.tree.proofs.Once.{Once, nil, cons, in-joined, each-once, same-offset}
+use Rattle.tree.specs.Tree.{keysIn, valuesIn, tally, tallied}
+use Rattle.tree.specs.WellFormed.{KeyStands, TreeStands, key}
+use Rattle.tree.proofs.Once.{Once, cons, in-joined, each-once, same-offset}
 
 abbrev plus : Bool → ℕ → ℕ
 plus true n = suc n

@@ -1,26 +1,25 @@
 -- "With a large enough work map, a hive is accepted exactly when it is clean and well formed."
-use Prim.Native.Nat.{ℕ, _+_, _*_, _/_, _%_, _≤_}
+use Prim.Native.Nat.{ℕ, _+_, _*_, _/_, _≤_}
 use native.Mathlib.Omega.{arith}
-use mathlib.Core.Path.{_≡_, refl, sym, ap, _∙_}
+use mathlib.Core.Path.{_≡_, refl, sym, _∙_}
 use mathlib.Core.Logic.{_↔_}
 use mathlib.Core.List.{List}
 use lib.ListN.{length, length-take, length-drop}
-use Rattle.fields.specs.declared.Verdict.the-variants.{Sound}
-use Rattle.base.specs.Block.{sector, binsOf, binsData, baseFault}
+use Rattle.base.specs.Block.{sector, binsOf, binsData}
 use Rattle.base.proofs.Laws.{base-facts, facts-base}
 use Rattle.cells.specs.declared.Tally.{Tally}
 use Rattle.cells.specs.declared.Surveyed.{Surveyed}
 use Rattle.cells.specs.declared.Surveyed.the-variants.{Tiled, Refused as Untiled}
 use Rattle.cells.specs.Tiling.{layout, surveyOf}
-use Rattle.cells.specs.Survey.{frontFault, surveyAnswer, mapLeft}
+use Rattle.cells.specs.Survey.{surveyAnswer, mapLeft}
 use Rattle.cells.proofs.Fronts.{front-facts, front-good, survey-on}
 use Rattle.cells.proofs.Tiles.{tiled-exactly}
-use Rattle.cells.proofs.Mapped.{After, surveyed}
-use Rattle.tree.specs.declared.Checked.the-variants.{Accepted, Refused}
+use Rattle.cells.proofs.Mapped.{surveyed}
+use Rattle.tree.specs.declared.Checked.the-variants.{Accepted}
 use Rattle.tree.specs.declared.Listed.the-variants.{Start}
 use Rattle.tree.specs.declared.Report.{Report}
-use Rattle.tree.specs.Tree.{Charge, Free, Of, treeCharge, answer, onTiled, levels, hiveOf, rootChild, keysOf, valuesIn, reportOf, checkAnswer}
-use Rattle.tree.specs.WellFormed.{WellFormed, CleanAndWellFormed}
+use Rattle.tree.specs.Tree.{Charge, Free, Of, treeCharge, answer, levels, hiveOf, rootChild, keysOf, valuesIn, reportOf, checkAnswer}
+use Rattle.tree.specs.WellFormed.{CleanAndWellFormed}
 use Rattle.tree.proofs.Accepted.{root-stands, root-free}
 
 accepted-free : (c : Charge) (r : Report) {s : Report} → answer c r ≡ Accepted s → (c ≡ Free) × (r ≡ s)

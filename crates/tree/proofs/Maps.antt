@@ -1,8 +1,8 @@
 -- The work map after each kind of answer: "Refusals 1 to 8 leave the map untouched; 9 and 10 leave its first bins size / 64 bytes zero; later ones leave
 -- it complete", and "bytes beyond bins size / 64 stay".
-use Prim.Native.Nat.{ℕ, _+_, _*_, _/_, _%_, _≤_}
+use Prim.Native.Nat.{ℕ, _/_}
 use native.Mathlib.Omega.{arith}
-use mathlib.Core.Path.{_≡_, refl, sym, ap, _∙_}
+use mathlib.Core.Path.{_≡_, refl, ap, _∙_}
 use mathlib.Core.List.{List}
 use lib.ListN.{length, drop, replicate, length-take, length-drop, length-replicate}
 use lib.Seq.{drop-at}
@@ -13,7 +13,7 @@ use Rattle.base.proofs.Laws.{base-facts}
 use Rattle.cells.specs.declared.Tally.{Tally}
 use Rattle.cells.specs.declared.Surveyed.the-variants.{Tiled, Refused}
 use Rattle.cells.specs.Tiling.{layout, surveyOf}
-use Rattle.cells.specs.Map.{marksAll, zeros, mapAfter}
+use Rattle.cells.specs.Map.{zeros, mapAfter}
 use Rattle.cells.specs.Survey.{frontFault, surveyAnswer, mapLeft}
 use Rattle.cells.specs.Tiled.{Mapped}
 use Rattle.cells.proofs.Fronts.{front-facts, survey-front, survey-on}

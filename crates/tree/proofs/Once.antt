@@ -1,11 +1,11 @@
 -- In a tree that stands the listing of its keys has none twice.
 -- From each key its parent field leads in so many steps to the root, and in no fewer: so many and no other number. So where a key was listed is told
 -- by the key itself.
-use Prim.Native.Nat.{ℕ, zero, suc, _+_, _<_, _≤_}
+use Prim.Native.Nat.{ℕ, zero, suc, _+_, _<_}
 use native.Mathlib.Omega.{arith}
 use mathlib.Core.Path.{_≡_, refl, sym, ap, _∙_, subst}
-use mathlib.Core.Logic.{_⊎_, inl, inr, ⊎-elim}
-use mathlib.Core.List.{List, [], _∷_, _++_, List·Memᴰ, List·Memᴰ·head, List·Memᴰ·tail, List·Memᴰ·cases-cons, List·Memᴰ·not-nil, List·Memᴰ·append-cases, Memᴰ·append-left, Memᴰ·append-right, Memᴰ·cast}
+use mathlib.Core.Logic.{_⊎_, ⊎-elim}
+use mathlib.Core.List.{List, [], _∷_, _++_, List·Memᴰ, List·Memᴰ·head, List·Memᴰ·tail, List·Memᴰ·cases-cons, List·Memᴰ·not-nil, List·Memᴰ·append-cases}
 use Rattle.fields.specs.declared.Offset.{Offset}
 use Rattle.names.specs.declared.Order.the-variants.{Before}
 use Rattle.names.specs.Comparison.{compare}
@@ -15,7 +15,7 @@ use Rattle.records.specs.Keys.{keyOf}
 use Rattle.records.specs.Lists.{children}
 use Rattle.tree.specs.declared.Hive.{Hive}
 use Rattle.tree.specs.Tree.{nameAt, joined, keysIn}
-use Rattle.tree.specs.WellFormed.{ChildStands, Ascends, none, more, TreeStands, key}
+use Rattle.tree.specs.WellFormed.{ChildStands, Ascends, more, TreeStands, key}
 
 -- none is there twice
 pub data Once : List Offset → Type 0 where

@@ -1,7 +1,7 @@
 -- From the root: the walk's counts are the report's, and the check is the survey followed by the walk.
 use Prim.Native.Nat.{ℕ, _+_, _-_, _≤_}
 use native.Mathlib.Omega.{arith}
-use mathlib.Core.Path.{_≡_, refl, sym, ap, ap₂, _∙_}
+use mathlib.Core.Path.{_≡_, sym, _∙_}
 use mathlib.Core.Bool.{false}
 use mathlib.Core.List.{List}
 use lib.ListN.{length, take, drop, length-take, length-drop}
@@ -18,10 +18,8 @@ use Rattle.cells.proofs.Mapped.{surveyed}
 use Rattle.tree.specs.declared.Checked.the-variants.{Accepted, Refused}
 use Rattle.tree.specs.declared.Count.{Count}
 use Rattle.tree.specs.declared.Listed.the-variants.{Start}
-use Rattle.tree.specs.declared.Report.{Report}
-use Rattle.tree.specs.declared.Walk.{Walk}
 use Rattle.tree.specs.declared.Walk.the-variants.{Counted, Refused as Stopped}
-use Rattle.tree.specs.Tree.{Charge, Free, Of, treeCharge, keysIn, tallied, walked, keyAnswer, answer, levels, hiveOf, rootChild, keysOf, valuesIn, reportOf, checkAnswer}
+use Rattle.tree.specs.Tree.{treeCharge, keysIn, tallied, keyAnswer, levels, hiveOf, rootChild, keysOf, valuesIn, checkAnswer}
 use Rattle.tree.specs.Steps.{Ready, walkAnswer}
 use Rattle.tree.proofs.Accepted.{root-stands}
 use Rattle.tree.proofs.Counted.{counted}

@@ -1,17 +1,16 @@
 -- Each record's tests are sound exactly when what they test stands, on bins data that are tiled, with their map.
-use Prim.Native.Nat.{ℕ, _*_, _≤_}
-use native.Mathlib.Omega.{arith}
-use mathlib.Core.Path.{_≡_, refl, sym, ap, _∙_}
+use Prim.Native.Nat.{ℕ}
+use mathlib.Core.Path.{_≡_, refl}
 use mathlib.Core.Bool.{Bool, true, false, cond}
-use mathlib.Core.List.{List, List·Memᴰ}
+use mathlib.Core.List.{List}
 use lib.Dec.{eqb, leb}
 use lib.ListN.{length}
-use borrow.Author.Tests.{eq-eqb, ne-eqb, le-leb, leb-true, eqb-true, eqb-false}
+use borrow.Author.Tests.{ne-eqb, le-leb, leb-true, eqb-false}
 use Rattle.fields.specs.declared.Offset.{Offset}
 use Rattle.fields.specs.declared.Flaw.{Flaw}
 use Rattle.fields.specs.declared.Verdict.{Verdict}
-use Rattle.fields.specs.declared.Verdict.the-variants.{Sound, Flawed}
-use Rattle.fields.specs.declared.Fault.the-variants.{Record, Parent}
+use Rattle.fields.specs.declared.Verdict.the-variants.{Sound}
+use Rattle.fields.specs.declared.Fault.the-variants.{Record}
 use Rattle.fields.specs.Faults.{flaw, unless, _next_, faultOver}
 use Rattle.fields.proofs.Firsts.{both, sound, held, holds}
 use Rattle.fields.proofs.Loops.{over-each, each-over}
@@ -21,13 +20,12 @@ use Rattle.cells.specs.Named.{cellFault, dataAt}
 use Rattle.cells.specs.Tiled.{BinsTile, InUse, Mapped}
 use Rattle.cells.proofs.Mapped.{sound-in-use}
 use Rattle.records.specs.declared.Key.{Key}
-use Rattle.records.specs.Keys.{isKey, keyFault, keyOf}
+use Rattle.records.specs.Keys.{isKey, keyFault}
 use Rattle.records.specs.Lists.{isRi, isLeaf, isList, leavesOf, leafFault, headFault, listFault, listsFault}
-use Rattle.values.specs.declared.Segment.{Segment}
 use Rattle.values.specs.declared.ValueData.{ValueData}
 use Rattle.values.specs.declared.ValueData.the-variants.{Inline, OneCell, Segments}
 use Rattle.values.specs.Records.{isValue, valueFault, dataIn}
-use Rattle.values.specs.Segments.{roomFault, segmentsFor, isDb, dbFault, segmentList, segmentsOf, segmentFault, segmentListFault, segmentsFault, dataFault}
+use Rattle.values.specs.Segments.{roomFault, isDb, dbFault, segmentsOf, segmentFault, segmentListFault, segmentsFault, dataFault}
 use Rattle.values.specs.Lists.{valuesOf, valueListFault, wholeValueFault, valuesFault}
 use Rattle.tree.specs.WellFormed.{Room, Segmented, DataStands, ValueStands, ValuesStand, LeafStands, ListStands}
 

@@ -1,12 +1,12 @@
 -- Every refusal of the check is one of the table's, with the place that the table names.
-use Prim.Native.Nat.{ℕ, zero, suc, _+_, _-_, _*_, _/_, _%_, _≤_, _<_}
+use Prim.Native.Nat.{ℕ, zero, suc, _+_, _-_, _*_, _/_, _≤_}
 use native.Mathlib.Omega.{arith}
 use mathlib.Core.Path.{_≡_, refl, sym, ap, _∙_, subst}
 use mathlib.Core.Bool.{Bool, true, false, cond, not, _||_}
 use mathlib.Core.Logic.{_⊎_, inl, inr}
 use mathlib.Core.List.{List, [], _∷_}
-use lib.Dec.{eqb, leb, ltb}
-use lib.ListN.{length, length-take, length-drop}
+use lib.Dec.{eqb, leb}
+use lib.ListN.{length}
 use Rattle.fields.specs.declared.Fault.{Fault}
 use Rattle.fields.specs.declared.Fault.the-variants as named
 use Rattle.fields.specs.declared.Offset.{Offset}
@@ -16,15 +16,13 @@ use Rattle.fields.specs.declared.Verdict.{Verdict}
 use Rattle.fields.specs.declared.Verdict.the-variants.{Sound, Flawed}
 use Rattle.fields.specs.Faults.{numberOf, flaw, nowhere, unless, _next_, faultOver, refusalOf}
 use Rattle.base.specs.Block.{sector, binsOf, isRegf, isSummed, isVersion, isBinsSize, isSettled, blockFault, baseFault, binsData}
-use Rattle.base.proofs.Laws.{base-facts}
 use Rattle.cells.specs.declared.Rule.the-variants.{Map}
 use Rattle.cells.specs.declared.Surveyed.{Surveyed}
 use Rattle.cells.specs.declared.Surveyed.the-variants.{Tiled, Refused as Untiled}
 use Rattle.cells.specs.Tiling.{layout, surveyOf}
 use Rattle.cells.specs.Survey.{frontFault, tested, surveyAnswer, mapLeft}
 use Rattle.cells.specs.Named.{cellFault, dataAt}
-use Rattle.cells.specs.Tiled.{BinsTile, InUse, Mapped}
-use Rattle.cells.proofs.Fronts.{front-facts}
+use Rattle.cells.specs.Tiled.{BinsTile, Mapped}
 use Rattle.cells.proofs.Naming.{cell-fault-is}
 use Rattle.cells.proofs.Refusals.{Untiled as UntiledBy, bad-bin, bad-cell, untiled}
 use Rattle.cells.proofs.Mapped.{sound-in-use, in-use-sound, surveyed}
@@ -32,7 +30,6 @@ use Rattle.records.specs.declared.Child.{Child}
 use Rattle.records.specs.declared.Key.{Key}
 use Rattle.records.specs.Keys.{isKey, keyFault, keyOf, codesOf}
 use Rattle.records.specs.Lists.{isRi, isLeaf, isList, leavesOf, childrenBelow, children, leafFault, headFault, listFault, listsFault}
-use Rattle.values.specs.declared.Segment.{Segment}
 use Rattle.values.specs.declared.ValueData.{ValueData}
 use Rattle.values.specs.declared.ValueData.the-variants.{Inline, OneCell, Segments}
 use Rattle.values.specs.Records.{isValue, valueFault, dataIn}
@@ -40,7 +37,7 @@ use Rattle.values.specs.Segments.{roomFault, segmentsFor, isDb, dbFault, segmen
 use Rattle.values.specs.Lists.{valuesOf, valueListFault, wholeValueFault, valuesFault}
 use Rattle.names.specs.Comparison.{compare}
 use Rattle.names.specs.Hashing.{hashOf}
-use Rattle.tree.specs.declared.Checked.the-variants.{Accepted, Refused}
+use Rattle.tree.specs.declared.Checked.the-variants.{Refused}
 use Rattle.tree.specs.declared.Hive.{Hive}
 use Rattle.tree.specs.declared.Report.{Report}
 use Rattle.tree.specs.declared.Listed.{Listed}

@@ -1,26 +1,23 @@
 -- A key's tests, a law for each way out of the code.
-use Prim.Native.Nat.{ℕ, zero, suc, _+_, _-_, _<_, _≤_}
-use native.Mathlib.Omega.{arith}
+use Prim.Native.Nat.{ℕ, zero, suc, _-_}
 use mathlib.Core.Path.{_≡_, refl, sym, ap, _∙_}
-use mathlib.Core.Bool.{Bool, true, false, not, _||_}
+use mathlib.Core.Bool.{true, false, not}
 use mathlib.Core.List.{List}
-use lib.Dec.{eqb}
-use lib.ListN.{length, getD}
+use lib.ListN.{length}
 use borrow.Author.Tests.{eq-eqb, ne-eqb}
 use Rattle.fields.specs.declared.Offset.{Offset}
 use Rattle.fields.specs.declared.Flaw.{Flaw}
 use Rattle.fields.specs.declared.Verdict.the-variants.{Sound, Flawed}
 use Rattle.fields.specs.declared.Fault.the-variants.{Order, Parent, Level}
 use Rattle.fields.specs.Faults.{flaw, unless, _next_}
-use Rattle.fields.proofs.Firsts.{on, stop, both, holds, fails}
+use Rattle.fields.proofs.Firsts.{on, stop, holds, fails}
 use Rattle.cells.specs.declared.Rule.the-variants.{Map}
 use Rattle.names.specs.declared.Order.{Order as Ordering}
-use Rattle.names.specs.declared.Order.the-variants.{Before, Same, After as Behind}
 use Rattle.names.specs.Comparison.{compare}
 use Rattle.names.specs.Hashing.{hashOf}
 use Rattle.records.specs.declared.Child.{Child}
 use Rattle.records.specs.declared.Key.{Key}
-use Rattle.records.specs.Keys.{keyFault, keyOf, codesOf}
+use Rattle.records.specs.Keys.{codesOf}
 use Rattle.records.specs.Lists.{childrenBelow, listsFault}
 use Rattle.values.specs.Lists.{valuesFault}
 use Rattle.tree.specs.declared.Hive.{Hive}

@@ -2,8 +2,8 @@
 use Prim.Native.Nat.{ℕ, zero, suc, _+_, _-_, _<_, _≤_}
 use native.Mathlib.Omega.{arith}
 use native.Mathlib.Numerals.{sub-one, add-one}
-use mathlib.Core.Path.{_≡_, refl, sym, ap, ap₂, _∙_, subst}
-use mathlib.Core.List.{List, [], _∷_, _++_, append-assoc, append-nil}
+use mathlib.Core.Path.{_≡_, refl, sym, ap, _∙_, subst}
+use mathlib.Core.List.{List, [], _∷_, _++_, append-assoc}
 use lib.ListN.{length, getD, drop}
 use lib.Seq.{drop-cons}
 use Rattle.fields.specs.declared.Offset.{Offset}
@@ -17,18 +17,17 @@ use Rattle.cells.specs.Named.{dataAt}
 use Rattle.records.specs.declared.Child.{Child}
 use Rattle.records.specs.declared.Key.{Key}
 use Rattle.records.specs.Keys.{keyFault, keyOf}
-use Rattle.records.specs.Lists.{leafChildren, childrenIn, childrenBelow, children, listsFault}
+use Rattle.records.specs.Lists.{leafChildren, childrenIn, childrenBelow, children}
 use Rattle.records.specs.Places.{noChild}
 use Rattle.records.proofs.LawsKey.{key-room, name-room}
 use Rattle.tree.specs.declared.Count.{Count}
 use Rattle.tree.specs.declared.Hive.{Hive}
 use Rattle.tree.specs.declared.Listed.{Listed}
-use Rattle.tree.specs.declared.Listed.the-variants.{Start, First, After}
-use Rattle.tree.specs.declared.Walk.{Walk}
+use Rattle.tree.specs.declared.Listed.the-variants.{First, After}
 use Rattle.tree.specs.declared.Walk.the-variants.{Counted, Refused}
-use Rattle.tree.specs.Tree.{Charge, Free, Of, _after_, chargeOf, ownFault, keyCharge, listCharge, treeCharge, joined, keysIn, tally, tallied, walked, keyAnswer, listAnswer}
-use Rattle.tree.specs.Steps.{Fits, ListedFits, lastOf}
-use Rattle.tree.proofs.Charges.{both-free, after-assoc, own-parts, level-zero, key-parts, key-free, Own}
+use Rattle.tree.specs.Tree.{Charge, Free, Of, _after_, ownFault, keyCharge, listCharge, treeCharge, joined, keysIn, tally, tallied, walked, keyAnswer, listAnswer}
+use Rattle.tree.specs.Steps.{Fits, lastOf}
+use Rattle.tree.proofs.Charges.{both-free, after-assoc, own-parts, level-zero, key-parts, key-free}
 
 pub refused-of : (a : Charge) (t : Count) {f : Refusal} → walked a t ≡ Refused f → a ≡ Of f
 refused-of Free t e = absurd (let z : _≡_ {A = ℕ} 0 1 = cc in omega arith)

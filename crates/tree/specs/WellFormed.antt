@@ -1,8 +1,8 @@
 -- What a well formed hive is, said without the order of tests and without the walk: "cells tile the bins; the keys reached from the root form a
 -- sorted tree". d is the bins data.
-use Prim.Native.Nat.{ℕ, zero, suc, _+_, _*_, _≤_, _<_}
+use Prim.Native.Nat.{ℕ, suc, _+_, _*_, _≤_}
 use mathlib.Core.Path.{_≡_}
-use mathlib.Core.Bool.{Bool, true, false}
+use mathlib.Core.Bool.{true}
 use mathlib.Core.List.{List, [], _∷_, List·Memᴰ}
 use lib.ListN.{length}
 use Rattle.fields.specs.declared.Offset.{Offset}
@@ -15,7 +15,7 @@ use Rattle.names.specs.Hashing.{hashOf}
 use Rattle.records.specs.declared.Child.{Child}
 use Rattle.records.specs.declared.Key.{Key}
 use Rattle.records.specs.Keys.{isKey, keyOf}
-use Rattle.records.specs.Lists.{isRi, isList, isLeaf, leavesOf, childrenBelow, children}
+use Rattle.records.specs.Lists.{isRi, isList, isLeaf, leavesOf, children}
 use Rattle.values.specs.declared.Segment.{Segment}
 use Rattle.values.specs.declared.ValueData.{ValueData}
 use Rattle.values.specs.declared.ValueData.the-variants.{Inline, OneCell, Segments}

@@ -19,7 +19,6 @@ ghost use Rattle.cells.specs.Survey.{mapLeft};
 ghost use Rattle.cells.specs.Named.{dataAt};
 ghost use Rattle.cells.specs.declared.Rule.the-variants.{Map};
 ghost use Rattle.fields.specs.declared.Verdict.the-variants.{Sound};
-ghost use Rattle.records.specs.Keys.{keyOf};
 ghost use Rattle.records.specs.Lists.{leafChildren, leafFault, childrenBelow, listsFault};
 ghost use Rattle.tree.specs.Tree.{parentFault, orderFault, placeFault, hashFault, restFault, ownFault, tally as tallyOf, keyAnswer, listAnswer, checkAnswer};
 ghost use Rattle.tree.specs.Steps.{NameLies, Fits, ListedFits, listingFault, lastOf, Ready, walkAnswer};

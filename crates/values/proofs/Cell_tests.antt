@@ -13,13 +13,12 @@ use Rattle.fields.specs.declared.Verdict.the-variants.{Sound, Flawed}
 use Rattle.fields.specs.Faults.{flaw, unless, _next_, faultOver}
 use Rattle.fields.proofs.Firsts.{on, stop, both, sound, held, holds, fails}
 use Rattle.cells.specs.declared.Cell.{Cell}
-use Rattle.cells.specs.declared.Found.{Found}
 use Rattle.cells.specs.declared.Found.the-variants.{Named, Missing}
 use Rattle.cells.specs.declared.Rule.{Rule}
 use Rattle.cells.specs.declared.Rule.the-variants.{Header}
 use Rattle.records.proofs.LawsRecord.{header-cell}
 use Rattle.cells.specs.Named.{cellOf, cellFault, dataOf, dataAt}
-use Rattle.cells.proofs.Naming.{Names, by-either, cell-sound, cell-flawed, cell-data-at, sound-names, cell-fault-is}
+use Rattle.cells.proofs.Naming.{Names, cell-sound, cell-flawed, cell-data-at, sound-names, cell-fault-is}
 
 -- ---- each flaw is 11 or 12
 

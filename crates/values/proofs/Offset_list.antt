@@ -4,7 +4,7 @@ use native.Mathlib.Omega.{arith}
 use native.Mathlib.Nat.{add-assoc}
 use mathlib.Core.Path.{_≡_, refl, ap, ap₂, _∙_}
 use mathlib.Core.List.{List, _∷_}
-use lib.ListN.{getD, take, drop}
+use lib.ListN.{take, drop}
 use lib.Seq.{getD-take, getD-drop}
 use Rattle.fields.specs.declared.Offset.{Offset}
 use Rattle.fields.specs.Number.{u16At, u32At}

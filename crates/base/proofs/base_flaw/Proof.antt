@@ -1,6 +1,6 @@
 use Rattle.base.proofs.Tests.{short, block, cut, by-sequences}
 use Rattle.fields.proofs.Firsts.{holds, fails}
-use mathlib.Core.Path.{sym, ap, _∙_}
+use mathlib.Core.Path.{sym, _∙_}
 use native.Mathlib.Omega.{arith}
 use borrow.Author.Tests.{not-true, not-false}
 use borrow.Author.Needs.{needs}

@@ -1,8 +1,6 @@
-use Rattle.base.specs.Block.{isRegf, isSummed, isVersion, isBinsSize, blockFault}
+use Rattle.base.specs.Block.{isBinsSize, blockFault}
 use Rattle.fields.proofs.Firsts.{on, stop, holds, fails}
-use denote.Ref.{now}
-use mathlib.Core.Bool.{true, false}
-use mathlib.Core.Path.{_≡_, sym, ap, _∙_}
+use mathlib.Core.Path.{sym, ap, _∙_}
 use borrow.Author.Tests.{not-true, not-false}
 use borrow.Author.Needs.{needs}
 use Rattle.base.proofs.block_flaw.Statement.{statement}

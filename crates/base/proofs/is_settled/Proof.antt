@@ -1,9 +1,6 @@
 use borrow.Author.Needs.{needs}
 use Rattle.base.proofs.is_settled.Statement.{statement}
 use Rattle.base.proofs.is_settled.Tie as tie
-use Rattle.base.proofs.is_settled.Reads as reads
-use Rattle.base.proofs.is_settled.Lts as lts
-use Rattle.fields.proofs.u32_at.Reads as u32-at-reads
 
 -- src/lib.rt:100:5
 u32-at-requires : tie.Need-u32-at-requires

@@ -1,4 +1,3 @@
-use mathlib.Core.Path.{refl}
 use Prim.Native.Nat.{_/_}
 use lib.ListN.{List·getD-eq-default}
 use native.Mathlib.Omega.{arith}

@@ -1,7 +1,7 @@
 use Rattle.cells.proofs.Naming.{low, odd, past, unused, unsized, named}
 use Rattle.cells.proofs.Steps.{good}
 use borrow.Author.Tests.{not-true, not-false}
-use mathlib.Core.Path.{_≡_, sym, ap, _∙_}
+use mathlib.Core.Path.{sym, _∙_}
 use native.Mathlib.Omega.{arith}
 use borrow.Author.Needs.{needs}
 use Rattle.cells.proofs.by_header.Statement.{statement}

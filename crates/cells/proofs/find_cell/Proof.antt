@@ -1,5 +1,5 @@
 use Rattle.cells.specs.Named.{cellOf}
-use mathlib.Core.Path.{_≡_, sym, ap, _∙_}
+use mathlib.Core.Path.{_∙_}
 use borrow.Author.Needs.{needs}
 use Rattle.cells.proofs.find_cell.Statement.{statement}
 use Rattle.cells.proofs.find_cell.Tie as tie

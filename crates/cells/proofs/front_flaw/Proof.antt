@@ -1,6 +1,6 @@
 use Rattle.cells.proofs.Fronts.{front-base, front-small, front-good}
 use Rattle.base.proofs.Laws.{base-facts}
-use mathlib.Core.Path.{_≡_, sym, _∙_}
+use mathlib.Core.Path.{sym, _∙_}
 use native.Mathlib.Omega.{arith}
 use borrow.Author.Needs.{needs}
 use Rattle.cells.proofs.front_flaw.Statement.{statement}

@@ -1,6 +1,6 @@
 use Rattle.cells.proofs.Cleared.{cleared}
 use Rattle.cells.specs.Map.{marksAll, zeros, mapAfter}
-use mathlib.Core.Path.{_≡_, ap, _∙_}
+use mathlib.Core.Path.{ap, _∙_}
 use lib.ListN.{length}
 use denote.Ref.{now}
 use Prim.Native.Nat.{_/_}

@@ -2,7 +2,7 @@ use Rattle.cells.proofs.Fronts.{front-facts, survey-front, survey-on}
 use Rattle.base.proofs.Laws.{base-facts}
 use Rattle.base.specs.Block.{sector, binsOf, binsData}
 use mathlib.Core.Path.{_≡_, sym, ap, _∙_}
-use lib.ListN.{length, take, drop, length-take, length-drop}
+use lib.ListN.{take, drop, length-take, length-drop}
 use denote.Ref.{now}
 use Prim.Native.Nat.{ℕ, _+_, _-_}
 use native.Mathlib.Omega.{arith}

@@ -2,7 +2,7 @@ use Rattle.cells.proofs.Turns.{done, fault, Walked, fits, walked, refus
 use Rattle.cells.proofs.Total.{length-marks}
 use Rattle.cells.specs.Map.{marksAll}
 use Rattle.cells.specs.Tiling.{surveyOf}
-use mathlib.Core.Path.{_≡_, refl, sym, ap, _∙_}
+use mathlib.Core.Path.{refl, sym, ap, _∙_}
 use lib.ListN.{length}
 use denote.Ref.{now}
 use Prim.Native.Nat.{_-_}

@@ -1,6 +1,5 @@
 use borrow.Author.Tests.{eq-eqb, ne-eqb}
 use Rattle.frames.specs.Frames.{framed}
-use borrow.Author.Needs.{needs}
 use Rattle.frames.proofs.framed.Statement.{statement}
 use Rattle.frames.proofs.framed.Tie as tie
 

@@ -1,5 +1,4 @@
 use Rattle.hive_c.specs.Flat.{noKey}
-use Rattle.hive_c.specs.declared.HiveAnswer.{HiveAnswer}
 use Prim.Native.Nat.{ℕ}
 use mathlib.Core.Path.{ap}
 use borrow.Author.Needs.{needs}

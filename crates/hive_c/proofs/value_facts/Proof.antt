@@ -1,7 +1,7 @@
-use Rattle.hive_c.specs.Flat.{granted, valueWith, formOf}
+use Rattle.hive_c.specs.Flat.{granted, valueWith}
 use Prim.Native.Nat.{ℕ}
 use Rattle.hive_c.specs.declared.HiveAnswer.{HiveAnswer}
-use mathlib.Core.Path.{sym, ap, _∙_}
+use mathlib.Core.Path.{ap, _∙_}
 use borrow.Author.Needs.{needs}
 use Rattle.hive_c.proofs.value_facts.Statement.{statement}
 use Rattle.hive_c.proofs.value_facts.Tie as tie

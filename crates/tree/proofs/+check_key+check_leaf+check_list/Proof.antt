@@ -5,19 +5,15 @@ use borrow.Fn.Kinds.{In}
 use borrow.Fn.PlainCycle.{Measures, is, falls, and}
 use Prim.Native.Nat.{ℕ, _+_, _-_, _*_, _<_, _≤_}
 use native.Mathlib.Omega.{arith}
-use mathlib.Core.Path.{_≡_, refl, sym, ap, _∙_, subst}
-use mathlib.Core.List.{List, List·Memᴰ}
+use mathlib.Core.Path.{_≡_, refl, sym, _∙_}
+use mathlib.Core.List.{List·Memᴰ}
 use denote.Ref.{now}
-use lib.ListN.{length, drop}
+use lib.ListN.{drop}
 use Rattle.fields.specs.declared.Offset.{Offset}
 use Rattle.fields.specs.declared.Verdict.the-variants.{Sound}
-use Rattle.fields.specs.Faults.{nowhere}
 use Rattle.cells.specs.declared.Rule.the-variants.{Map}
-use Rattle.cells.specs.Named.{dataAt}
-use Rattle.records.specs.declared.Child.{Child}
-use Rattle.records.specs.declared.Key.{Key}
 use Rattle.records.specs.Keys.{keyFault, keyOf}
-use Rattle.records.specs.Lists.{leafFault, leafChildren, childrenIn, childrenBelow}
+use Rattle.records.specs.Lists.{leafFault, childrenIn}
 use Rattle.records.specs.Places.{leavesNamed, LeavesLie, elementsOf, ElementsLie}
 use Rattle.records.proofs.LawsAnswer.{keyed-whole, keyed-flawed}
 use Rattle.records.proofs.LawsKey.{name-room}

@@ -1,8 +1,8 @@
 use Rattle.tree.proofs.Roots.{check-refused, check-walk, check-ready}
-use Rattle.tree.specs.Steps.{Ready, walkAnswer}
+use Rattle.tree.specs.Steps.{walkAnswer}
 use Prim.Native.Nat.{ℕ}
 use mathlib.Core.List.{List}
-use mathlib.Core.Path.{_≡_, sym, ap, _∙_}
+use mathlib.Core.Path.{sym, ap, _∙_}
 use denote.Ref.{now}
 use borrow.Author.Needs.{needs}
 use Rattle.tree.proofs.check.Statement.{statement}

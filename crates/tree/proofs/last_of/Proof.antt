@@ -8,11 +8,10 @@ use Rattle.records.specs.declared.Child.{Child}
 use Rattle.cells.specs.Named.{dataAt}
 use Rattle.cells.specs.declared.Rule.the-variants.{Map}
 use lib.ListN.{getD}
-use mathlib.Core.Path.{_≡_, sym, ap, _∙_}
+use mathlib.Core.Path.{ap, _∙_}
 use Prim.Native.Nat.{ℕ, _-_}
 use denote.Ref.{now}
 use native.Mathlib.Omega.{arith}
-use borrow.Author.Needs.{needs}
 use Rattle.tree.proofs.last_of.Statement.{statement}
 use Rattle.tree.proofs.last_of.Tie as tie
 

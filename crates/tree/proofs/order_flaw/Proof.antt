@@ -2,7 +2,7 @@ use Rattle.tree.proofs.Tests.{order-is}
 use Rattle.records.specs.Keys.{codesOf}
 use Rattle.records.specs.declared.Key.{Key}
 use Rattle.names.specs.Comparison.{compare}
-use mathlib.Core.Path.{_≡_, sym, ap, _∙_}
+use mathlib.Core.Path.{sym, ap, _∙_}
 use denote.Ref.{now}
 use borrow.Author.Needs.{needs}
 use Rattle.tree.proofs.order_flaw.Statement.{statement}

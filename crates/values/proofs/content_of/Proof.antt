@@ -1,4 +1,3 @@
-use mathlib.Core.Path.{_≡_}
 use borrow.Author.Tests.{le-leb, lt-leb}
 use Rattle.values.specs.Records.{contentOf}
 use borrow.Author.Needs.{needs}

@@ -1,5 +1,5 @@
 use Rattle.values.proofs.LawsData.{isOne, one-room, copy-one, db-room, segments-lie, segments-bytes}
-use mathlib.Core.Path.{_≡_, ap, _∙_}
+use mathlib.Core.Path.{ap, _∙_}
 use borrow.Author.Needs.{needs}
 use Rattle.values.proofs.copy_data.Statement.{statement}
 use Rattle.values.proofs.copy_data.Tie as tie

@@ -1,4 +1,3 @@
-use mathlib.Core.Path.{_≡_}
 use Rattle.values.specs.Records.{fieldsOf}
 use borrow.Author.Needs.{needs}
 use Rattle.values.proofs.fields_of.Statement.{statement}

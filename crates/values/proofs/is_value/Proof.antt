@@ -1,5 +1,5 @@
 use Rattle.values.specs.Records.{isDataSize}
-use mathlib.Core.Path.{_≡_, sym, ap, _∙_}
+use mathlib.Core.Path.{sym, ap, _∙_}
 use borrow.Author.Tests.{not-true, not-false}
 use native.Mathlib.Omega.{arith}
 use Rattle.values.proofs.Tests.{short, other-signature, cut, misnamed, by-size}

@@ -1,4 +1,4 @@
-use mathlib.Core.Path.{_≡_, sym, _∙_}
+use mathlib.Core.Path.{sym, _∙_}
 use Rattle.values.proofs.Rooms.{room-lacks, room-short, room-enough}
 use borrow.Author.Needs.{needs}
 use Rattle.values.proofs.room_flaw.Statement.{statement}

@@ -1,4 +1,4 @@
-use mathlib.Core.Path.{_≡_, sym, _∙_}
+use mathlib.Core.Path.{sym, _∙_}
 use Rattle.values.proofs.Segment_faults.{listed, unlisted, unlisted-segments, list-room, by-segments}
 use borrow.Author.Needs.{needs}
 use Rattle.values.proofs.segments_flaw.Statement.{statement}

@@ -1,4 +1,4 @@
-use mathlib.Core.Path.{_≡_, refl}
+use mathlib.Core.Path.{refl}
 use Rattle.values.specs.Segments.{segmentsFor}
 use borrow.Author.Needs.{needs}
 use Rattle.values.proofs.segments_for.Statement.{statement}

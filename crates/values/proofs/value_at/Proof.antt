@@ -1,5 +1,5 @@
 use Rattle.values.specs.declared.Valued.the-variants.{Whole}
-use mathlib.Core.Path.{_≡_, sym, ap, _∙_}
+use mathlib.Core.Path.{sym, ap, _∙_}
 use borrow.Author.Tests.{not-true, not-false}
 use Rattle.cells.proofs.Naming.{inside}
 use Rattle.values.proofs.Valued_at.{value-lacks, value-refused, value-whole, value-room}

@@ -1,5 +1,5 @@
 use borrow.Author.Tests.{eq-eqb, ne-eqb}
-use mathlib.Core.Path.{_≡_, _∙_}
+use mathlib.Core.Path.{_∙_}
 use Rattle.values.specs.Lists.{valueListFault, valueEntries}
 use borrow.Author.Needs.{needs}
 use Rattle.values.proofs.value_list.Statement.{statement}

@@ -1,4 +1,4 @@
-use mathlib.Core.Path.{_≡_, sym, _∙_}
+use mathlib.Core.Path.{sym, _∙_}
 use Rattle.values.proofs.Segment_faults.{listed, unlisted}
 use Rattle.values.proofs.LawsLists.{list-room, unlisted-values, by-values}
 use borrow.Author.Needs.{needs}

@@ -1,4 +1,4 @@
-use mathlib.Core.Path.{_≡_, sym, _∙_}
+use mathlib.Core.Path.{sym, _∙_}
 use Rattle.values.proofs.Valued_at.{whole-stop, whole-on}
 use borrow.Author.Needs.{needs}
 use Rattle.values.proofs.whole_value_flaw.Statement.{statement}
