@@ -66,7 +66,11 @@ enum Kind {
     Find,
     Copy,
     Repair,
+    Sample,
 }
+
+// The pages that a sample of a repair asks for: 100 of 64 MiB, evenly spread.
+const STEP: usize = 131_072 / 100;
 
 #[derive(PartialEq, Debug)]
 enum Outcome {
@@ -106,6 +110,13 @@ fn rattle(i: &mut Input) -> Outcome {
                 }
                 Outcome::Repair(answer(hive_recover_close(h, n, l, k).answer, done))
             }
+            Kind::Sample => {
+                for from in 0..100 {
+                    let p = hive_recover_next(l, k, from * STEP);
+                    hive_recover_page(h, n, l, k, p.page as usize);
+                }
+                Outcome::Repair(Ok(100))
+            }
         }
     }
 }
@@ -123,6 +134,13 @@ fn rust<S: Style>(i: &mut Input) -> Outcome {
                 at = check::next::<S>(&i.log, p + 1);
             }
             Outcome::Repair(check::close::<S>(&mut i.hive, &i.log).map(|_| done))
+        }
+        Kind::Sample => {
+            for from in 0..100 {
+                let p = check::next::<S>(&i.log, from * STEP).unwrap();
+                check::page::<S>(&mut i.hive, &i.log, p).unwrap();
+            }
+            Outcome::Repair(Ok(100))
         }
     }
 }
@@ -149,6 +167,7 @@ fn input(row: &str, folder: &str) -> Input {
         Some(("check", n)) => (Kind::Check, format!("mixed-{n}")),
         Some(("last" | "absent", n)) => (Kind::Find, format!("wide-{n}")),
         Some(("repair", n)) => (Kind::Repair, format!("torn-{n}")),
+        Some(("sample", n)) => (Kind::Sample, format!("torn-{n}")),
         _ => (Kind::Copy, "large".into()),
     };
     let hive = read(format!("{folder}/{file}")).unwrap();
