@@ -1,7 +1,7 @@
 #ifndef KIT_UNISTD_H
 #define KIT_UNISTD_H
 #include <sys/types.h>
-int close(int), fsync(int), isatty(int), unlink(const char *);
+int close(int), fsync(int), isatty(int), unlink(const char *), execv(const char *, char *const *);
 ssize_t read(int, void *, size_t), write(int, const void *, size_t);
 ssize_t pread(int, void *, size_t, off_t), pwrite(int, const void *, size_t, off_t);
 off_t lseek(int, off_t, int);
