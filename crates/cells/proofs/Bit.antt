@@ -18,7 +18,8 @@ use Rattle.cells.specs.Tiling.{tilingN, tiling, goodSize}
 use Rattle.cells.specs.Tiled.{Good}
 use Rattle.cells.proofs.Steps.{good, length-mark}
 use Rattle.cells.specs.Tiling.{Tiling, whole, bad, cell}
-use Rattle.cells.specs.Map.{markAt, marks, bitOf, starts}
+use Rattle.bitmap.specs.Bits.{bit}
+use Rattle.cells.specs.Map.{markAt, marks, starts}
 
 -- a bit of an or
 or-bit : (x y i : ℕ) → bitOr x y / 2 ^ i % 2 ≡ max (x / 2 ^ i % 2) (y / 2 ^ i % 2)
@@ -44,11 +45,11 @@ eqb-cong a b c d f g = by (eqb a b) refl
     by false e = e ∙ sym (ne-eqb c d (λ q. eqb-false a b e (g q)))
 
 -- one mark: the bit of its offset is set, and every other is as it was
-mark-bit : (m : List ℕ) (at k : ℕ) → at % 8 ≡ 0 → at < length m * 64 → bitOf (markAt m at) k ≡ max (bitOf m k) (flag (eqb at (k * 8)))
-unfolding bitOf markAt
+mark-bit : (m : List ℕ) (at k : ℕ) → at % 8 ≡ 0 → at < length m * 64 → bit (markAt m at) k ≡ max (bit m k) (flag (eqb at (k * 8)))
+unfolding markAt
 mark-bit m at k e lt = by (eqb (at / 64) (k / 8)) refl
   where
-    by : (t : Bool) → eqb (at / 64) (k / 8) ≡ t → bitOf (markAt m at) k ≡ max (bitOf m k) (flag (eqb at (k * 8)))
+    by : (t : Bool) → eqb (at / 64) (k / 8) ≡ t → bit (markAt m at) k ≡ max (bit m k) (flag (eqb at (k * 8)))
     by true q =
         let j : at / 64 ≡ k / 8 = eqb-true _ _ q in
         let lt' : k / 8 < length m = omega arith in
@@ -76,7 +77,7 @@ flag-or true false = refl
 flag-or false true = refl
 flag-or false false = refl
 
-pub marks-bit : (t : Tiling) (m : List ℕ) (k : ℕ) → placed t (length m * 64) → bitOf (marks t m) k ≡ max (bitOf m k) (flag (starts t (k * 8)))
+pub marks-bit : (t : Tiling) (m : List ℕ) (k : ℕ) → placed t (length m * 64) → bit (marks t m) k ≡ max (bit m k) (flag (starts t (k * 8)))
 unfolding marks starts placed
 marks-bit whole m k p = sym (max-zero _)
 marks-bit (bad at) m k p = sym (max-zero _)
@@ -84,8 +85,8 @@ marks-bit (cell at z t) m k p =
     by (z .used) refl (λ m' e. marks-bit t m' k (rw e (p .2)))
   where
     by : (u : Bool) → z .used ≡ u
-        → ((m' : List ℕ) → length m' ≡ length m → bitOf (marks t m') k ≡ max (bitOf m' k) (flag (starts t (k * 8))))
-        → bitOf (marks (cell at z t) m) k ≡ max (bitOf m k) (flag (starts (cell at z t) (k * 8)))
+        → ((m' : List ℕ) → length m' ≡ length m → bit (marks t m') k ≡ max (bit m' k) (flag (starts t (k * 8))))
+        → bit (marks (cell at z t) m) k ≡ max (bit m k) (flag (starts (cell at z t) (k * 8)))
     by true u ih = rw u (ih (markAt m at) (length-mark m at) ∙ rw (mark-bit m at k (p .0) (p .1), flag-or) (omega arith))
     by false u ih = rw u (ih m refl)
 

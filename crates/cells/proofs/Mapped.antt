@@ -20,7 +20,8 @@ use Rattle.cells.specs.declared.Rule.the-variants.{Map, Header}
 use Rattle.cells.specs.declared.Tally.{Tally}
 use Rattle.cells.specs.declared.Surveyed.the-variants.{Tiled}
 use Rattle.cells.specs.Tiling.{tiling, layout, surveyOf}
-use Rattle.cells.specs.Map.{marks, isBad, marksAll, zeros, mapAfter, bitOf, isMarked, startsIn}
+use Rattle.bitmap.specs.Bits.{bit}
+use Rattle.cells.specs.Map.{marks, isBad, marksAll, zeros, mapAfter, isMarked, startsIn}
 use Rattle.cells.specs.Survey.{frontFault, surveyAnswer, mapLeft}
 use Rattle.cells.specs.Named.{isNamed, cellAt, byHeader, cellOf, cellFault}
 use Rattle.cells.specs.Tiled.{Good, BinsTile, bins-end, bin-on, InUse, Mapped}
@@ -28,14 +29,14 @@ use Rattle.cells.proofs.Bit.{flag, flag-or, marks-bit, placed, placed-m
 use Rattle.cells.proofs.Steps.{of-good}
 use Rattle.cells.proofs.Total.{length-marks}
 use Rattle.cells.proofs.Turns.{done, step}
-use Rattle.cells.proofs.Marked.{marked-odd}
+use Rattle.cells.proofs.Marked.{marked-odd, marked-set}
 use Rattle.cells.proofs.Naming.{names, sound-names}
 use Rattle.cells.proofs.Fronts.{front-facts, survey-front, survey-on}
 use Rattle.cells.proofs.Tiles.{tile-counted, of-header, of-header-some, wholly-inside, tiled-exactly, total}
 
 module _ (d : List ℕ) where
   bits-from : {at : ℕ} → at % 4096 ≡ 0 → BinsTile d at → (m : List ℕ) → length d ≤ length m * 64 → (k : ℕ)
-      → bitOf (marksAll (layout d at) m) k ≡ max (bitOf m k) (flag (startsIn (layout d at) (k * 8)))
+      → bit (marksAll (layout d at) m) k ≡ max (bit m k) (flag (startsIn (layout d at) (k * 8)))
   unfolding marksAll startsIn isBad
   bits-from {at} a (bins-end e) m r k = rw (done d at (omega arith)) (sym (max-zero _))
   bits-from {at} a (bin-on n h t b) m r k =
@@ -50,8 +51,8 @@ module _ (d : List ℕ) where
           → placed (tiling d (at + 32) (at + n)) (length m * 64)
       tiling-room p = placed-more (at + n) (length m * 64) (omega (arith, h .inside)) (tiling d (at + 32) (at + n)) p
 
-zeros-bit : (n : ℕ) (m : List ℕ) (k : ℕ) → k < n * 8 → bitOf (zeros n m) k ≡ 0
-unfolding bitOf zeros
+zeros-bit : (n : ℕ) (m : List ℕ) (k : ℕ) → k < n * 8 → bit (zeros n m) k ≡ 0
+unfolding zeros
 zeros-bit n m k lt =
     let j : k / 8 < n = omega arith in
     rw (List·getD-append (replicate n 0) (drop n m) 0 (k / 8) (rw (length-replicate {A = ℕ} n 0) j), getD-replicate {A = ℕ} n (k / 8) 0 0 j, zero-div)
@@ -78,7 +79,7 @@ module _ (d : List ℕ) where
   -- the map of the tiling, over all bins: each bit that is set is a cell in use
   pub map-mapped : BinsTile d 0 → length d % 4096 ≡ 0 → (m : List ℕ) → length d / 64 ≤ length m
       → Mapped d (marksAll (layout d 0) (zeros (length d / 64) m))
-  unfolding zeros isMarked
+  unfolding zeros
   map-mapped b l m r o lt = by (eqb (o % 8) 0) refl
     where
       z : List ℕ
@@ -88,19 +89,16 @@ module _ (d : List ℕ) where
       long = simp (length-append, length-replicate, length-drop) (omega arith)
 
       by : (t : Bool) → eqb (o % 8) 0 ≡ t → isMarked (marksAll (layout d 0) z) o ≡ startsIn (layout d 0) o
-      by false e = marked-odd _ o (eqb-false (o % 8) 0 e) ∙ sym (none (startsIn (layout d 0) o) refl)
+      by false e = marked-odd (marksAll (layout d 0) z) o (eqb-false (o % 8) 0 e) ∙ sym (none (startsIn (layout d 0) o) refl)
         where
           none : (s : Bool) → startsIn (layout d 0) o ≡ s → startsIn (layout d 0) o ≡ false
           none true f = absurd (eqb-false (o % 8) 0 e (wholly-inside d b o f .inside .eights))
           none false f = f
       by true e =
           let k : o / 8 * 8 ≡ o = omega (arith, eqb-true (o % 8) 0 e) in
-          let bit : bitOf (marksAll (layout d 0) z) (o / 8) ≡ flag (startsIn (layout d 0) o)
+          let is-set : bit (marksAll (layout d 0) z) (o / 8) ≡ flag (startsIn (layout d 0) o)
           = bits-from d refl b z long (o / 8) ∙ rw (zeros-bit (length d / 64) m (o / 8) (omega arith), k) (omega arith) in
-          set-read (marksAll (layout d 0) z) e ∙ ap (λ (x : ℕ). eqb x 1) bit ∙ eqb-flag (startsIn (layout d 0) o)
-        where
-          set-read : (x : List ℕ) → eqb (o % 8) 0 ≡ true → isMarked x o ≡ eqb (bitOf x (o / 8)) 1
-          set-read x e = rw e
+          marked-set (marksAll (layout d 0) z) o (eqb-true (o % 8) 0 e) ∙ ap (λ (x : ℕ). eqb x 1) is-set ∙ eqb-flag (startsIn (layout d 0) o)
 
   -- the header's rule names them too, with the same bounds
   pub header-names : BinsTile d 0 → (m : List ℕ) (o : Offset) → InUse d o → cellOf Header d m o ≡ Named (cellAt d o)

@@ -5,6 +5,7 @@ use mathlib.Core.List.{List, _++_}
 use lib.Bits.{bitOr}
 use lib.Dec.{eqb}
 use lib.ListN.{length, getD, set, replicate, drop}
+use Rattle.bitmap.specs.Bits.{isMarked as isSet}
 use Rattle.cells.specs.declared.Row.{Row}
 use Rattle.cells.specs.declared.Row.the-variants.{Counted, Bad}
 use Rattle.cells.specs.declared.Surveyed.{Surveyed}
@@ -41,13 +42,9 @@ unfoldable pub mapAfter : List ℕ → Surveyed → List ℕ → List ℕ
 mapAfter d (Tiled t) m = marksAll (layout d 0) (zeros (length d / 64) m)
 mapAfter d (Refused f) m = zeros (length d / 64) m
 
--- bit k of a map: bit k % 8 of byte k / 8, lowest first
-unfoldable pub bitOf : List ℕ → ℕ → ℕ
-bitOf m k = getD m (k / 8) 0 / 2 ^ (k % 8) % 2
-
 -- an offset is a multiple of 8, and its bit is set
 unfoldable pub isMarked : List ℕ → ℕ → Bool
-isMarked m o = eqb (o % 8) 0 && eqb (bitOf m (o / 8)) 1
+isMarked m o = eqb (o % 8) 0 && isSet m (o / 8)
 
 -- whether a cell in use starts at an offset, in a bin and in all bins
 unfoldable pub starts : Tiling → ℕ → Bool

@@ -256,12 +256,7 @@ fn is_marked(map: &[u8], o: Offset) -> bool
     if at % 8 != 0 {
         return false;
     }
-    let j = at / 64;
-    if map.len() <= j {
-        return false;
-    }
-    let b = at / 8 % 8;
-    (map[j] >> b) % 2 == 1
+    bitmap::is_marked(map, at / 8)
 }
 
 // By which rule an offset names a cell: the check has a map, and lookup goes by the cell's own header.

@@ -11,7 +11,7 @@ use Rattle.fields.specs.Bytes.{sameBytes, standsAt}
 use Rattle.fields.specs.Faults.{_next_, faultOver, flaw, nowhere, refusalOf}
 use Rattle.base.specs.Block.{xors, storedChecksum, isVersion, isBinsSize, usable, clean, blockFault, baseFault}
 use Rattle.cells.specs.Tiling.{goodSize, tilingN, tiling, rowOf, binSize, layoutN, layout, addRow, surveyOf}
-use Rattle.cells.specs.Map.{markAt, marks, isBad, marksAll, zeros, mapAfter, bitOf, isMarked}
+use Rattle.cells.specs.Map.{markAt, marks, isBad, marksAll, zeros, mapAfter, isMarked}
 use Rattle.cells.specs.Survey.{frontFault, surveyAnswer, mapLeft}
 use Rattle.cells.specs.Named.{isNamed, byHeader, cellOf, cellFault, dataOf, dataAt}
 use Rattle.names.specs.Codes.{codes, charactersIn, hasCode}
@@ -37,7 +37,7 @@ use Rattle.demands.specs.Frauds.{NoFraud}
 
 -- "The minimal hive below gives exactly: [..] accepted bins 1 keys 1 values 0 used 88 free 3976"
 minimal-accepted : checkAnswer minimal (replicate 64 0) ≡ checked.Accepted (record { bins = 1; keys = 1; values = 0; used = 88; free = 3976 })
-unfolding checkAnswer surveyAnswer mapLeft frontFault baseFault blockFault isVersion isBinsSize storedChecksum xors u32At u16At sizeAt standsAt sameBytes _next_ goodSize tilingN tiling rowOf binSize layoutN layout addRow surveyOf markAt marks isBad marksAll zeros mapAfter bitOf isMarked isNamed byHeader cellOf cellFault dataOf dataAt codes charactersIn hasCode isKeyName isKey keyFault keyIn keyOf codesOf childrenIn leavesBelow childrenBelow listsFault valuesOf valueListFault valuesFault faultOver _after_ placeFault hashFault levelFault totalFault restFault ownFault keyCharge listCharge treeCharge joined keysIn valuesIn header baseBlock rootCell minimal
+unfolding checkAnswer surveyAnswer mapLeft frontFault baseFault blockFault isVersion isBinsSize storedChecksum xors u32At u16At sizeAt standsAt sameBytes _next_ goodSize tilingN tiling rowOf binSize layoutN layout addRow surveyOf markAt marks isBad marksAll zeros mapAfter isMarked isNamed byHeader cellOf cellFault dataOf dataAt codes charactersIn hasCode isKeyName isKey keyFault keyIn keyOf codesOf childrenIn leavesBelow childrenBelow listsFault valuesOf valueListFault valuesFault faultOver _after_ placeFault hashFault levelFault totalFault restFault ownFault keyCharge listCharge treeCharge joined keysIn valuesIn header baseBlock rootCell minimal
 minimal-accepted = refl
 
 minimal-root : findAnswer minimal [] ≡ found.At (record { 0 = 32 })
