@@ -21,7 +21,8 @@ use Rattle.cells.specs.Named.{cellOf, dataOf}
 use Rattle.cells.proofs.Naming.{cell-sound, sound-names, cell-data-at}
 use Rattle.values.specs.declared.Value.{Value}
 use Rattle.values.specs.declared.Valued.the-variants.{Whole, Flawed}
-use Rattle.values.specs.Records.{isValue, valueFault, fieldsOf, valueOf, dataIn, valued}
+use Rattle.values.specs.declared.ValueData.{ValueData}
+use Rattle.values.specs.Records.{isValue, valueFault, contentOf, fieldsOf, valueOf, dataIn, valued}
 use Rattle.values.specs.Segments.{dataFault}
 use Rattle.values.specs.Lists.{wholeValueFault}
 use Rattle.values.proofs.Cell_tests.{lacks, passes, refuses}
@@ -65,3 +66,18 @@ module _ (rule : Rule) (d m : List ℕ) (minor : ℕ) (v : Offset) where
       → wholeValueFault rule d m minor v ≡ dataFault rule d m (x .content)
   unfolding wholeValueFault valueOf fieldsOf dataIn
   whole-on e = let w = is-whole _ _ e in on _ _ (w .0) ∙ ap (λ (y : Value). dataFault rule d m (y .content)) (w .1)
+
+  pub whole-lacks : {f : Flaw} → cellOf rule d m v ≡ Missing f → wholeValueFault rule d m minor v ≡ Verdict.Flawed f
+  unfolding wholeValueFault valueFault
+  whole-lacks e = stop _ _ (lacks isValue rule d m v e)
+
+  module _ {c : Cell} (e : cellOf rule d m v ≡ Named c) (r : List ℕ) (q : r ≡ dataOf d c) where
+    pub whole-refused : isValue r ≡ false → wholeValueFault rule d m minor v ≡ Verdict.Flawed (flaw Record v)
+    unfolding wholeValueFault valueFault
+    whole-refused p = stop _ _ (refuses isValue rule d m v e r q p)
+
+    pub whole-data : isValue r ≡ true → {x : ValueData} → x ≡ contentOf r minor v → wholeValueFault rule d m minor v ≡ dataFault rule d m x
+    unfolding wholeValueFault valueFault dataIn
+    whole-data p w =
+        on _ _ (passes isValue rule d m v e r q p)
+        ∙ ap (dataFault rule d m) (sym (w ∙ ap (λ (l : List ℕ). contentOf l minor v) (q ∙ cell-data-at rule d m v e)))

@@ -312,16 +312,19 @@ pub fn data_flaw(bins: &[u8], map: &[u8], rule: Rule, x: ValueData) -> Verdict
     }
 }
 
-// A value's record, then its data.
+// A value's record, then its data. The check wants no name and no type, so they are not gathered.
 fn whole_value_flaw(bins: &[u8], map: &[u8], rule: Rule, minor: u32, v: Offset) -> Verdict
     requires { ⌜ length (now bins) ≤ binsLimit ⌝ }
     ensures { λ r. ⌜ r ≡ wholeValueFault rule (now (bins .entry)) (now (map .entry)) minor v ⌝ }
 {
-    match value_at(bins, map, rule, minor, v) {
-        Valued::Flawed(f) => Verdict::Flawed(f),
-        Valued::Whole(x) => {
-            let content = x.content;
-            data_flaw(bins, map, rule, content)
+    match cells::find_cell(bins, map, rule, v) {
+        Found::Missing(f) => Verdict::Flawed(f),
+        Found::Named(c) => {
+            let r = cells::cell_data(bins, c);
+            if !is_value(r) {
+                return fields::flawed(Fault::Record, v);
+            }
+            data_flaw(bins, map, rule, content_of(r, minor, v))
         }
     }
 }

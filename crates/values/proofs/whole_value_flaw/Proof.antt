@@ -1,28 +1,57 @@
 use mathlib.Core.Path.{sym, _∙_}
-use Rattle.values.proofs.Valued_at.{whole-stop, whole-on}
+use native.Mathlib.Omega.{arith}
+use borrow.Author.Tests.{not-true, not-false}
+use Rattle.cells.proofs.Naming.{inside}
+use Rattle.values.proofs.Valued_at.{value-room, whole-lacks, whole-refused, whole-data}
 use borrow.Author.Needs.{needs}
 use Rattle.values.proofs.whole_value_flaw.Statement.{statement}
 use Rattle.values.proofs.whole_value_flaw.Tie as tie
 
-value-at-requires : tie.Need-value-at-requires
-value-at-requires c κs = search needs
+find-cell-requires : tie.Need-find-cell-requires
+find-cell-requires c κs = search needs
 
 enum-known-f : tie.Need-enum-known-f
 enum-known-f c = search needs
 
-enum-known-x : tie.Need-enum-known-x
-enum-known-x c = search needs
+enum-known-c : tie.Need-enum-known-c
+enum-known-c c = search needs
+
+cell-data-requires : tie.Need-cell-data-requires
+cell-data-requires c κs = let i = inside _ _ _ _ (sym (c .before .before .before .find-cell .ensures) ∙ c .before .c .given .1) in i .high
+
+is-value-requires : tie.Need-is-value-requires
+is-value-requires c κs = search needs
+
+flawed-requires : tie.Need-flawed-requires
+flawed-requires c κs = search needs
+
+returns : tie.Need-returns
+returns c = c .flawed .ensures ∙ sym (whole-refused _ _ _ _ _ (sym (c .before .before .before .before .before .before .before .find-cell .ensures) ∙ c .before .before .before .before .before .c .given .1) _ (c .before .before .before .cell-data .ensures) (sym (c .before .before .is-value .ensures) ∙ not-true _ (c .before .if1 .taken)))
+
+content-of-requires : tie.Need-content-of-requires
+content-of-requires c κs = let r = value-room _ _ _ (c .before .before .before .before .before .before .before .before .before .args .minor) _ (sym (c .before .before .before .before .before .before .find-cell .ensures) ∙ c .before .before .before .before .c .given .1) _ (c .before .before .cell-data .ensures) (sym (c .before .is-value .ensures) ∙ not-false _ (c .if1 .left)) (c .before .before .before .before .before .before .before .before .before .pre) in (omega (arith, r .0), r .1)
 
 data-flaw-requires : tie.Need-data-flaw-requires
 data-flaw-requires c κs = search needs
 
-returns : tie.Need-returns
-returns c = sym (whole-stop _ _ _ _ _ (sym (c .before .before .before .value-at .ensures) ∙ c .before .f .given .1))
-
 returns-2 : tie.Need-returns-2
-returns-2 c = c .data-flaw .ensures ∙ sym (whole-on _ _ _ _ _ (sym (c .before .before .before .before .value-at .ensures) ∙ c .before .before .x .given .1))
+returns-2 c = sym (whole-lacks _ _ _ _ _ (sym (c .before .before .before .find-cell .ensures) ∙ c .before .f .given .1))
+
+returns-3 : tie.Need-returns-3
+returns-3 c = c .data-flaw .ensures ∙ sym (whole-data _ _ _ _ _ (sym (c .before .before .before .before .before .before .before .before .find-cell .ensures) ∙ c .before .before .before .before .before .before .c .given .1) _ (c .before .before .before .before .cell-data .ensures) (sym (c .before .before .before .is-value .ensures) ∙ not-false _ (c .before .before .if1 .left)) (c .before .content-of .ensures))
 
 pub whole-value-flaw-spec : {M : Type 1} → statement M
 whole-value-flaw-spec =
     tie.close
-    (tie.spec value-at-requires enum-known-f enum-known-x data-flaw-requires returns returns-2)
+    (tie.spec
+    find-cell-requires
+    enum-known-f
+    enum-known-c
+    cell-data-requires
+    is-value-requires
+    flawed-requires
+    returns
+    content-of-requires
+    data-flaw-requires
+    returns-2
+    returns-3)
