@@ -22,23 +22,23 @@ use Rattle.cells.specs.declared.Rule.{Rule}
 use Rattle.cells.specs.declared.Rule.the-variants.{Map, Header}
 use Rattle.cells.specs.Tiling.{goodSize}
 use Rattle.cells.specs.Map.{isMarked}
-use Rattle.cells.specs.Named.{isNamed, cellAt, byHeader, cellOf, cellFault, dataOf, dataAt}
+use Rattle.cells.specs.Named.{isNamed, cellAt, byHeader, cellOf, lengthNamed, lengthBy, cellFault, dataOf, dataAt}
 use Rattle.cells.specs.Tiled.{Good}
 use Rattle.cells.proofs.Steps.{good}
 
 module _ (d : List ℕ) (o : Offset) where
-  pub low : o .0 < 32 → byHeader d o ≡ Missing (flaw NoCell o)
-  unfolding byHeader isNamed
+  pub low : o .0 < 32 → lengthNamed d (o .0) ≡ 0
+  unfolding lengthNamed isNamed
   low p = rw (lt-leb 32 (o .0) p)
 
   module _ (high : 32 ≤ o .0) where
-    pub odd : (o .0 % 8 ≡ 0 → ⊥) → byHeader d o ≡ Missing (flaw NoCell o)
-    unfolding byHeader isNamed
+    pub odd : (o .0 % 8 ≡ 0 → ⊥) → lengthNamed d (o .0) ≡ 0
+    unfolding lengthNamed isNamed
     odd p = rw (le-leb 32 (o .0) high, ne-eqb (o .0 % 8) 0 p)
 
     module _ (eights : o .0 % 8 ≡ 0) where
-      pub past : length d < o .0 + 4 → byHeader d o ≡ Missing (flaw NoCell o)
-      unfolding byHeader isNamed
+      pub past : length d < o .0 + 4 → lengthNamed d (o .0) ≡ 0
+      unfolding lengthNamed isNamed
       past p = rw (le-leb 32 (o .0) high, eq-eqb (o .0 % 8) 0 eights, lt-leb (o .0 + 4) (length d) p)
 
       module _ (room : o .0 + 4 ≤ length d) (z : Size) (is : z ≡ sizeAt d (o .0)) where
@@ -47,17 +47,16 @@ module _ (d : List ℕ) (o : Offset) where
         unfolding isNamed
         rest = rw (le-leb 32 (o .0) high, eq-eqb (o .0 % 8) 0 eights, le-leb (o .0 + 4) (length d) room, is)
 
-        pub unused : z .used ≡ false → byHeader d o ≡ Missing (flaw NoCell o)
-        unfolding byHeader
+        pub unused : z .used ≡ false → lengthNamed d (o .0) ≡ 0
+        unfolding lengthNamed
         unused p = rw (rest, p)
 
-        pub unsized : z .used ≡ true → goodSize (z .bytes) (length d - o .0) ≡ false → byHeader d o ≡ Missing (flaw NoCell o)
-        unfolding byHeader
+        pub unsized : z .used ≡ true → goodSize (z .bytes) (length d - o .0) ≡ false → lengthNamed d (o .0) ≡ 0
+        unfolding lengthNamed
         unsized p q = rw (rest, p, q)
 
-        pub named : z .used ≡ true → goodSize (z .bytes) (length d - o .0) ≡ true
-            → byHeader d o ≡ Named (record { at = record { 0 = o .0 + 4 }; len = z .bytes - 4 })
-        unfolding byHeader
+        pub named : z .used ≡ true → goodSize (z .bytes) (length d - o .0) ≡ true → lengthNamed d (o .0) ≡ z .bytes
+        unfolding lengthNamed
         named p q = rw (rest, p, q, is)
 
 -- what an offset that names a cell is
@@ -82,6 +81,44 @@ names d o e =
       used = u .0;
       sized = good _ _ (u .1);
     }
+
+-- a length of 0 is that of no cell, and any other that of the cell
+module _ (d : List ℕ) (o : Offset) where
+  none-there : lengthNamed d (o .0) ≡ 0 → byHeader d o ≡ Missing (flaw NoCell o)
+  unfolding lengthNamed byHeader
+  none-there e = by (isNamed d (o .0)) refl
+    where
+      by : (t : Bool) → isNamed d (o .0) ≡ t → byHeader d o ≡ Missing (flaw NoCell o)
+      by true f = let s = names d (o .0) f .sized in let z : sizeAt d (o .0) .bytes ≡ 0 = rw f at e in absurd (omega (arith, s .some))
+      by false f = rw f
+
+  some-there : (n : ℕ) → n ≡ lengthNamed d (o .0) → (n ≡ 0 → ⊥) → (isNamed d (o .0) ≡ true) × (n ≡ sizeAt d (o .0) .bytes)
+  unfolding lengthNamed
+  some-there n e z = by (isNamed d (o .0)) refl
+    where
+      by : (t : Bool) → isNamed d (o .0) ≡ t → (isNamed d (o .0) ≡ true) × (n ≡ sizeAt d (o .0) .bytes)
+      by true f = (f, rw f at e)
+      by false f = absurd (z (rw f at e))
+
+  pub length-none : (r : Rule) (m : List ℕ) → lengthBy r d m (o .0) ≡ 0 → cellOf r d m o ≡ Missing (flaw NoCell o)
+  unfolding lengthBy cellOf
+  length-none Header m e = none-there e
+  length-none Map m e = by (isMarked m (o .0)) refl
+    where
+      by : (t : Bool) → isMarked m (o .0) ≡ t → cellOf Map d m o ≡ Missing (flaw NoCell o)
+      by true f = rw f (none-there (rw f at e))
+      by false f = rw f
+
+  pub length-some : (r : Rule) (m : List ℕ) (n : ℕ) → n ≡ lengthBy r d m (o .0) → (n ≡ 0 → ⊥)
+      → (cellOf r d m o ≡ Named (record { at = record { 0 = o .0 + 4 }; len = n - 4 })) × Names d (o .0) × (n ≡ sizeAt d (o .0) .bytes)
+  unfolding lengthBy cellOf byHeader
+  length-some Header m n e z = let s = some-there n e z in (rw (s .0, s .1), names d (o .0) (s .0), s .1)
+  length-some Map m n e z = by (isMarked m (o .0)) refl
+    where
+      by : (t : Bool) → isMarked m (o .0) ≡ t
+          → (cellOf Map d m o ≡ Named (record { at = record { 0 = o .0 + 4 }; len = n - 4 })) × Names d (o .0) × (n ≡ sizeAt d (o .0) .bytes)
+      by true f = let s = some-there n (rw f at e) z in (rw (f, s .0, s .1), names d (o .0) (s .0), s .1)
+      by false f = absurd (z (rw f at e))
 
 -- a cell's data lie inside the bins data, past the size field of a bin's first cell
 pub record Inside (d : List ℕ) (c : Cell) : Type 0 where

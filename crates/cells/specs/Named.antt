@@ -36,6 +36,14 @@ unfoldable pub cellOf : Rule → List ℕ → List ℕ → Offset → Found
 cellOf Header d m o = byHeader d o
 cellOf Map d m o = cond (isMarked m (o .0)) (byHeader d o) (Missing (flaw NoCell o))
 
+-- how long that cell is, its size field and all, by its header and by a rule; 0 where there is none, which is no cell's length
+unfoldable pub lengthNamed : List ℕ → ℕ → ℕ
+lengthNamed d o = cond (isNamed d o) (sizeAt d o .bytes) 0
+
+unfoldable pub lengthBy : Rule → List ℕ → List ℕ → ℕ → ℕ
+lengthBy Header d m o = lengthNamed d o
+lengthBy Map d m o = cond (isMarked m o) (lengthNamed d o) 0
+
 -- the test alone: sound where the offset names a cell
 abbrev pub verdictOf : Found → Verdict
 verdictOf (Named c) = Sound

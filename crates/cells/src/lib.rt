@@ -10,7 +10,7 @@ ghost use Prim.Native.Nat.{_+_, _-_, _*_, _/_, _%_, _≤_, _<_};
 ghost use lib.ListN.{length};
 ghost use Rattle.cells.specs.Tiling.{goodSize, tiling, rowOf, binSize, layout, surveyOf, Bin, Data};
 ghost use Rattle.cells.specs.Map.{markAt, marks, marksAll, zeros, isMarked, mapAfter};
-ghost use Rattle.cells.specs.Named.{byHeader, cellOf, dataOf};
+ghost use Rattle.cells.specs.Named.{lengthNamed, lengthBy, cellOf, dataOf};
 ghost use Rattle.cells.specs.Survey.{frontFault, surveyAnswer, mapLeft};
 
 // "the absolute value is a nonzero multiple of 8 and stays inside the bin", of which room bytes are left.
@@ -216,36 +216,29 @@ pub enum Found {
     Missing(Flaw),
 }
 
-// The cell that an offset names, by its own header.
-fn by_header(bins: &[u8], o: Offset) -> Found
-    ensures { λ r. ⌜ r ≡ byHeader (now (bins .entry)) o ⌝ }
+// How long the cell is that an offset names by its own header, or 0 where it names none. A number comes back in a register, a `Found` does not.
+fn header_length(bins: &[u8], o: Offset) -> usize
+    ensures { λ n. ⌜ n ≡ lengthNamed (now (bins .entry)) (o .0) ⌝ }
 {
     let at = o.0 as usize;
-    let none = Flaw {
-        fault: Fault::NoCell,
-        place: o,
-    };
     if at < 32 {
-        return Found::Missing(none);
+        return 0;
     }
     if at % 8 != 0 {
-        return Found::Missing(none);
+        return 0;
     }
     if bins.len() < at + 4 {
-        return Found::Missing(none);
+        return 0;
     }
     let c = fields::size_at(bins, at);
     let n = c.bytes as usize;
     if !c.used {
-        return Found::Missing(none);
+        return 0;
     }
     if !good_size(n, bins.len() - at) {
-        return Found::Missing(none);
+        return 0;
     }
-    Found::Named(Cell {
-        at: Offset(o.0 + 4),
-        len: n - 4,
-    })
+    n
 }
 
 // Whether the map has the bit of an offset set.
@@ -265,23 +258,37 @@ pub enum Rule {
     Header,
 }
 
+// The same by a rule.
+fn named_length(bins: &[u8], map: &[u8], rule: Rule, o: Offset) -> usize
+    ensures { λ n. ⌜ n ≡ lengthBy rule (now (bins .entry)) (now (map .entry)) (o .0) ⌝ }
+{
+    match rule {
+        Rule::Header => header_length(bins, o),
+        Rule::Map => {
+            if is_marked(map, o) {
+                header_length(bins, o)
+            } else {
+                0
+            }
+        }
+    }
+}
+
 // The data of the cell in use that an offset names, or 11 at that offset.
 pub fn find_cell(bins: &[u8], map: &[u8], rule: Rule, o: Offset) -> Found
     ensures { λ r. ⌜ r ≡ cellOf rule (now (bins .entry)) (now (map .entry)) o ⌝ }
 {
-    match rule {
-        Rule::Header => by_header(bins, o),
-        Rule::Map => {
-            if is_marked(map, o) {
-                by_header(bins, o)
-            } else {
-                Found::Missing(Flaw {
-                    fault: Fault::NoCell,
-                    place: o,
-                })
-            }
-        }
+    let n = named_length(bins, map, rule, o);
+    if n == 0 {
+        return Found::Missing(Flaw {
+            fault: Fault::NoCell,
+            place: o,
+        });
     }
+    Found::Named(Cell {
+        at: Offset(o.0 + 4),
+        len: n - 4,
+    })
 }
 
 // A cell's data, as a part of the bins data.

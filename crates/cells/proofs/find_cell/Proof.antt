@@ -1,45 +1,26 @@
-use Rattle.cells.specs.Named.{cellOf}
-use mathlib.Core.Path.{_∙_}
+use Rattle.cells.proofs.Naming.{length-none, length-some}
+use mathlib.Core.Path.{sym, _∙_}
+use native.Mathlib.Omega.{arith}
 use borrow.Author.Needs.{needs}
 use Rattle.cells.proofs.find_cell.Statement.{statement}
 use Rattle.cells.proofs.find_cell.Tie as tie
 
-enum-told : tie.Need-enum-told
-enum-told c = search needs
-
-by-header-requires : tie.Need-by-header-requires
-by-header-requires c κs = search needs
-
-enum-told-2 : tie.Need-enum-told-2
-enum-told-2 c = search needs
-
-is-marked-requires : tie.Need-is-marked-requires
-is-marked-requires c κs = search needs
-
-by-header-requires-2 : tie.Need-by-header-requires-2
-by-header-requires-2 c κs = search needs
+named-length-requires : tie.Need-named-length-requires
+named-length-requires c κs = search needs
 
 returns : tie.Need-returns
-unfolding cellOf
-returns c = c .by-header .ensures ∙ rw (c .before .enum-told .given .1)
+returns c = sym (length-none _ _ _ _ (sym (c .before .named-length .ensures) ∙ c .if1 .taken))
+
+add-t9 : tie.Need-add-t9
+add-t9 c = let s = length-some _ _ _ _ _ (c .before .before .named-length .ensures) (c .before .if1 .left) in omega (arith, s .1 .eights)
+
+sub-t11 : tie.Need-sub-t11
+sub-t11 c = let s = length-some _ _ _ _ _ (c .before .before .named-length .ensures) (c .before .if1 .left) in let g = s .1 .sized in omega (arith, s .2)
 
 returns-2 : tie.Need-returns-2
-unfolding cellOf
-returns-2 c = c .by-header2 .ensures ∙ rw (c .before .before .before .enum-told2 .given .1, ← c .before .before .is-marked .ensures, c .before .if1 .taken)
-
-returns-3 : tie.Need-returns-3
-unfolding cellOf
-returns-3 c = rw (c .before .before .enum-told2 .given .1, ← c .before .is-marked .ensures, c .if1 .left)
+returns-2 c = sym (length-some _ _ _ _ _ (c .before .before .named-length .ensures) (c .before .if1 .left) .0)
 
 pub find-cell-spec : {M : Type 1} → statement M
 find-cell-spec =
     tie.close
-    (tie.spec
-    enum-told
-    by-header-requires
-    enum-told-2
-    is-marked-requires
-    by-header-requires-2
-    returns
-    returns-2
-    returns-3)
+    (tie.spec named-length-requires returns add-t9 sub-t11 returns-2)

@@ -1,11 +1,9 @@
 use Rattle.cells.proofs.Naming.{low, odd, past, unused, unsized, named}
-use Rattle.cells.proofs.Steps.{good}
 use borrow.Author.Tests.{not-true, not-false}
 use mathlib.Core.Path.{sym, _∙_}
-use native.Mathlib.Omega.{arith}
 use borrow.Author.Needs.{needs}
-use Rattle.cells.proofs.by_header.Statement.{statement}
-use Rattle.cells.proofs.by_header.Tie as tie
+use Rattle.cells.proofs.header_length.Statement.{statement}
+use Rattle.cells.proofs.header_length.Tie as tie
 
 cast-at : tie.Need-cast-at
 cast-at c = search needs
@@ -40,17 +38,11 @@ good-size-requires c κs = search needs
 returns-5 : tie.Need-returns-5
 returns-5 c = sym (unsized _ _ (c .before .before .before .before .before .before .before .before .if1 .left) (c .before .before .before .before .before .before .before .if2 .left) (c .before .before .before .before .before .before .if3 .left) _ (c .before .before .before .before .before .size-at .ensures) (not-false _ (c .before .before .if4 .left)) (sym (c .before .good-size .ensures) ∙ not-true _ (c .if5 .taken)))
 
-add-t12 : tie.Need-add-t12
-add-t12 c = search needs
-
-sub-t9 : tie.Need-sub-t9
-sub-t9 c = let g = good _ _ (sym (c .before .before .good-size .ensures) ∙ not-false _ (c .before .if5 .left)) in omega arith
-
 returns-6 : tie.Need-returns-6
-returns-6 c = sym (named _ _ (c .before .before .before .before .before .before .before .before .before .if1 .left) (c .before .before .before .before .before .before .before .before .if2 .left) (c .before .before .before .before .before .before .before .if3 .left) _ (c .before .before .before .before .before .before .size-at .ensures) (not-false _ (c .before .before .before .if4 .left)) (sym (c .before .before .good-size .ensures) ∙ not-false _ (c .before .if5 .left)))
+returns-6 c = sym (named _ _ (c .before .before .before .before .before .before .before .before .if1 .left) (c .before .before .before .before .before .before .before .if2 .left) (c .before .before .before .before .before .before .if3 .left) _ (c .before .before .before .before .before .size-at .ensures) (not-false _ (c .before .before .if4 .left)) (sym (c .before .good-size .ensures) ∙ not-false _ (c .if5 .left)))
 
-pub by-header-spec : {M : Type 1} → statement M
-by-header-spec =
+pub header-length-spec : {M : Type 1} → statement M
+header-length-spec =
     tie.close
     (tie.spec
     cast-at
@@ -64,6 +56,4 @@ by-header-spec =
     sub-good-size
     good-size-requires
     returns-5
-    add-t12
-    sub-t9
     returns-6)
