@@ -62,9 +62,10 @@ int path_units(const char *text, Units *out)
     return GOOD;
 }
 
+/* The unnamed value is @, and so a value called @ is \x40, as print_name shows them. */
 int name_units(const char *text, Units *out)
 {
-    return units_of(strcmp(text, "@") == 0 ? "" : text, out);
+    return units_of(strcmp(text, "@") == 0 ? "" : strcmp(text, "\\x40") == 0 ? "@" : text, out);
 }
 
 /* Where it is to be shown, a control character is so by its code: a file cannot give a terminal orders. */
