@@ -134,6 +134,14 @@ pub fn stands_at(s: &[u8], i: usize, what: &[u8]) -> bool
     same(&s[i..i + what.len()], what)
 }
 
+// The copying leaf: all of src over all of dst, which a caller lends as a part of what it may write.
+pub fn copy_all(src: &[u8], dst: &mut [u8])
+    requires { ⌜ length (now dst) ≡ length (now src) ⌝ }
+    ensures { λ _. ⌜ now (dst .exit) ≡ now (src .entry) ⌝ }
+{
+    bytes::copy(src, dst);
+}
+
 // The refusals' names, in the order of their numbers.
 pub enum Fault {
     // 1: hive under 4096 bytes

@@ -15,14 +15,6 @@ pub fn page_place(page: usize) -> Place
     fields::to_place(Offset((512 * page) as u32))
 }
 
-// The copying leaf: all of src over all of dst.
-fn copy_all(dst: &mut [u8], src: &[u8])
-    requires { ⌜ length (now dst) ≡ length (now src) ⌝ }
-    ensures { λ _. ⌜ now (dst .exit) ≡ now (src .entry) ⌝ }
-{
-    bytes::copy(src, dst);
-}
-
 // "writes its 512 bytes and no others": of the hive, only the part that is lent to the leaf can change.
 pub fn store(hive: &mut [u8], to: Place, log: &[u8], from: Place)
     requires { ⌜ to .0 + 512 ≤ length (now hive) ⌝ }
@@ -31,7 +23,7 @@ pub fn store(hive: &mut [u8], to: Place, log: &[u8], from: Place)
 {
     let a = to.0;
     let b = from.0;
-    copy_all(&mut hive[a..a + 512], &log[b..b + 512]);
+    fields::copy_all(&log[b..b + 512], &mut hive[a..a + 512]);
 }
 
 fn put_u32(dst: &mut [u8], i: usize, v: u32)

@@ -398,13 +398,6 @@ pub fn part_of(x: ValueData) -> Part
     }
 }
 
-fn copy_all(src: &[u8], dst: &mut [u8])
-    requires { ⌜ length (now dst) ≡ length (now src) ⌝ }
-    ensures { λ _. ⌜ now (dst .exit) ≡ now (src .entry) ⌝ }
-{
-    bytes::copy(src, dst);
-}
-
 // Copies a part of the bins data into the middle part of `out` that starts at `to`.
 fn copy_part(bins: &[u8], p: Part, out: &mut [u8], to: usize)
     requires { ⌜ p .at + p .len ≤ length (now bins) ⌝ }
@@ -414,7 +407,7 @@ fn copy_part(bins: &[u8], p: Part, out: &mut [u8], to: usize)
     let at = p.at;
     let end = at + p.len;
     let stop = to + p.len;
-    copy_all(&bins[at..end], &mut out[to..stop]);
+    fields::copy_all(&bins[at..end], &mut out[to..stop]);
 }
 
 // The segments' bytes, one after the other.

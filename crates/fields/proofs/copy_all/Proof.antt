@@ -5,8 +5,8 @@ use Prim.Native.Nat.{_≤_}
 use lib.ListN.{length, drop-of-length-le}
 use lib.Seq.{take-length}
 use borrow.Author.Needs.{needs}
-use Rattle.values.proofs.copy_all.Statement.{statement}
-use Rattle.values.proofs.copy_all.Tie as tie
+use Rattle.fields.proofs.copy_all.Statement.{statement}
+use Rattle.fields.proofs.copy_all.Tie as tie
 
 copy-requires : tie.Need-copy-requires
 copy-requires c κs = search needs
