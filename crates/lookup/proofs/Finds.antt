@@ -52,10 +52,6 @@ module _ (d x : List ℕ) where
   unfolding orElse
   or-found a b e = rw e
 
-  pub or-faulty : (a b : Look) {f : Flaw} → a ≡ Faulty f → orElse a b ≡ Faulty f
-  unfolding orElse
-  or-faulty a b e = rw e
-
   or-assoc : (a b c : Look) → orElse (orElse a b) c ≡ orElse a (orElse b c)
   unfolding orElse
   or-assoc Missing b c = refl
@@ -165,9 +161,6 @@ module _ (d : List ℕ) (hive : Hive) (tiles : BinsTile d 0) where
       by false e =
           let l = s .lists (eqb-false _ _ e) in
           rw (e, list-head (keyOf d o .list) l) (search-leaves d x (leavesOf d (keyOf d o .list)) (leaves-good (keyOf d o .list) l))
-
-  children-good : (n : ℕ) (o : Offset) → TreeStands d hive (suc n) o → (c : Child) → List·Memᴰ c (children d o) → keyFault Header d [] (c .at) ≡ Sound
-  children-good n o (key s a ch tree) c i = key-good n (c .at) (tree c i)
 
   -- ---- along a path
 

@@ -16,12 +16,11 @@ use Rattle.fields.proofs.Bools.{and-inv}
 use Rattle.cells.specs.declared.Rule.{Rule}
 use Rattle.cells.specs.declared.Rule.the-variants.{Header}
 use Rattle.cells.specs.Named.{dataAt}
-use Rattle.cells.proofs.Naming.{Names}
 use Rattle.names.specs.Codes.{codes, charactersIn, hasCode, backslash}
 use Rattle.names.proofs.LawsCodes.{counted}
 use Rattle.records.specs.Keys.{isWhole, isKeyName, keyNarrow, keyName, isKey, keyFault, keyIn, keyOf, codesOf}
 use Rattle.records.proofs.Parts.{part-length, data-room, data-part}
-use Rattle.records.proofs.LawsRecord.{Found-at, record-cell, record-tested, record-header, record-flaw}
+use Rattle.records.proofs.LawsRecord.{Found-at, record-tested, record-header, record-flaw}
 
 -- the codes of the name of a key record
 abbrev pub nameCodes : List ℕ → List ℕ
@@ -65,10 +64,6 @@ module _ (rule : Rule) (d m : List ℕ) (o : Offset) where
   key-flaw e = record-flaw isKey rule d m o e
 
   module _ (e : keyFault rule d m o ≡ Sound) where
-    pub key-cell : Names d (o .0)
-    unfolding keyFault
-    key-cell = record-cell isKey rule d m o e
-
     pub key-facts : IsKey (dataAt d o)
     unfolding keyFault
     key-facts = is-key-facts (dataAt d o) (record-tested isKey rule d m o e)

@@ -1,10 +1,9 @@
 -- The lists of a key: the first fault of all leaves, what sound lists say of each leaf, and that the header's rule follows from the map's.
-use Prim.Native.Nat.{ℕ, zero, suc, _<_}
+use Prim.Native.Nat.{ℕ, zero, suc}
 use native.Mathlib.Omega.{arith}
 use mathlib.Core.Path.{_≡_, refl, sym, ap, _∙_}
 use mathlib.Core.Bool.{Bool, true, false}
 use mathlib.Core.List.{List, [], _∷_, List·Memᴰ, List·Memᴰ·eq-of-singleton, List·Memᴰ·not-nil}
-use lib.ListN.{length}
 use borrow.Author.Tests.{eq-eqb, ne-eqb}
 use Rattle.fields.specs.declared.Offset.{Offset}
 use Rattle.fields.specs.declared.Flaw.{Flaw}
@@ -16,12 +15,10 @@ use Rattle.fields.proofs.Loops.{over-each, each-over}
 use Rattle.cells.specs.declared.Rule.{Rule}
 use Rattle.cells.specs.declared.Rule.the-variants.{Header}
 use Rattle.cells.specs.Named.{dataAt}
-use Rattle.cells.proofs.Naming.{Names}
 use Rattle.records.specs.declared.Key.{Key}
-use Rattle.records.specs.Lists.{isRi, isLeaf, isList, leafChildren, leavesOf, leavesBelow, leafFault, headFault, listFault, listsFault}
-use Rattle.records.proofs.LawsRecord.{Found-at, record-cell, record-header, record-flaw}
+use Rattle.records.specs.Lists.{isRi, isLeaf, isList, leavesOf, leavesBelow, leafFault, headFault, listFault, listsFault}
+use Rattle.records.proofs.LawsRecord.{Found-at, record-header, record-flaw}
 use Rattle.records.proofs.ListTests.{leaf-list}
-use Rattle.records.proofs.LawsPlaces.{leaf-some}
 
 -- the first fault over a list is the fault of one of its members
 pub over-flaw : {A : Type 0} (each : A → Verdict) (xs : List A) {f : Flaw} → faultOver each xs ≡ Flawed f → (x : A) × (each x ≡ Flawed f)
@@ -51,14 +48,6 @@ module _ (rule : Rule) (d m : List ℕ) (o : Offset) where
   pub head-header : headFault rule d m o ≡ Sound → (m′ : List ℕ) → headFault Header d m′ o ≡ Sound
   unfolding headFault
   head-header e = record-header isList rule d m o e
-
-  pub leaf-cell : leafFault rule d m o ≡ Sound → Names d (o .0)
-  unfolding leafFault
-  leaf-cell e = record-cell isLeaf rule d m o e
-
-  pub head-cell : headFault rule d m o ≡ Sound → Names d (o .0)
-  unfolding headFault
-  head-cell e = record-cell isList rule d m o e
 
   pub list-stop : {f : Flaw} → headFault rule d m o ≡ Flawed f → listFault rule d m o ≡ Flawed f
   unfolding listFault
@@ -136,10 +125,6 @@ module _ (rule : Rule) (d m : List ℕ) (k : Key) where
       by-count (k .subkeys)
       (λ z. absurd (List·Memᴰ·not-nil {a = l} (rw (below-none d k z) at p)))
       (λ n. list-leaf rule d m (k .list) (sym (lists-some n) ∙ e) l (rw (below-some d k n) at p))
-
-  -- with at least one element
-  pub lists-leaf-some : listsFault rule d m k ≡ Sound → (l : Offset) → List·Memᴰ l (leavesBelow d k) → 0 < length (leafChildren (dataAt d l))
-  lists-leaf-some e l p = leaf-some rule d m l (lists-leaf e l p)
 
   pub lists-flaw : {f : Flaw} → listsFault rule d m k ≡ Flawed f → (l : Offset) × Found-at l f
   lists-flaw e =

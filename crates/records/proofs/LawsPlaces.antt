@@ -76,9 +76,6 @@ module _ (rule : Rule) (d m : List ℕ) (o : Offset) (e : headFault rule d m o �
           rw i (ap (λ (k : ℕ). offsetsAt d k (countOf (dataAt d o))) p ∙ offsets-data d o 4 (countOf (dataAt d o)) (omega arith))
       by false i = rw i
 
-  pub leaves-count : leavesAt d o .count ≡ length (leavesOf d o)
-  leaves-count = sym (named-length d (leavesAt d o) leaves-lie) ∙ ap length leaves-are
-
   -- at most as many as 16 bits count
   pub leaves-few : ((i : ℕ) → getD d i 0 < 256) → leavesAt d o .count < 65536
   unfolding leavesAt leavesIn

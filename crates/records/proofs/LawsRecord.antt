@@ -4,13 +4,12 @@ use native.Mathlib.Omega.{arith}
 use mathlib.Core.Path.{_≡_, refl, sym, ap, _∙_}
 use mathlib.Core.Bool.{Bool, true, false}
 use mathlib.Core.List.{List}
-use mathlib.Core.Logic.{_⊎_, inl, inr}
 use Rattle.fields.specs.declared.Offset.{Offset}
 use Rattle.fields.specs.declared.Flaw.{Flaw}
 use Rattle.fields.specs.declared.Fault.the-variants.{NoCell, Record}
 use Rattle.fields.specs.declared.Verdict.{Verdict}
 use Rattle.fields.specs.declared.Verdict.the-variants.{Sound, Flawed}
-use Rattle.fields.specs.Faults.{numberOf, flaw, unless, _next_}
+use Rattle.fields.specs.Faults.{flaw, unless, _next_}
 use Rattle.fields.proofs.Firsts.{on, stop, both, sound, held, holds, fails}
 use Rattle.cells.specs.declared.Cell.{Cell}
 use Rattle.cells.specs.declared.Found.{Found}
@@ -24,14 +23,6 @@ use Rattle.cells.proofs.Naming.{Names, cell-sound, cell-flawed, cell-data-at, s
 pub data Found-at (o : Offset) (f : Flaw) : Type 0 where
   no-cell : f ≡ flaw NoCell o → Found-at o f
   bad-record : f ≡ flaw Record o → Found-at o f
-
-pub found-number : {o : Offset} {f : Flaw} → Found-at o f → (numberOf (f .fault) ≡ 11) ⊎ (numberOf (f .fault) ≡ 12)
-found-number (no-cell e) = inl (ap (λ (f : Flaw). numberOf (f .fault)) e)
-found-number (bad-record e) = inr (ap (λ (f : Flaw). numberOf (f .fault)) e)
-
-pub found-place : {o : Offset} {f : Flaw} → Found-at o f → f .place ≡ o
-found-place (no-cell e) = ap (λ (f : Flaw). f .place) e
-found-place (bad-record e) = ap (λ (f : Flaw). f .place) e
 
 -- a cell that the map's rule finds is found by its header too, whatever the map
 pub header-cell : (rule : Rule) (d m m′ : List ℕ) (o : Offset) → cellFault rule d m o ≡ Sound → cellFault Header d m′ o ≡ Sound

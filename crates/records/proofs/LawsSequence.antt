@@ -71,10 +71,6 @@ module _ (d : List ℕ) where
       ap (λ (cs : List Child). leafChildren (dataAt d k) ++ cs) (in-append ks ls)
       ∙ sym (append-assoc (leafChildren (dataAt d k)) (childrenIn d ks) (childrenIn d ls))
 
-  pub in-single : (l : Offset) → length (childrenIn d (l ∷ [])) ≡ countOf (dataAt d l)
-  unfolding childrenIn
-  in-single l = length-append (leafChildren (dataAt d l)) [] ∙ (let e = leaf-children-length (dataAt d l) in omega arith)
-
   -- the elements are counted leaf by leaf
   pub count-on : (ls : List Offset) (j : ℕ) (z l : Offset) → j < length ls → l ≡ getD ls j z
       → length (childrenIn d (drop j ls)) ≡ countOf (dataAt d l) + length (childrenIn d (drop (j + 1) ls))

@@ -7,11 +7,7 @@ use mathlib.Core.List.{List}
 use lib.ListN.{length, drop, getD}
 use lib.Seq.{getD-take, getD-drop}
 use Rattle.sectors.specs.Sector.{sectorAt, stored, pagePlace, page}
-use Rattle.sectors.proofs.Stored.{sector-length, stored-same, stored-before, stored-after}
-
-pub page-length : (h : List ℕ) (p : ℕ) → pagePlace p + 512 ≤ length h → length (page h p) ≡ 512
-unfolding page
-page-length h p fits = sector-length h (pagePlace p) fits
+use Rattle.sectors.proofs.Stored.{stored-same, stored-before, stored-after}
 
 module _ (d : List ℕ) (p : ℕ) (new : List ℕ) (n : length new ≡ 512) (fits : pagePlace p + 512 ≤ length d) where
   pub page-same : page (stored d (pagePlace p) new) p ≡ new

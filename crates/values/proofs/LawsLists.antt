@@ -1,15 +1,13 @@
 -- A key's value list: where its elements stand, and that they are the key's values.
 use Prim.Native.Nat.{ℕ, _*_}
 use native.Mathlib.Omega.{arith}
-use mathlib.Core.Path.{_≡_, refl, sym, ap, _∙_}
+use mathlib.Core.Path.{_≡_, refl, ap, _∙_}
 use mathlib.Core.Bool.{Bool, true, false}
 use mathlib.Core.List.{List}
 use lib.Dec.{eqb}
-use lib.ListN.{length, getD}
 use Rattle.fields.specs.declared.Flaw.{Flaw}
-use Rattle.fields.specs.declared.Offset.{Offset}
 use Rattle.fields.specs.declared.Verdict.the-variants.{Sound, Flawed}
-use Rattle.fields.specs.Faults.{nowhere, faultOver}
+use Rattle.fields.specs.Faults.{faultOver}
 use Rattle.fields.proofs.Firsts.{on, stop}
 use Rattle.cells.specs.declared.Rule.{Rule}
 use Rattle.records.specs.declared.Key.{Key}
@@ -17,7 +15,7 @@ use Rattle.records.specs.Offsets.{offsetsAt}
 use Rattle.values.specs.declared.Entries.{Entries}
 use Rattle.values.specs.Entries.{Room, entriesOf}
 use Rattle.values.specs.Lists.{valuesOf, valueListFault, valueEntries, wholeValueFault, valuesFault}
-use Rattle.values.proofs.Rooms.{roomy, entries-length, offsets-within}
+use Rattle.values.proofs.Rooms.{roomy, offsets-within}
 
 module _ (rule : Rule) (d m : List ℕ) (k : Key) where
   module _ (s : valueListFault rule d m k ≡ Sound) where
@@ -44,12 +42,6 @@ module _ (rule : Rule) (d m : List ℕ) (k : Key) where
 
       pub list-values : valuesOf d k ≡ entriesOf d e
       list-values = values-listed ∙ ap (entriesOf d) is
-
-      pub list-element : (i : ℕ) → getD (entriesOf d e) i nowhere ≡ getD (valuesOf d k) i nowhere
-      list-element i = ap (λ (vs : List Offset). getD vs i nowhere) (sym list-values)
-
-      pub list-count : length (valuesOf d k) ≡ e .count
-      list-count = ap length list-values ∙ entries-length d e
 
   module _ (minor : ℕ) where
     pub unlisted-values : {f : Flaw} → valueListFault rule d m k ≡ Flawed f → valuesFault rule d m minor k ≡ Flawed f
