@@ -209,11 +209,20 @@ fn count(name: &[u8], wide: bool) -> usize {
     if wide { name.len() / 2 } else { name.len() }
 }
 
+// A XOR as it is stored at 508.
+pub fn stored(xor: u32) -> u32 {
+    match xor {
+        0 => 1,
+        0xFFFF_FFFF => 0xFFFF_FFFE,
+        x => x,
+    }
+}
+
 fn usable<S: Style>(s: &[u8], types: &[u32]) -> Res<()> {
     if &s[0..4] != b"regf" {
         return Err(Flaw(2, 0));
     }
-    if S::xor(s) != S::u32_at(s, 508) {
+    if stored(S::xor(s)) != S::u32_at(s, 508) {
         return Err(Flaw(3, 0));
     }
     if S::u32_at(s, 20) != 1 || !(3..=5).contains(&S::u32_at(s, 24)) || !types.contains(&S::u32_at(s, 28)) || S::u32_at(s, 32) != 1 || S::u32_at(s, 44) != 1 {
@@ -640,7 +649,7 @@ pub fn close<S: Style>(h: &mut [u8], l: &[u8]) -> Res<bool> {
     }
     S::copy(&l[..512], &mut h[..512]);
     h[28..32].fill(0);
-    let x = S::xor(&h[..512]);
+    let x = stored(S::xor(&h[..512]));
     h[508..512].copy_from_slice(&x.to_le_bytes());
     Ok(true)
 }

@@ -1,4 +1,6 @@
 // Hives and logs for the measurements.
+use crate::check::stored;
+
 pub struct Maker {
     pub file: Vec<u8>,
     bin: usize,
@@ -15,7 +17,7 @@ fn put16(s: &mut [u8], i: usize, n: u16) {
 
 pub fn seal(file: &mut [u8]) {
     let x = (0..508).step_by(4).fold(0, |x, i| x ^ u32::from_le_bytes(file[i..i + 4].try_into().unwrap()));
-    put32(file, 508, x);
+    put32(file, 508, stored(x));
 }
 
 impl Maker {

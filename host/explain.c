@@ -11,7 +11,7 @@ static const struct {
 } REASONS[] = {
     [1] = {false, false, "the hive has fewer than 4096 bytes", "It is cut off, or no hive: every hive starts with a base block of 4096 bytes."},
     [2] = {false, false, "the hive does not start with \"regf\"", "It is no registry hive, or its first sector (bytes 0 to 511) is destroyed."},
-    [3] = {false, false, "the checksum of the base block is wrong", "The word at byte 508 is not the XOR of the 127 words before it: the first sector was changed or half written. A log may repair it."},
+    [3] = {false, false, "the checksum of the base block is wrong", "The word at byte 508 is not the XOR of the 127 words before it, with 0 stored as 1 and 0xFFFFFFFF as 0xFFFFFFFE: the first sector was changed or half written. A log may repair it."},
     [4] = {false, false, "version, file type, format or clustering factor is not one that is read", "Wanted at bytes 20 to 47: major 1, minor 3 to 5, type 0, format 1, clustering factor 1. A log file given in place of the hive has type 1, 2 or 6."},
     [5] = {false, false, "the size of the bins data is not possible", "The word at byte 40 is 0, no multiple of 4096, or over 67108864."},
     [6] = {false, false, "the file ends before its bins do", "It was cut off: 4096 bytes and the size at byte 40 should be there. Copy it again."},

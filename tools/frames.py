@@ -8,7 +8,7 @@ import os
 import struct
 
 import hives
-from hives import BASE, Builder, Key, Refused, Value, edited, old_log, torn, u32
+from hives import BASE, Builder, Key, Refused, Value, edited, old_log, torn, u32, with_xor
 
 LONGEST = 20480
 HIVE, LOG, PATH = 1, 2, 3
@@ -117,6 +117,43 @@ def bases():
     # the root's parent field is not read, and its list offsets are not where the counts are 0
     hive(edited(minimal, (place(32, 16), word(32)), (place(32, 28), word(77)), (place(32, 40), word(77))),
          "accepted bins 1 keys 1 values 0 used 88 free 3976")
+
+
+# a XOR, a number stored for it, and whether that is the right one: at both exceptions and beside them
+STORED = ((0, 1, True), (0, 0, False), (0, 2, False), (1, 1, True), (1, 0, False),
+          (0xFFFFFFFF, 0xFFFFFFFE, True), (0xFFFFFFFF, 0xFFFFFFFF, False), (0xFFFFFFFF, 0xFFFFFFFD, False), (0xFFFFFFFE, 0xFFFFFFFE, True), (0xFFFFFFFE, 0xFFFFFFFF, False))
+
+
+def checksums():
+    """The checksum of a hive, of a log, and of the closing sector."""
+    root = Key("R", [Key("kept")])
+    good = Builder(root, stamp=0x1122334455667788).hive
+    page0 = bytes(good[BASE:BASE + 512])
+    whole = old_log(good, {0: page0})
+    for xor, stored, right in STORED:
+        h = with_xor(good, xor, stored)
+        if right:
+            hive(h, "accepted bins 1 keys 2 values 0 used 192 free 3872")
+        else:
+            refused(3, h)
+    refused(7, torn(good))
+    for xor, stored, right in STORED:
+        if not right:
+            log(with_xor(whole, xor, stored), "refused 21 at 0")
+    # a log of type 1 closes with a XOR that differs in the last bit: at 1, 0, 0xFFFFFFFE, 0xFFFFFFFF, and beside these at 2 and 0xFFFFFFFD
+    for xor in (0, 1, 0xFFFFFFFF, 0xFFFFFFFE, 3, 0xFFFFFFFC):
+        refused(7, edited(torn(good), (BASE + 32, bytes(300))))
+        log(with_xor(whole, xor), "repaired 1")
+        log(whole, "clean")
+        path("kept", "key at %d" % root.subkeys[0].at)
+    # usable, so the base block's stamp counts; with the XOR itself stored it is not, and the first bin's counts
+    other = edited(torn(good), (12, b"?"))
+    refused(7, with_xor(other, 0, 1))
+    log(whole, "refused 25 at 0")
+    refused(3, with_xor(other, 0, 0))
+    log(whole, "repaired 1")
+    refused(7, with_xor(other, 0xFFFFFFFF, 0xFFFFFFFE))
+    log(whole, "refused 25 at 0")
 
 
 def tilings():
@@ -551,7 +588,7 @@ def hold(name, data, said):
 
 
 def main():
-    for part in (begin, bases, tilings, keys, lists, values, paths, logs):
+    for part in (begin, bases, checksums, tilings, keys, lists, values, paths, logs):
         part()
     stream.extend(struct.pack("<IH", 0xFFFFFFFF, PATH))
     lines.append("bad frame")

@@ -22,12 +22,17 @@ def u32(b, i):
     return b[i] | b[i + 1] << 8 | b[i + 2] << 16 | b[i + 3] << 24
 
 
-def checksum(block):
+def xor_of(block):
     """The XOR of the 127 words before the checksum."""
     total = 0
     for word in struct.unpack("<127I", bytes(block[:508])):
         total ^= word
     return total
+
+
+def checksum(block):
+    """That XOR as it is stored, by request 1: 0 as 1, and 0xFFFFFFFF as 0xFFFFFFFE."""
+    return {0: 1, 2**32 - 1: 2**32 - 2}.get(xor_of(block), xor_of(block))
 
 
 def seal(block):
@@ -583,6 +588,16 @@ class Builder:
 
 def name_bytes(codes, wide):
     return b"".join(struct.pack("<H", c) for c in codes) if wide else bytes(codes)
+
+
+def with_xor(file, xor, stored=None):
+    """A copy whose first 127 words have that XOR, by a word that nobody reads, and with that number at 508: the right one, unless said."""
+    f = bytearray(file)
+    struct.pack_into("<I", f, 200, u32(f, 200) ^ xor_of(f) ^ xor)
+    seal(f)
+    if stored is not None:
+        struct.pack_into("<I", f, 508, stored)
+    return f
 
 
 def edited(hive, *changes):

@@ -20,11 +20,19 @@ def say(text):
 
 # ---- the files
 
-def checksum(block):
+def xor_of(block):
     total = 0
     for word in struct.unpack("<127I", bytes(block[:508])):
         total ^= word
     return total
+
+
+def checksum(block):
+    """A XOR of 0 is stored as 1, and one of 0xFFFFFFFF as 0xFFFFFFFE."""
+    xor = xor_of(block)
+    if xor == 0:
+        return 1
+    return 0xFFFFFFFE if xor == 0xFFFFFFFF else xor
 
 
 def base_block(kind, first=5, second=5, stamp=0, bins=8192, minor=5):
@@ -33,6 +41,14 @@ def base_block(kind, first=5, second=5, stamp=0, bins=8192, minor=5):
     struct.pack_into("<IIQ", b, 4, first, second, stamp)
     struct.pack_into("<IIII", b, 20, 1, minor, kind, 1)
     struct.pack_into("<III", b, 36, 32, bins, 1)
+    struct.pack_into("<I", b, 508, checksum(b))
+    return b
+
+
+def with_xor(block, xor):
+    """A base block of that XOR, by a word that nobody reads."""
+    b = bytearray(block)
+    struct.pack_into("<I", b, 200, struct.unpack_from("<I", b, 200)[0] ^ xor_of(b) ^ xor)
     struct.pack_into("<I", b, 508, checksum(b))
     return b
 
@@ -343,6 +359,14 @@ def refusals():
     case.show()
 
 
+def checksums():
+    """Logs that close at each exception of the checksum and beside it; the disk's sum tells what stands at 508."""
+    for xor, closed in ((1, "0, stored 1"), (0, "1, stored 1"), (3, "2"), (0xFFFFFFFE, "0xFFFFFFFF, stored 0xFFFFFFFE"), (0xFFFFFFFF, "0xFFFFFFFE, stored so"), (0xFFFFFFFC, "0xFFFFFFFD")):
+        case = Case("closed with a XOR of " + closed, hive_file(TORN, STAMP), log_file([0, 15], STAMP, base=with_xor(base_block(1, stamp=STAMP), xor)))
+        case.whole()
+        case.after()
+
+
 def clean():
     case = Case("clean: the log is not looked at", hive_file(base_block(0), STAMP), b"no log")
     case.start()
@@ -364,6 +388,7 @@ def clean():
 repairs()
 cuts()
 refusals()
+checksums()
 clean()
 open("crates/repair_runs/stdin", "wb").write(bytes(orders))
 open("crates/repair_runs/stdout", "w").write("\n".join(lines) + "\n")

@@ -20,12 +20,18 @@ uint32_t get32(const uint8_t *at)
     return at[0] | at[1] << 8 | at[2] << 16 | (uint32_t)at[3] << 24;
 }
 
-uint32_t checksum(const uint8_t *block)
+uint32_t xor_of(const uint8_t *block)
 {
     uint32_t x = 0;
     for (int i = 0; i < 508; i += 4)
         x ^= get32(block + i);
     return x;
+}
+
+uint32_t checksum(const uint8_t *block)
+{
+    uint32_t x = xor_of(block);
+    return x == 0 ? 1 : x == 0xffffffff ? 0xfffffffe : x;
 }
 
 void reseal(uint8_t *block)

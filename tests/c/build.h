@@ -17,7 +17,8 @@ typedef struct {
 void put16(uint8_t *at, uint32_t n);
 void put32(uint8_t *at, uint32_t n);
 uint32_t get32(const uint8_t *at);
-uint32_t checksum(const uint8_t *block);
+uint32_t xor_of(const uint8_t *block);
+uint32_t checksum(const uint8_t *block); /* that XOR as it is stored: 0 as 1, and all ones as 0xfffffffe */
 void reseal(uint8_t *block);
 
 Made made(size_t bins, uint32_t minor);

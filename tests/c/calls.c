@@ -541,6 +541,63 @@ static void t_log_refusals(void)
     EXPECT(is(hive_recover_start(file, n - 1, log.at, log.length).answer, 24, 0));
 }
 
+/* The first 127 words get a XOR, by a word that nobody reads, and the word at 508 is the given one. */
+static void store_xor(uint8_t *block, uint32_t xor, uint32_t stored)
+{
+    put32(block + 200, get32(block + 200) ^ xor_of(block) ^ xor);
+    put32(block + 508, stored);
+}
+
+/* A XOR and a number stored for it, of a hive and of a log. */
+static void t_checksums(void)
+{
+    static const struct { uint32_t xor, stored; bool right; } cases[] = {
+        {0, 1, true}, {0, 0, false}, {0, 2, false}, {1, 1, true}, {1, 0, false},
+        {0xffffffff, 0xfffffffe, true}, {0xffffffff, 0xffffffff, false}, {0xffffffff, 0xfffffffd, false}, {0xfffffffe, 0xfffffffe, true}, {0xfffffffe, 0xffffffff, false},
+    };
+    Made m = sample();
+    size_t n = made_length(&m);
+    uint8_t *file = spoilt(&m, PAGES, COUNT);
+    for (size_t i = 0; i < sizeof cases / sizeof cases[0]; i++) {
+        store_xor(m.file, cases[i].xor, cases[i].stored);
+        EXPECT(is(checked(m.file, n), cases[i].right ? 0 : 3, 0));
+        Log log = made_log(&m, PAGES, COUNT);
+        store_xor(log.at, cases[i].xor, cases[i].stored);
+        EXPECT(is(hive_recover_start(lend(0, file, n), n, lend(1, log.at, log.length), log.length).answer, cases[i].right ? 0 : 21, 0));
+        EXPECT(is(hive_recover_next(log.at, log.length, 0).answer, cases[i].right ? 0 : 21, 0));
+        free(log.at);
+    }
+    Log log = made_log(&m, PAGES, COUNT);
+    file[12] ^= 1; /* the base block's stamp: read where the block is usable */
+    store_xor(file, 0, 1);
+    EXPECT(is(hive_recover_start(file, n, log.at, log.length).answer, 25, 0));
+    store_xor(file, 0, 0);
+    EXPECT(is(hive_recover_start(file, n, log.at, log.length).answer, 0, 0));
+}
+
+/* A log of type 1 closes with a XOR that differs in the last bit. */
+static void t_closing_checksums(void)
+{
+    static const struct { uint32_t log, stored; } cases[] = {
+        {1, 1}, {0, 1}, {3, 2}, {0xfffffffe, 0xfffffffe}, {0xffffffff, 0xfffffffe}, {0xfffffffc, 0xfffffffd},
+    };
+    Made m = sample();
+    size_t n = made_length(&m);
+    for (size_t i = 0; i < sizeof cases / sizeof cases[0]; i++) {
+        uint8_t *h = lend(0, spoilt(&m, PAGES, COUNT), n);
+        Log log = made_log(&m, PAGES, COUNT);
+        store_xor(log.at, cases[i].log, 0);
+        reseal(log.at);
+        for (size_t k = 0; k < COUNT; k++)
+            EXPECT(hive_recover_page(h, n, log.at, log.length, PAGES[k]).state == 2);
+        EXPECT(hive_recover_close(h, n, log.at, log.length).state == 2);
+        EXPECT(xor_of(h) == (cases[i].log ^ 1) && get32(h + 508) == cases[i].stored);
+        EXPECT(hive_recover_start(h, n, log.at, log.length).state == 1);
+        EXPECT(hive_find_key(h, n, (const uint16_t[]){'A'}, 1).number == 0 && is(checked(h, n), 0, 0));
+        free(log.at);
+    }
+}
+
 int main(void)
 {
     test("nothing lent", t_nothing);
@@ -557,6 +614,8 @@ int main(void)
     test("data of many sizes", t_sizes);
     test("a repair", t_repair);
     test("refusals of recovery", t_log_refusals);
+    test("checksums of hives and logs", t_checksums);
+    test("checksums of closing sectors", t_closing_checksums);
     printf("%d passed, %d failed\n", passed, failed);
     return failed != 0;
 }

@@ -1,10 +1,10 @@
 -- What the crates above may know of a base block: what its soundness says, and that a file that is not clean is refused by the reader.
-use Prim.Native.Nat.{ℕ, _+_, _%_, _<_, _≤_}
+use Prim.Native.Nat.{ℕ, _+_, _%_, _^_, _<_, _≤_}
 use native.Mathlib.Omega.{arith}
 use mathlib.Core.Path.{_≡_, refl}
-use mathlib.Core.Bool.{true, false, not}
+use mathlib.Core.Bool.{Bool, true, false, cond, not}
 use mathlib.Core.List.{List}
-use lib.Dec.{eqb, leb}
+use lib.Dec.{eqb, leb, lit<}
 use lib.ListN.{length}
 use borrow.Author.Tests.{le-leb, leb-true, eqb-true, eqb-false, not-true}
 use Rattle.fields.specs.declared.Flaw.{Flaw}
@@ -14,7 +14,17 @@ use Rattle.fields.specs.declared.Verdict.the-variants.{Sound, Flawed}
 use Rattle.fields.specs.Faults.{flaw, nowhere, unless}
 use Rattle.fields.proofs.Firsts.{both, held, holds, sound}
 use Rattle.fields.proofs.Bools.{and-inv, and-both, never}
-use Rattle.base.specs.Block.{sector, isRegf, isSummed, isVersion, binsOf, binsLimit, isBinsSize, usable, isSettled, clean, blockFault, baseFault}
+use Rattle.base.specs.Block.{sector, isRegf, asStored, isSummed, isVersion, binsOf, binsLimit, isBinsSize, usable, isSettled, clean, blockFault, baseFault}
+
+-- what is stored for a 32-bit XOR is a 32-bit number
+pub asStored-lt : (x : ℕ) → x < 2 ^ 32 → asStored x < 2 ^ 32
+unfolding asStored
+asStored-lt x h = pick (eqb x 0) (eqb x 4294967295)
+  where
+    pick : (none all : Bool) → cond none 1 (cond all 4294967294 x) < 2 ^ 32
+    pick true all = lit< tt
+    pick false true = lit< tt
+    pick false false = h
 
 -- a bins size field that passes
 pub record Sized (n : ℕ) : Type 0 where

@@ -1,6 +1,6 @@
 -- The base block. What is said of it reads the file's first 512 bytes alone, so that a log's copy of them and a store elsewhere are one `ap` away.
 use Prim.Native.Nat.{ℕ, zero, suc, _+_, _*_, _%_}
-use mathlib.Core.Bool.{Bool, not, _&&_}
+use mathlib.Core.Bool.{Bool, cond, not, _&&_}
 use mathlib.Core.List.{List, [], _∷_}
 use lib.Bits.{bitXor}
 use lib.Dec.{eqb, leb}
@@ -26,9 +26,12 @@ unfoldable pub xors : List ℕ → ℕ → ℕ
 xors s zero = 0
 xors s (suc n) = bitXor (xors s n) (u32At s (n * 4))
 
--- "checksum at 508, the XOR of the 127 words before it"
+-- "The checksum at 508 is the XOR of the 127 words before it, but a XOR of 0 is stored as 1 and one of 0xFFFFFFFF as 0xFFFFFFFE"
+unfoldable pub asStored : ℕ → ℕ
+asStored x = cond (eqb x 0) 1 (cond (eqb x 4294967295) 4294967294 x)
+
 unfoldable pub storedChecksum : List ℕ → ℕ
-storedChecksum s = xors s 127
+storedChecksum s = asStored (xors s 127)
 
 abbrev pub isSummed : List ℕ → Bool
 isSummed s = eqb (u32At s 508) (storedChecksum s)

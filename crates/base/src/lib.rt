@@ -5,7 +5,7 @@ use fields::Verdict;
 ghost use mathlib.Core.Path.{_≡_};
 ghost use Prim.Native.Nat.{_+_, _≤_};
 ghost use lib.ListN.{length};
-ghost use Rattle.base.specs.Block.{isRegf, storedChecksum, isSummed, isVersion, isBinsSize, usable as usableAs, isSettled, clean as cleanOf, blockFault, baseFault};
+ghost use Rattle.base.specs.Block.{isRegf, xors, asStored, storedChecksum, isSummed, isVersion, isBinsSize, usable as usableAs, isSettled, clean as cleanOf, blockFault, baseFault};
 
 // The most bytes that bins data may have.
 pub const BINS_LIMIT: u32 = 67108864;
@@ -19,10 +19,10 @@ fn is_regf(s: &[u8]) -> bool
     fields::stands_at(s, 0, b"regf")
 }
 
-// The checksum that belongs at 508: the XOR of the 127 words before it.
-pub fn stored_checksum(s: &[u8]) -> u32
+// The XOR of the 127 words before the checksum.
+fn xor_of(s: &[u8]) -> u32
     requires { ⌜ 512 ≤ length (now s) ⌝ }
-    ensures { λ r. ⌜ r ≡ storedChecksum (now (s .entry)) ⌝ }
+    ensures { λ r. ⌜ r ≡ xors (now (s .entry)) 127 ⌝ }
 {
     let mut sum: u32 = 0;
     let mut k: usize = 0;
@@ -31,6 +31,27 @@ pub fn stored_checksum(s: &[u8]) -> u32
         k += 1;
     }
     sum
+}
+
+// "a XOR of 0 is stored as 1 and one of 0xFFFFFFFF as 0xFFFFFFFE"
+fn as_stored(x: u32) -> u32
+    ensures { λ r. ⌜ r ≡ asStored x ⌝ }
+{
+    if x == 0 {
+        return 1;
+    }
+    if x == 4294967295 {
+        return 4294967294;
+    }
+    x
+}
+
+// The checksum that belongs at 508.
+pub fn stored_checksum(s: &[u8]) -> u32
+    requires { ⌜ 512 ≤ length (now s) ⌝ }
+    ensures { λ r. ⌜ r ≡ storedChecksum (now (s .entry)) ⌝ }
+{
+    as_stored(xor_of(s))
 }
 
 fn is_summed(s: &[u8]) -> bool

@@ -10,7 +10,7 @@ use Rattle.fields.specs.Number.{u16At, u32At, u64At}
 use Rattle.fields.specs.Bytes.{sameBytes, standsAt}
 use Rattle.fields.specs.Faults.{_next_}
 use Rattle.fields.proofs.Bools.{and-inv}
-use Rattle.base.specs.Block.{xors, storedChecksum, isVersion, isBinsSize, usable, clean}
+use Rattle.base.specs.Block.{xors, asStored, storedChecksum, isVersion, isBinsSize, usable, clean}
 use Rattle.bitmap.specs.Bits.{bitsBefore}
 use Rattle.sectors.specs.Sector.{sectorAt, stored, page, Bytes}
 use Rattle.old_log.specs.Layout.{bitmap, isLogged, logged}
@@ -68,7 +68,7 @@ cut : {h l m : List ℕ} {q : List Sent} {d : List ℕ} (o : Open h l true m q d
 cut {m = m} {q = q} {d = d} o a b c = record { memory = m; stores = q; disk = d; trace = o; failed = a; twice = b; all-landed = c }
 
 pub cut-twice : Cut hive l
-unfolding failures landings closeAnswer startAnswer pageHive pageAnswer testFault hiveFault clean stampsAgree inBelow page logged log head hive logFault headFault isLogBase usable isVersion isBinsSize storedChecksum xors u64At u32At u16At standsAt sameBytes bitmap bitsBefore _next_
+unfolding failures landings closeAnswer startAnswer pageHive pageAnswer testFault hiveFault clean stampsAgree inBelow page logged log head hive logFault headFault isLogBase usable isVersion isBinsSize storedChecksum asStored xors u64At u32At u16At standsAt sameBytes bitmap bitsBefore _next_
 cut-twice =
     let o₀ : Open hive l false hive [] hive = Open.begin in
     let o₁ = Open.stores 0 (may-store hive l 2 ok bytes o₀ 0 zero-logged) o₀ in

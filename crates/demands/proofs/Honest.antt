@@ -9,7 +9,7 @@ use Rattle.fields.specs.declared.Fault.the-variants.{HiveShort}
 use Rattle.fields.specs.Number.{u16At, u32At, u64At, sizeAt}
 use Rattle.fields.specs.Bytes.{sameBytes, standsAt}
 use Rattle.fields.specs.Faults.{_next_, faultOver, flaw, nowhere, refusalOf}
-use Rattle.base.specs.Block.{xors, storedChecksum, isVersion, isBinsSize, usable, clean, blockFault, baseFault}
+use Rattle.base.specs.Block.{xors, asStored, storedChecksum, isVersion, isBinsSize, usable, clean, blockFault, baseFault}
 use Rattle.cells.specs.Tiling.{goodSize, tilingN, tiling, rowOf, binSize, layoutN, layout, addRow, surveyOf}
 use Rattle.cells.specs.Map.{markAt, marks, isBad, marksAll, zeros, mapAfter, isMarked}
 use Rattle.cells.specs.Survey.{frontFault, surveyAnswer, mapLeft}
@@ -37,11 +37,11 @@ use Rattle.demands.specs.Frauds.{NoFraud}
 
 -- "The minimal hive below gives exactly: [..] accepted bins 1 keys 1 values 0 used 88 free 3976"
 minimal-accepted : checkAnswer minimal (replicate 64 0) ≡ checked.Accepted (record { bins = 1; keys = 1; values = 0; used = 88; free = 3976 })
-unfolding checkAnswer surveyAnswer mapLeft frontFault baseFault blockFault isVersion isBinsSize storedChecksum xors u32At u16At sizeAt standsAt sameBytes _next_ goodSize tilingN tiling rowOf binSize layoutN layout addRow surveyOf markAt marks isBad marksAll zeros mapAfter isMarked isNamed byHeader cellOf cellFault dataOf dataAt codes charactersIn hasCode isKeyName isKey keyFault keyIn keyOf codesOf childrenIn leavesBelow childrenBelow listsFault valuesOf valueListFault valuesFault faultOver _after_ placeFault hashFault levelFault totalFault restFault ownFault keyCharge listCharge treeCharge joined keysIn valuesIn header baseBlock rootCell minimal
+unfolding checkAnswer surveyAnswer mapLeft frontFault baseFault blockFault isVersion isBinsSize storedChecksum asStored xors u32At u16At sizeAt standsAt sameBytes _next_ goodSize tilingN tiling rowOf binSize layoutN layout addRow surveyOf markAt marks isBad marksAll zeros mapAfter isMarked isNamed byHeader cellOf cellFault dataOf dataAt codes charactersIn hasCode isKeyName isKey keyFault keyIn keyOf codesOf childrenIn leavesBelow childrenBelow listsFault valuesOf valueListFault valuesFault faultOver _after_ placeFault hashFault levelFault totalFault restFault ownFault keyCharge listCharge treeCharge joined keysIn valuesIn header baseBlock rootCell minimal
 minimal-accepted = refl
 
 minimal-root : findAnswer minimal [] ≡ found.At (record { 0 = 32 })
-unfolding findAnswer keyLook openFault lookupKey descend pathFault isPath areParts isPart partsOf split baseFault blockFault isVersion isBinsSize storedChecksum xors u32At u16At sizeAt standsAt sameBytes _next_ goodSize isNamed byHeader cellOf cellFault dataOf dataAt codes charactersIn hasCode isKeyName isKey keyFault header baseBlock rootCell minimal
+unfolding findAnswer keyLook openFault lookupKey descend pathFault isPath areParts isPart partsOf split baseFault blockFault isVersion isBinsSize storedChecksum asStored xors u32At u16At sizeAt standsAt sameBytes _next_ goodSize isNamed byHeader cellOf cellFault dataOf dataAt codes charactersIn hasCode isKeyName isKey keyFault header baseBlock rootCell minimal
 minimal-root = refl
 
 nothing-checked : checkAnswer [] [] ≡ checked.Refused (refusalOf (flaw HiveShort nowhere))
@@ -54,11 +54,11 @@ nothing-found = refl
 
 -- the first call of the small repair: a byte of page 0 is the log's, and one of page 15 is still the hive's
 page-zero : getD (pageHive hive (log 512) 0) 4124 0 ≡ 7
-unfolding pageHive pageAnswer startAnswer testFault hiveFault clean hive stampsAgree page logged log head logFault headFault isLogBase usable isVersion isBinsSize storedChecksum xors u64At u32At u16At standsAt sameBytes bitmap bitsBefore nextAmong _next_
+unfolding pageHive pageAnswer startAnswer testFault hiveFault clean hive stampsAgree page logged log head logFault headFault isLogBase usable isVersion isBinsSize storedChecksum asStored xors u64At u32At u16At standsAt sameBytes bitmap bitsBefore nextAmong _next_
 page-zero = refl
 
 page-fifteen : getD (page (pageHive hive (log 512) 0) 15) 0 0 ≡ 0
-unfolding pageHive pageAnswer startAnswer testFault hiveFault clean hive stampsAgree page logged log head logFault headFault isLogBase usable isVersion isBinsSize storedChecksum xors u64At u32At u16At standsAt sameBytes bitmap bitsBefore nextAmong _next_
+unfolding pageHive pageAnswer startAnswer testFault hiveFault clean hive stampsAgree page logged log head logFault headFault isLogBase usable isVersion isBinsSize storedChecksum asStored xors u64At u32At u16At standsAt sameBytes bitmap bitsBefore nextAmong _next_
 page-fifteen = refl
 
 is-fifteen : (isLogged (log 512) 15 ≡ true) × (getD (logged (log 512) 15) 0 0 ≡ 9)

@@ -7,7 +7,7 @@ use Rattle.fields.specs.Number.{u16At, u32At, u64At, sizeAt}
 use Rattle.fields.specs.Bytes.{sameBytes, standsAt}
 use Rattle.fields.specs.Faults.{_next_}
 use Rattle.fields.proofs.Bools.{and-inv}
-use Rattle.base.specs.Block.{xors, storedChecksum, isVersion, isBinsSize, usable, clean}
+use Rattle.base.specs.Block.{xors, asStored, storedChecksum, isVersion, isBinsSize, usable, clean}
 use Rattle.cells.specs.Tiling.{goodSize, tilingN, tiling, rowOf, binSize, layoutN, layout, addRow, surveyOf}
 use Rattle.cells.specs.Map.{markAt, marks, isBad, marksAll}
 use Rattle.names.specs.Codes.{codes}
@@ -20,7 +20,7 @@ use Rattle.old_log.specs.Tests.{isLogBase, headFault, logFault, stampsAgree}
 use Rattle.old_log.proofs.Same.{same-true}
 use Rattle.recovery.specs.Calls.{hiveFault, testFault, startAnswer, nextAnswer}
 use Rattle.recovery.proofs.Figures.{head, log, hive}
-use Rattle.figures.specs.Inputs.{bare, header, oneBin, lowest, sized}
+use Rattle.figures.specs.Inputs.{bare, lone, header, oneBin, lowest, sized}
 use Rattle.figures.specs.Table.{surveyNumbers, startNumbers, nextNumbers, Figure, table, Figures}
 
 -- the test over a table
@@ -38,7 +38,7 @@ rule (g ∷ fs) e f i =
     (List·Memᴰ·cases-cons i)
 
 computed : right table ≡ true
-unfolding right table sameBytes standsAt u16At u32At u64At sizeAt _next_ storedChecksum xors isVersion isBinsSize usable clean codes upper uppers mixed mixedAll hashOf goodSize tilingN tiling rowOf binSize layoutN layout addRow surveyOf markAt marks isBad marksAll page bitsBefore nextAmong bitmap logged isLogBase headFault logFault stampsAgree hiveFault testFault startAnswer nextAnswer head log hive bare header oneBin lowest sized surveyNumbers startNumbers nextNumbers
+unfolding right table sameBytes standsAt u16At u32At u64At sizeAt _next_ storedChecksum asStored xors isVersion isBinsSize usable clean codes upper uppers mixed mixedAll hashOf goodSize tilingN tiling rowOf binSize layoutN layout addRow surveyOf markAt marks isBad marksAll page bitsBefore nextAmong bitmap logged isLogBase headFault logFault stampsAgree hiveFault testFault startAnswer nextAnswer head log hive bare lone header oneBin lowest sized surveyNumbers startNumbers nextNumbers
 computed = refl
 
 pub figures : Figures

@@ -7,6 +7,10 @@ use lib.ListN.{replicate}
 unfoldable pub bare : List ℕ
 bare = 114 ∷ 101 ∷ 103 ∷ 102 ∷ replicate 504 0
 
+-- a sector whose only nonzero word, at 200, has these four bytes
+unfoldable pub lone : ℕ → ℕ → ℕ → ℕ → List ℕ
+lone a b c d = replicate 200 0 ++ (a ∷ b ∷ c ∷ d ∷ replicate 308 0)
+
 -- the header of a first bin of 4096 bytes
 unfoldable pub header : List ℕ
 header = 104 ∷ 98 ∷ 105 ∷ 110 ∷ 0 ∷ 0 ∷ 0 ∷ 0 ∷ 0 ∷ 16 ∷ 0 ∷ 0 ∷ replicate 20 0

@@ -19,7 +19,7 @@ use Rattle.recovery.specs.declared.NextPage.{NextPage}
 use Rattle.recovery.specs.declared.NextPage.the-variants.{At, NoMore, Refused as Unread}
 use Rattle.recovery.specs.Calls.{startAnswer, nextAnswer}
 use Rattle.recovery.proofs.Figures.{log, hive}
-use Rattle.figures.specs.Inputs.{bare, oneBin, lowest, sized}
+use Rattle.figures.specs.Inputs.{bare, lone, oneBin, lowest, sized}
 
 -- what an answer gives, as numbers in the table's order: a count or none, or the refusal's number and place
 unfoldable pub surveyNumbers : Surveyed → List ℕ
@@ -67,6 +67,11 @@ table =
     ∷ is (pagesAt (sized 0x00 0xd0 0x1f) ∷ []) (1536 ∷ [])
     -- `cell size 0x80000000 gives 10`
     ∷ is (surveyNumbers (surveyOf (layout lowest 0) 0 0 0)) (10 ∷ 32 ∷ [])
+    -- Not the paper's, but of its amendment by request 1: a XOR of 0 and one of 0xFFFFFFFF, and beside each the number that it is stored as.
+    ∷ is (storedChecksum (lone 0 0 0 0) ∷ []) (1 ∷ [])
+    ∷ is (storedChecksum (lone 0xff 0xff 0xff 0xff) ∷ []) (0xfffffffe ∷ [])
+    ∷ is (storedChecksum (lone 1 0 0 0) ∷ []) (1 ∷ [])
+    ∷ is (storedChecksum (lone 0xfe 0xff 0xff 0xff) ∷ []) (0xfffffffe ∷ [])
     ∷ []
 
 -- the claim: every figure of the table is as stated

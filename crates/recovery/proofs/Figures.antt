@@ -6,7 +6,7 @@ use lib.ListN.{length, replicate}
 use Rattle.fields.specs.Number.{u16At, u32At, u64At}
 use Rattle.fields.specs.Bytes.{sameBytes, standsAt}
 use Rattle.fields.specs.Faults.{_next_}
-use Rattle.base.specs.Block.{xors, storedChecksum, isVersion, isBinsSize, usable, clean}
+use Rattle.base.specs.Block.{xors, asStored, storedChecksum, isVersion, isBinsSize, usable, clean}
 use Rattle.sectors.specs.Sector.{page}
 use Rattle.bitmap.specs.Bits.{bitsBefore, nextAmong}
 use Rattle.old_log.specs.Layout.{bitmap, logged}
@@ -31,5 +31,5 @@ hive = replicate 12288 0
 
 -- "log of 2,048 bytes there is accepted"
 pub long-log : (length (log 512) ≡ 2048) × (startAnswer hive (log 512) ≡ Pages 2)
-unfolding startAnswer testFault hiveFault clean hive stampsAgree page logged log head logFault headFault isLogBase usable isVersion isBinsSize storedChecksum xors u64At u32At u16At standsAt sameBytes bitmap bitsBefore nextAmong _next_
+unfolding startAnswer testFault hiveFault clean hive stampsAgree page logged log head logFault headFault isLogBase usable isVersion isBinsSize storedChecksum asStored xors u64At u32At u16At standsAt sameBytes bitmap bitsBefore nextAmong _next_
 long-log = (refl, refl)

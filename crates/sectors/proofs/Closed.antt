@@ -12,7 +12,8 @@ use borrow.Author.Tests.{eq-eqb}
 use Rattle.fields.specs.Number.{u32At}
 use Rattle.fields.specs.Bytes.{sameBytes, standsAt}
 use Rattle.fields.proofs.Bools.{and-inv, and-both}
-use Rattle.base.specs.Block.{isRegf, xors, storedChecksum, isSummed, minorOf, typeOf, isVersion, isBinsSize, usable, isSettled, clean}
+use Rattle.base.specs.Block.{isRegf, xors, asStored, storedChecksum, isSummed, minorOf, typeOf, isVersion, isBinsSize, usable, isSettled, clean}
+use Rattle.base.proofs.Laws.{asStored-lt}
 use Rattle.sectors.specs.Sector.{Bytes}
 use Rattle.sectors.specs.Closing.{put32, asHive, closingSector}
 use Rattle.sectors.proofs.Words.{u32-lt, put-length, put-take, u32-other, u32-same, put-bytes}
@@ -26,7 +27,7 @@ xors-lt s h (suc n) = xor-lt 32 (xors s n) (u32At s (n * 4)) (xors-lt s h n) (u3
 
 pub checksum-lt : (s : List ℕ) → Bytes s → storedChecksum s < 4294967296
 unfolding storedChecksum
-checksum-lt s h = xors-lt s h 127
+checksum-lt s h = asStored-lt (xors s 127) (xors-lt s h 127)
 
 -- the field at 508 is no part of it
 xors-put : (s : List ℕ) (v n : ℕ) → n ≤ 127 → xors (put32 s 508 v) n ≡ xors s n
@@ -36,7 +37,7 @@ xors-put s v (suc n) h = ap₂ bitXor (xors-put s v n (omega arith)) (u32-other 
 
 checksum-put : (s : List ℕ) (v : ℕ) → storedChecksum (put32 s 508 v) ≡ storedChecksum s
 unfolding storedChecksum
-checksum-put s v = xors-put s v 127 (omega arith)
+checksum-put s v = ap asStored (xors-put s v 127 (omega arith))
 
 -- ---- the closing sector
 
