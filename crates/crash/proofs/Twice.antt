@@ -18,7 +18,8 @@ use Rattle.old_log.specs.Tests.{isLogBase, headFault, logFault, stampsAgree, in
 use Rattle.recovery.specs.declared.Started.the-variants.{Pages}
 use Rattle.recovery.specs.declared.Stepped.the-variants.{Done}
 use Rattle.recovery.specs.Calls.{hiveFault, testFault, startAnswer, pageAnswer, pageHive, closeAnswer}
-use Rattle.recovery.proofs.Figures.{head, log, hive, long-log}
+use Rattle.recovery.specs.Small.{head, log, hive}
+use Rattle.recovery.proofs.Small.{small-accepted}
 use Rattle.crash.specs.Trace.{Sent, Open, failures, landings}
 use Rattle.crash.specs.Demand.{Landed}
 use Rattle.crash.proofs.Demand3.{may-store, may-seal, landed}
@@ -38,7 +39,7 @@ abbrev pub l : List ℕ
 l = log 512
 
 ok : startAnswer hive l ≡ Pages 2
-ok = long-log .1
+ok = small-accepted
 
 bytes : Bytes l
 unfolding areBytes log head

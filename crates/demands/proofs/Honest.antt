@@ -31,7 +31,8 @@ use Rattle.old_log.specs.Layout.{bitmap, isLogged, logged}
 use Rattle.old_log.specs.Tests.{isLogBase, headFault, logFault, stampsAgree}
 use Rattle.recovery.specs.Calls.{hiveFault, testFault, startAnswer, pageAnswer, pageHive}
 use Rattle.recovery.proofs.Accepts.{start-accepted}
-use Rattle.recovery.proofs.Figures.{head, log, hive, long-log}
+use Rattle.recovery.specs.Small.{head, log, hive}
+use Rattle.recovery.proofs.Small.{small-accepted}
 use Rattle.figures.specs.Inputs.{header, baseBlock, rootCell, minimal}
 use Rattle.demands.specs.Frauds.{NoFraud}
 
@@ -70,7 +71,7 @@ unfolding hive
 no-fraud =
     record {
       refuse-hives = λ check p f. let r = f minimal (replicate 64 0) in let e = sym (r .1) ∙ p minimal (replicate 64 0) ∙ minimal-accepted in let z : _≡_ {A = ℕ} 0 1 = cc in omega arith;
-      refuse-logs = λ start p f. let r = f hive (log 512) in let e = sym (r .1) ∙ p hive (log 512) ∙ long-log .1 in let z : _≡_ {A = ℕ} 0 1 = cc in omega arith;
+      refuse-logs = λ start p f. let r = f hive (log 512) in let e = sym (r .1) ∙ p hive (log 512) ∙ small-accepted in let z : _≡_ {A = ℕ} 0 1 = cc in omega arith;
       constant-key = λ find p a f. let e = sym nothing-found ∙ sym (p [] []) ∙ f [] [] ∙ sym (f minimal []) ∙ p minimal [] ∙ minimal-root in let z : _≡_ {A = ℕ} 0 1 = cc in omega arith;
       constant-check = λ check p a f. let e = sym nothing-checked ∙ sym (p [] []) ∙ f [] [] ∙ sym (f minimal (replicate 64 0)) ∙ p minimal (replicate 64 0) ∙ minimal-accepted in let z : _≡_ {A = ℕ} 0 1 = cc in omega arith;
       do-nothing = λ left p f. let e = sym page-zero ∙ ap (λ (x : List ℕ). getD x 4124 0) (sym (p hive (log 512) 0) ∙ f hive (log 512) 0) in let z : _≡_ {A = ℕ} 7 0 = e in omega arith;

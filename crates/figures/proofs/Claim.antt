@@ -5,23 +5,29 @@ use mathlib.Core.Logic.{⊎-elim}
 use mathlib.Core.List.{List, [], _∷_, List·Memᴰ, List·Memᴰ·cases-cons, List·Memᴰ·not-nil}
 use Rattle.fields.specs.Number.{u16At, u32At, u64At, sizeAt}
 use Rattle.fields.specs.Bytes.{sameBytes, standsAt}
-use Rattle.fields.specs.Faults.{_next_}
+use Rattle.fields.specs.Faults.{_next_, faultOver}
 use Rattle.fields.proofs.Bools.{and-inv}
-use Rattle.base.specs.Block.{xors, asStored, storedChecksum, isVersion, isBinsSize, usable, clean}
+use Rattle.base.specs.Block.{xors, asStored, storedChecksum, isVersion, isBinsSize, usable, clean, blockFault, baseFault}
 use Rattle.cells.specs.Tiling.{goodSize, tilingN, tiling, rowOf, binSize, layoutN, layout, addRow, surveyOf}
-use Rattle.cells.specs.Map.{markAt, marks, isBad, marksAll}
-use Rattle.names.specs.Codes.{codes}
+use Rattle.cells.specs.Map.{markAt, marks, isBad, marksAll, zeros, mapAfter, isMarked}
+use Rattle.cells.specs.Survey.{frontFault, surveyAnswer, mapLeft}
+use Rattle.cells.specs.Named.{isNamed, byHeader, cellOf, cellFault, dataOf, dataAt}
+use Rattle.names.specs.Codes.{codes, charactersIn, hasCode}
 use Rattle.names.specs.Upper_case.{upper, uppers}
 use Rattle.names.specs.Hashing.{mixed, mixedAll, hashOf}
+use Rattle.records.specs.Keys.{isKeyName, isKey, keyFault, keyIn, keyOf, codesOf}
+use Rattle.records.specs.Lists.{childrenIn, leavesBelow, childrenBelow, listsFault}
+use Rattle.values.specs.Lists.{valuesOf, valueListFault, valuesFault}
+use Rattle.tree.specs.Tree.{_after_, placeFault, hashFault, levelFault, totalFault, restFault, ownFault, keyCharge, listCharge, treeCharge, joined, keysIn, valuesIn, checkAnswer}
 use Rattle.sectors.specs.Sector.{page}
 use Rattle.bitmap.specs.Bits.{bitsBefore, nextAmong}
 use Rattle.old_log.specs.Layout.{bitmap, logged}
 use Rattle.old_log.specs.Tests.{isLogBase, headFault, logFault, stampsAgree}
 use Rattle.old_log.proofs.Same.{same-true}
 use Rattle.recovery.specs.Calls.{hiveFault, testFault, startAnswer, nextAnswer}
-use Rattle.recovery.proofs.Figures.{head, log, hive}
-use Rattle.figures.specs.Inputs.{bare, lone, header, oneBin, lowest, sized}
-use Rattle.figures.specs.Table.{surveyNumbers, startNumbers, nextNumbers, Figure, table, Figures}
+use Rattle.figures.specs.Inputs.{bare, lone, header, lowest, used, sized, baseBlock, rootCell, minimal}
+use Rattle.figures.specs.Table.{surveyNumbers, checkNumbers, startNumbers, nextNumbers, Figure, table, Figures}
+use Rattle.recovery.specs.Small.{head, log, hive}
 
 -- the test over a table
 right : List Figure → Bool
@@ -38,7 +44,7 @@ rule (g ∷ fs) e f i =
     (List·Memᴰ·cases-cons i)
 
 computed : right table ≡ true
-unfolding right table sameBytes standsAt u16At u32At u64At sizeAt _next_ storedChecksum asStored xors isVersion isBinsSize usable clean codes upper uppers mixed mixedAll hashOf goodSize tilingN tiling rowOf binSize layoutN layout addRow surveyOf markAt marks isBad marksAll page bitsBefore nextAmong bitmap logged isLogBase headFault logFault stampsAgree hiveFault testFault startAnswer nextAnswer head log hive bare lone header oneBin lowest sized surveyNumbers startNumbers nextNumbers
+unfolding right table sameBytes standsAt u16At u32At u64At sizeAt _next_ faultOver storedChecksum asStored xors isVersion isBinsSize usable clean blockFault baseFault codes charactersIn hasCode upper uppers mixed mixedAll hashOf goodSize tilingN tiling rowOf binSize layoutN layout addRow surveyOf markAt marks isBad marksAll zeros mapAfter isMarked frontFault surveyAnswer mapLeft isNamed byHeader cellOf cellFault dataOf dataAt isKeyName isKey keyFault keyIn keyOf codesOf childrenIn leavesBelow childrenBelow listsFault valuesOf valueListFault valuesFault _after_ placeFault hashFault levelFault totalFault restFault ownFault keyCharge listCharge treeCharge joined keysIn valuesIn checkAnswer page bitsBefore nextAmong bitmap logged isLogBase headFault logFault stampsAgree hiveFault testFault startAnswer nextAnswer head log hive bare lone header lowest used sized baseBlock rootCell minimal surveyNumbers checkNumbers startNumbers nextNumbers
 computed = refl
 
 pub figures : Figures

@@ -15,19 +15,11 @@ lone a b c d = replicate 200 0 ++ (a ∷ b ∷ c ∷ d ∷ replicate 308 0)
 unfoldable pub header : List ℕ
 header = 104 ∷ 98 ∷ 105 ∷ 110 ∷ 0 ∷ 0 ∷ 0 ∷ 0 ∷ 0 ∷ 16 ∷ 0 ∷ 0 ∷ replicate 20 0
 
--- one bin: a key cell of 88 bytes in use, and a free cell with the rest
-unfoldable pub oneBin : List ℕ
-oneBin = header ++ ((0xa8 ∷ 0xff ∷ 0xff ∷ 0xff ∷ replicate 84 0) ++ (0x88 ∷ 0x0f ∷ 0 ∷ 0 ∷ replicate 3972 0))
-
--- one bin whose first cell has the size field 0x80000000
-unfoldable pub lowest : List ℕ
-lowest = header ++ (0 ∷ 0 ∷ 0 ∷ 0x80 ∷ replicate 4060 0)
-
 -- a first sector that gives a bins size in four bytes
 unfoldable pub sized : ℕ → ℕ → ℕ → List ℕ
 sized a b c = replicate 40 0 ++ (a ∷ b ∷ c ∷ 0 ∷ replicate 468 0)
 
--- the minimal hive: its base block, and one bin with the root, named by one byte
+-- the base block of a hive of one bin
 unfoldable pub baseBlock : List ℕ
 baseBlock =
     114 ∷ 101 ∷ 103 ∷ 102 ∷ 1 ∷ 0 ∷ 0 ∷ 0 ∷ 1 ∷ 0 ∷ 0 ∷ 0
@@ -38,5 +30,14 @@ baseBlock =
 unfoldable pub rootCell : List ℕ
 rootCell = 0xa8 ∷ 0xff ∷ 0xff ∷ 0xff ∷ 110 ∷ 107 ∷ 0x20 ∷ 0 ∷ replicate 68 0 ++ (1 ∷ 0 ∷ 0 ∷ 0 ∷ 82 ∷ replicate 7 0)
 
+-- the minimal hive: one bin with the root, named by one byte, and a free cell with the rest
 unfoldable pub minimal : List ℕ
 minimal = baseBlock ++ (header ++ (rootCell ++ (0x88 ∷ 0x0f ∷ 0 ∷ 0 ∷ replicate 3972 0)))
+
+-- the same hive with the size field 0x80000000 in its first cell
+unfoldable pub lowest : List ℕ
+lowest = baseBlock ++ (header ++ (0 ∷ 0 ∷ 0 ∷ 0x80 ∷ replicate 4060 0))
+
+-- a work map of 64 bytes that was used before
+unfoldable pub used : List ℕ
+used = replicate 64 255

@@ -8,23 +8,29 @@ use Rattle.fields.specs.Faults.{numberOf}
 use Rattle.base.specs.Block.{storedChecksum}
 use Rattle.cells.specs.declared.Surveyed.{Surveyed}
 use Rattle.cells.specs.declared.Surveyed.the-variants.{Tiled, Refused as Untiled}
-use Rattle.cells.specs.Tiling.{layout, surveyOf}
-use Rattle.cells.specs.Map.{marksAll}
+use Rattle.cells.specs.Survey.{surveyAnswer, mapLeft}
 use Rattle.names.specs.Codes.{codes}
 use Rattle.names.specs.Hashing.{hashOf}
+use Rattle.tree.specs.declared.Checked.{Checked}
+use Rattle.tree.specs.declared.Checked.the-variants as checked
+use Rattle.tree.specs.Tree.{checkAnswer}
 use Rattle.old_log.specs.Layout.{pagesAt}
 use Rattle.recovery.specs.declared.Started.{Started}
 use Rattle.recovery.specs.declared.Started.the-variants.{Clean, Pages, Refused}
 use Rattle.recovery.specs.declared.NextPage.{NextPage}
 use Rattle.recovery.specs.declared.NextPage.the-variants.{At, NoMore, Refused as Unread}
 use Rattle.recovery.specs.Calls.{startAnswer, nextAnswer}
-use Rattle.recovery.proofs.Figures.{log, hive}
-use Rattle.figures.specs.Inputs.{bare, lone, oneBin, lowest, sized}
+use Rattle.figures.specs.Inputs.{bare, minimal, lone, lowest, used, sized}
+use Rattle.recovery.specs.Small.{log, hive}
 
 -- what an answer gives, as numbers in the table's order: a count or none, or the refusal's number and place
 unfoldable pub surveyNumbers : Surveyed → List ℕ
 surveyNumbers (Tiled t) = t .bins ∷ t .used ∷ t .free ∷ []
 surveyNumbers (Untiled f) = numberOf (f .fault) ∷ f .place .0 ∷ []
+
+unfoldable pub checkNumbers : Checked → List ℕ
+checkNumbers (checked.Accepted r) = r .bins ∷ r .keys ∷ r .values ∷ r .used ∷ r .free ∷ []
+checkNumbers (checked.Refused r) = numberOf (r .fault) ∷ r .place .0 ∷ []
 
 unfoldable pub startNumbers : Started → List ℕ
 startNumbers Clean = []
@@ -53,8 +59,9 @@ table =
     ∷ is (hashOf (codes true (97 ∷ 98 ∷ [])) ∷ []) (2471 ∷ [])
     ∷ is (hashOf (codes true (99 ∷ 104 ∷ 105 ∷ 108 ∷ 100 ∷ [])) ∷ []) (129318620 ∷ [])
     -- `one bin, root named by one byte: key cell 88 bytes, free cell 3,976; map of 64 bytes is 0x10, then zeros`
-    ∷ is (surveyNumbers (surveyOf (layout oneBin 0) 0 0 0)) (1 ∷ 88 ∷ 3976 ∷ [])
-    ∷ is (marksAll (layout oneBin 0) (replicate 64 0)) (0x10 ∷ replicate 63 0)
+    ∷ is (surveyNumbers (surveyAnswer minimal 64)) (1 ∷ 88 ∷ 3976 ∷ [])
+    ∷ is (mapLeft minimal used) (0x10 ∷ replicate 63 0)
+    ∷ is (checkNumbers (checkAnswer minimal used)) (1 ∷ 1 ∷ 0 ∷ 88 ∷ 3976 ∷ [])
     -- `bins size 8,192, bitmap 0x01 0x80: pages 0 and 15, from log places 1,024 and 1,536; page 15 goes to place 11,776`
     ∷ is (nextNumbers (nextAnswer (log 512) 0)) (0 ∷ 1024 ∷ 4096 ∷ [])
     ∷ is (nextNumbers (nextAnswer (log 512) 1)) (15 ∷ 1536 ∷ 11776 ∷ [])
@@ -66,7 +73,7 @@ table =
     ∷ is (pagesAt (sized 0x00 0xc0 0x1f) ∷ []) (1024 ∷ [])
     ∷ is (pagesAt (sized 0x00 0xd0 0x1f) ∷ []) (1536 ∷ [])
     -- `cell size 0x80000000 gives 10`
-    ∷ is (surveyNumbers (surveyOf (layout lowest 0) 0 0 0)) (10 ∷ 32 ∷ [])
+    ∷ is (checkNumbers (checkAnswer lowest used)) (10 ∷ 32 ∷ [])
     -- Not the paper's, but of its amendment by request 1: a XOR of 0 and one of 0xFFFFFFFF, and beside each the number that it is stored as.
     ∷ is (storedChecksum (lone 0 0 0 0) ∷ []) (1 ∷ [])
     ∷ is (storedChecksum (lone 0xff 0xff 0xff 0xff) ∷ []) (0xfffffffe ∷ [])

@@ -4,5 +4,5 @@ pub mod Accepts
 pub mod Within
 pub mod Repair
 pub mod Ended
-pub mod Figures
+pub mod Small
 pub mod Asked
