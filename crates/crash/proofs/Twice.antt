@@ -18,11 +18,12 @@ use Rattle.old_log.specs.Tests.{isLogBase, headFault, logFault, stampsAgree, in
 use Rattle.recovery.specs.declared.Started.the-variants.{Pages}
 use Rattle.recovery.specs.declared.Stepped.the-variants.{Done}
 use Rattle.recovery.specs.Calls.{hiveFault, testFault, startAnswer, pageAnswer, pageHive, closeAnswer}
+use Rattle.recovery.specs.Finished.{afterPages}
 use Rattle.recovery.specs.Small.{head, log, hive}
 use Rattle.recovery.proofs.Small.{small-accepted}
-use Rattle.crash.specs.Trace.{Sent, Open, failures, landings}
+use Rattle.crash.specs.Trace.{Sent, Trace, Open, failures, landedIn, times}
 use Rattle.crash.specs.Demand.{Landed}
-use Rattle.crash.proofs.Demand3.{may-store, may-seal, landed}
+use Rattle.crash.proofs.Demand3.{running, may-seal, landed}
 
 -- a list of bytes, by a test that computes
 areBytes : List ℕ → Bool
@@ -60,27 +61,34 @@ pub record Cut (h l : List ℕ) : Type 0 where
   pub memory : List ℕ
   pub stores : List Sent
   pub disk : List ℕ
-  pub trace : Open h l true memory stores disk
+  pub trace : Open h l true memory stores [] disk
   pub failed : failures trace ≡ 2
-  pub twice : landings 0 trace ≡ 2
+  pub twice : times 0 (landedIn trace) ≡ 2
   pub all-landed : closeAnswer disk l ≡ Done
 
-cut : {h l m : List ℕ} {q : List Sent} {d : List ℕ} (o : Open h l true m q d) → failures o ≡ 2 → landings 0 o ≡ 2 → closeAnswer d l ≡ Done → Cut h l
+cut : {h l m : List ℕ} {q : List Sent} {d : List ℕ} (o : Open h l true m q [] d) → failures o ≡ 2 → times 0 (landedIn o) ≡ 2 → closeAnswer d l ≡ Done → Cut h l
 cut {m = m} {q = q} {d = d} o a b c = record { memory = m; stores = q; disk = d; trace = o; failed = a; twice = b; all-landed = c }
 
+-- a page call in a run is done where the page is logged
+may-store : {m : List ℕ} {q : List Sent} {d : List ℕ} → Open hive l false m q [] d → (p : ℕ) → isLogged l p ≡ true → pageAnswer m l p ≡ Done
+unfolding afterPages
+may-store o p e = running hive l 2 ok bytes o .pages [] p e
+
 pub cut-twice : Cut hive l
-unfolding failures landings closeAnswer startAnswer pageHive pageAnswer testFault hiveFault clean stampsAgree inBelow page logged log head hive logFault headFault isLogBase usable isVersion isBinsSize storedChecksum asStored xors u64At u32At u16At standsAt sameBytes bitmap bitsBefore _next_
+unfolding failures landedIn times closeAnswer startAnswer pageHive pageAnswer testFault hiveFault clean stampsAgree inBelow page logged log head hive logFault headFault isLogBase usable isVersion isBinsSize storedChecksum asStored xors u64At u32At u16At standsAt sameBytes bitmap bitsBefore _next_
 cut-twice =
-    let o₀ : Open hive l false hive [] hive = Open.begin in
-    let o₁ = Open.stores 0 (may-store hive l 2 ok bytes o₀ 0 zero-logged) o₀ in
-    let o₂ = Open.fails (Open.lands _ (List·Memᴰ·head refl) o₁) in
-    let o₃ = Open.stores 0 (may-store hive l 2 ok bytes o₂ 0 zero-logged) o₂ in
-    let o₄ = Open.stores 15 (may-store hive l 2 ok bytes o₃ 15 last-logged) o₃ in
-    let o₅ = Open.fails (Open.lands _ (List·Memᴰ·tail (List·Memᴰ·head refl)) o₄) in
-    let o₆ = Open.stores 15 (may-store hive l 2 ok bytes o₅ 15 last-logged) o₅ in
-    let o₇ = Open.lands _ (List·Memᴰ·head refl) o₆ in
-    cut (Open.closes refl o₇) refl refl refl
+    let o₀ : Open hive l false hive [] [] hive = Trace.begin in
+    let o₁ = Trace.stores 0 (may-store o₀ 0 zero-logged) o₀ in
+    let o₂ = Trace.fails (Trace.lands _ (List·Memᴰ·head refl) o₁) in
+    let o₃ = Trace.stores 0 (may-store o₂ 0 zero-logged) o₂ in
+    let o₄ = Trace.stores 15 (may-store o₃ 15 last-logged) o₃ in
+    let o₅ = Trace.fails (Trace.lands _ (List·Memᴰ·tail (List·Memᴰ·head refl)) o₄) in
+    let o₆ = Trace.stores 15 (may-store o₅ 15 last-logged) o₅ in
+    let o₇ = Trace.lands _ (List·Memᴰ·head refl) o₆ in
+    cut (Trace.closes refl o₇) refl refl refl
 
 -- Theorem 4.
 pub ends : Landed hive l (stored (cut-twice .disk) 0 (sectorAt (cut-twice .memory) 0))
-ends = landed hive l 2 ok bytes (may-seal hive l 2 ok bytes (cut-twice .trace) (cut-twice .all-landed))
+ends =
+    let o = Trace.seals (may-seal hive l 2 ok bytes (cut-twice .trace) (cut-twice .all-landed)) (cut-twice .trace) in
+    landed hive l 2 ok bytes (Trace.shuts _ (List·Memᴰ·head refl) o)

@@ -1,12 +1,13 @@
--- Power may fail at any moment: what memory and the disk can hold during the repair of the hive h with the log l.
+-- Power may fail at any moment, and a run may end at any moment: what memory and the disk can hold during the repair of the hive h with the log l.
 --
 -- Of the machine and the host this is taken:
--- a 512-byte sector lands on the disk wholly or not at all;
--- a page store sends what a page call has made in memory, and may land at any later moment before the power fails, any number of times or never, and
--- in any order with the others;
+-- "the disk stores a 512-byte sector wholly or not at all, nobody else alters either file";
+-- a page store sends what a page call has made in memory; the closing sector is sent as memory has it after a closing call of this run that was done,
+-- and only when the disk holds every logged page as memory does, which `barrier` (proofs/Barrier.antt) gives where
+-- "all page stores have landed before the closing sector is sent";
+-- what was sent may land at any later moment before the power fails, any number of times or never, and in any order;
 -- when the power fails, what has not landed is lost, and the next run reads the disk into memory;
--- the closing sector is sent only when every page store has landed, and only after a closing call that said "done";
--- nobody else writes to the hive, and the log stays as it is.
+-- a process that is killed loses no store that it has sent: what was under way stays under way, and the next run may read some of it already.
 use Prim.Native.Nat.{ℕ, suc, _+_}
 use mathlib.Core.Path.{_≡_}
 use mathlib.Core.Bool.{Bool, true, false, cond}
@@ -14,7 +15,8 @@ use mathlib.Core.List.{List, [], _∷_, List·Memᴰ}
 use lib.Dec.{eqb}
 use Rattle.sectors.specs.Sector.{sectorAt, stored, pagePlace, page}
 use Rattle.old_log.specs.Layout.{isLogged}
-use Rattle.recovery.specs.declared.Stepped.the-variants.{Done}
+use Rattle.recovery.specs.declared.Stepped.{Stepped}
+use Rattle.recovery.specs.declared.Stepped.the-variants.{Clean, Done, Refused}
 use Rattle.recovery.specs.Calls.{pageAnswer, pageHive, closeAnswer, closeHive}
 
 -- a page store that is under way: the page's number, and the bytes that memory had there when it was sent
@@ -28,50 +30,110 @@ send m p = record { number = p; bytes = page m p }
 abbrev pub land : Sent → List ℕ → List ℕ
 land s d = stored d (pagePlace (s .number)) (s .bytes)
 
--- The closing sector has not landed: memory holds m, the stores q are under way, and the disk holds d. The Bool says whether this run's closing call
--- has said "done".
-pub data Open (h l : List ℕ) : Bool → List ℕ → List Sent → List ℕ → Type 0 where
-  begin : Open h l false h [] h
-  -- power fails, or the run ends; the file is read again
-  fails : {c : Bool} {m : List ℕ} {q : List Sent} {d : List ℕ} → Open h l c m q d → Open h l false d [] d
-  -- a page call, whatever page it names and whatever it answers
-  calls : {c : Bool} {m : List ℕ} {q : List Sent} {d : List ℕ} (p : ℕ) → Open h l c m q d → Open h l c (pageHive m l p) q d
-  -- a page call that is done, and the store of what it made
-  stores : {c : Bool} {m : List ℕ} {q : List Sent} {d : List ℕ} (p : ℕ) → pageAnswer m l p ≡ Done → Open h l c m q d
-      → Open h l c (pageHive m l p) (send (pageHive m l p) p ∷ q) d
-  -- a store lands; it may land again
-  lands : {c : Bool} {m : List ℕ} {q : List Sent} {d : List ℕ} (s : Sent) → List·Memᴰ s q → Open h l c m q d → Open h l c m q (land s d)
-  -- a closing call that is done
-  closes : {c : Bool} {m : List ℕ} {q : List Sent} {d : List ℕ} → closeAnswer m l ≡ Done → Open h l c m q d → Open h l true (closeHive m l) q d
+-- what a run can read of the disk's d while the page stores q and the closing sectors k are under way: some of them in, in any order, or none
+pub data Read (q : List Sent) (k : List (List ℕ)) (d : List ℕ) : List ℕ → Type 0 where
+  disk : Read q k d d
+  store : {x : List ℕ} (s : Sent) → List·Memᴰ s q → Read q k d x → Read q k d (land s x)
+  closing : {x : List ℕ} (b : List ℕ) → List·Memᴰ b k → Read q k d x → Read q k d (stored x 0 b)
 
--- The same, once the closing sector has landed.
-pub data Closed (h l : List ℕ) : List ℕ → List Sent → List ℕ → Type 0 where
-  -- it lands: the disk holds every logged page as memory does, for all page stores have landed
-  seals : {m : List ℕ} {q : List Sent} {d : List ℕ} → Open h l true m q d → ((p : ℕ) → isLogged l p ≡ true → page d p ≡ page m p) → Closed h l m q (stored d 0 (sectorAt m 0))
-  -- it lands again
-  again : {m : List ℕ} {q : List Sent} {d : List ℕ} → Closed h l m q d → Closed h l m q (stored d 0 (sectorAt m 0))
-  fails : {m : List ℕ} {q : List Sent} {d : List ℕ} → Closed h l m q d → Closed h l d [] d
-  -- any later call, with any log
-  calls : {m : List ℕ} {q : List Sent} {d : List ℕ} (l′ : List ℕ) (p : ℕ) → Closed h l m q d → Closed h l (pageHive m l′ p) q d
-  closes : {m : List ℕ} {q : List Sent} {d : List ℕ} (l′ : List ℕ) → Closed h l m q d → Closed h l (closeHive m l′) q d
-  lands : {m : List ℕ} {q : List Sent} {d : List ℕ} (s : Sent) → List·Memᴰ s q → Closed h l m q d → Closed h l m q (land s d)
+-- The first Bool says whether the closing sector has landed, the second whether this run's closing call was done. Memory holds m, the page stores
+-- q and the closing sectors k are under way, and the disk holds d.
+pub data Trace (h l : List ℕ) : Bool → Bool → List ℕ → List Sent → List (List ℕ) → List ℕ → Type 0 where
+  begin : Trace h l false false h [] [] h
+  -- power fails
+  fails : {e c : Bool} {m : List ℕ} {q : List Sent} {k : List (List ℕ)} {d : List ℕ} → Trace h l e c m q k d → Trace h l e false d [] [] d
+  -- the run ends, or its process is killed; the file is read again
+  ends : {e c : Bool} {m : List ℕ} {q : List Sent} {k : List (List ℕ)} {d : List ℕ} (x : List ℕ) → Read q k d x → Trace h l e c m q k d
+      → Trace h l e false x q k d
+  -- a page call, whatever page it names and whatever it answers
+  calls : {e c : Bool} {m : List ℕ} {q : List Sent} {k : List (List ℕ)} {d : List ℕ} (p : ℕ) → Trace h l e c m q k d
+      → Trace h l e c (pageHive m l p) q k d
+  -- a page call that is done, and the store of what it made
+  stores : {e c : Bool} {m : List ℕ} {q : List Sent} {k : List (List ℕ)} {d : List ℕ} (p : ℕ) → pageAnswer m l p ≡ Done → Trace h l e c m q k d
+      → Trace h l e c (pageHive m l p) (send (pageHive m l p) p ∷ q) k d
+  -- a page store lands; it may land again
+  lands : {e c : Bool} {m : List ℕ} {q : List Sent} {k : List (List ℕ)} {d : List ℕ} (s : Sent) → List·Memᴰ s q → Trace h l e c m q k d
+      → Trace h l e c m q k (land s d)
+  -- a closing call that is done
+  closes : {e c : Bool} {m : List ℕ} {q : List Sent} {k : List (List ℕ)} {d : List ℕ} → closeAnswer m l ≡ Done → Trace h l e c m q k d
+      → Trace h l e true (closeHive m l) q k d
+  -- the closing sector is sent: the disk holds every logged page as memory does, for all page stores have landed
+  seals : {e : Bool} {m : List ℕ} {q : List Sent} {k : List (List ℕ)} {d : List ℕ} → ((p : ℕ) → isLogged l p ≡ true → page d p ≡ page m p)
+      → Trace h l e true m q k d → Trace h l e true m q (sectorAt m 0 ∷ k) d
+  -- it lands; it may land again
+  shuts : {e c : Bool} {m : List ℕ} {q : List Sent} {k : List (List ℕ)} {d : List ℕ} (b : List ℕ) → List·Memᴰ b k → Trace h l e c m q k d
+      → Trace h l true c m q k (stored d 0 b)
+
+-- until the closing sector lands
+abbrev pub Open : List ℕ → List ℕ → Bool → List ℕ → List Sent → List (List ℕ) → List ℕ → Type 0
+Open h l = Trace h l false
+
+-- once it has landed
+abbrev pub Closed : List ℕ → List ℕ → Bool → List ℕ → List Sent → List (List ℕ) → List ℕ → Type 0
+Closed h l = Trace h l true
 
 -- ---- what happened in a trace
 
--- how often the power failed before the closing sector landed
-unfoldable pub failures : {h l : List ℕ} {c : Bool} {m : List ℕ} {q : List Sent} {d : List ℕ} → Open h l c m q d → ℕ
-failures Open.begin = 0
-failures (Open.fails o) = suc (failures o)
-failures (Open.calls p o) = failures o
-failures (Open.stores p e o) = failures o
-failures (Open.lands s k o) = failures o
-failures (Open.closes e o) = failures o
+-- how often the power failed
+unfoldable pub failures : {h l : List ℕ} {e c : Bool} {m : List ℕ} {q : List Sent} {k : List (List ℕ)} {d : List ℕ} → Trace h l e c m q k d → ℕ
+failures Trace.begin = 0
+failures (Trace.fails o) = suc (failures o)
+failures (Trace.ends x r o) = failures o
+failures (Trace.calls p o) = failures o
+failures (Trace.stores p i o) = failures o
+failures (Trace.lands s i o) = failures o
+failures (Trace.closes i o) = failures o
+failures (Trace.seals i o) = failures o
+failures (Trace.shuts b i o) = failures o
 
--- how often a store of page p landed
-unfoldable pub landings : {h l : List ℕ} {c : Bool} {m : List ℕ} {q : List Sent} {d : List ℕ} → ℕ → Open h l c m q d → ℕ
-landings p Open.begin = 0
-landings p (Open.fails o) = landings p o
-landings p (Open.calls k o) = landings p o
-landings p (Open.stores k e o) = landings p o
-landings p (Open.lands s k o) = cond (eqb (s .number) p) 1 0 + landings p o
-landings p (Open.closes e o) = landings p o
+-- the page stores that have landed
+unfoldable pub landedIn : {h l : List ℕ} {e c : Bool} {m : List ℕ} {q : List Sent} {k : List (List ℕ)} {d : List ℕ} → Trace h l e c m q k d → List Sent
+landedIn Trace.begin = []
+landedIn (Trace.fails o) = landedIn o
+landedIn (Trace.ends x r o) = landedIn o
+landedIn (Trace.calls p o) = landedIn o
+landedIn (Trace.stores p i o) = landedIn o
+landedIn (Trace.lands s i o) = s ∷ landedIn o
+landedIn (Trace.closes i o) = landedIn o
+landedIn (Trace.seals i o) = landedIn o
+landedIn (Trace.shuts b i o) = landedIn o
+
+-- the page stores that this run has sent
+unfoldable pub sentIn : {h l : List ℕ} {e c : Bool} {m : List ℕ} {q : List Sent} {k : List (List ℕ)} {d : List ℕ} → Trace h l e c m q k d → List Sent
+sentIn Trace.begin = []
+sentIn (Trace.fails o) = []
+sentIn (Trace.ends x r o) = []
+sentIn (Trace.calls p o) = sentIn o
+sentIn {l = l} (Trace.stores {m = m} p i o) = send (pageHive m l p) p ∷ sentIn o
+sentIn (Trace.lands s i o) = sentIn o
+sentIn (Trace.closes i o) = sentIn o
+sentIn (Trace.seals i o) = sentIn o
+sentIn (Trace.shuts b i o) = sentIn o
+
+-- a page of which a call was done
+abbrev pub whereDone : Stepped → ℕ → List ℕ → List ℕ
+whereDone Clean p ps = ps
+whereDone Done p ps = p ∷ ps
+whereDone (Refused r) p ps = ps
+
+-- the pages of which a call was done in this run
+unfoldable pub doneIn : {h l : List ℕ} {e c : Bool} {m : List ℕ} {q : List Sent} {k : List (List ℕ)} {d : List ℕ} → Trace h l e c m q k d → List ℕ
+doneIn Trace.begin = []
+doneIn (Trace.fails o) = []
+doneIn (Trace.ends x r o) = []
+doneIn {l = l} (Trace.calls {m = m} p o) = whereDone (pageAnswer m l p) p (doneIn o)
+doneIn {l = l} (Trace.stores {m = m} p i o) = whereDone (pageAnswer m l p) p (doneIn o)
+doneIn (Trace.lands s i o) = doneIn o
+doneIn (Trace.closes i o) = doneIn o
+doneIn (Trace.seals i o) = doneIn o
+doneIn (Trace.shuts b i o) = doneIn o
+
+-- "all page stores have landed": of every page of which a call was done in this run, a store sent in this run has landed, and so has every store under way
+pub record AllLanded {h l : List ℕ} {e c : Bool} {m : List ℕ} {q : List Sent} {k : List (List ℕ)} {d : List ℕ} (o : Trace h l e c m q k d) : Type 0 where
+  pub own : (p : ℕ) → List·Memᴰ p (doneIn o) → (s : Sent) × (s .number ≡ p) × List·Memᴰ s (sentIn o) × List·Memᴰ s (landedIn o)
+  pub others : (s : Sent) → List·Memᴰ s q → List·Memᴰ s (landedIn o)
+
+-- how often a store of page p is among some stores
+unfoldable pub times : ℕ → List Sent → ℕ
+times p [] = 0
+times p (s ∷ q) = cond (eqb (s .number) p) 1 0 + times p q

@@ -1,27 +1,95 @@
 -- Demand 3 is met.
-use mathlib.Core.Path.{_≡_, refl}
-use mathlib.Core.List.{List}
 use Prim.Native.Nat.{ℕ}
+use mathlib.Core.Path.{_≡_, refl}
+use mathlib.Core.List.{List, []}
 use lib.ListN.{length}
 use Rattle.fields.specs.declared.Flaw.{Flaw}
+use Rattle.fields.specs.declared.Offset.{Offset}
 use Rattle.fields.specs.declared.Verdict.the-variants.{Flawed}
 use Rattle.fields.specs.Faults.{refusalOf}
+use Rattle.fields.proofs.Firsts.{stop}
 use Rattle.base.specs.Block.{baseFault}
+use Rattle.sectors.specs.Sector.{Bytes}
 use Rattle.cells.proofs.Fronts.{front-base, survey-front}
-use Rattle.tree.specs.declared.Checked.the-variants as checked
-use Rattle.tree.specs.Tree.{checkAnswer}
 use Rattle.tree.proofs.Roots.{check-refused}
-use Rattle.crash.proofs.Demand3.{until, landed}
-use Rattle.demands.specs.Third.{Demand3}
+use Rattle.lookup.specs.declared.Copied.the-variants as copied
+use Rattle.lookup.specs.declared.KeyFound.the-variants as key
+use Rattle.lookup.specs.declared.Look.the-variants.{Faulty}
+use Rattle.lookup.specs.declared.ValueFound.the-variants as value
+use Rattle.lookup.specs.Answers.{keyLook, findAnswer, valueLook, infoAnswer, viewAnswer, viewBytes, copyAnswer}
+use Rattle.lookup.proofs.Opens.{open-base, look-stop}
+use Rattle.lookup.proofs.Agree.{refused-untouched}
+use Rattle.listing.specs.declared.Member.the-variants as member
+use Rattle.listing.specs.Members.{subkeyAnswer, valueAnswer, infoAnswer as infoAt}
+use Rattle.recovery.specs.declared.Started.the-variants as started
+use Rattle.recovery.specs.Calls.{startAnswer}
+use Rattle.crash.proofs.Demand3.{until, running, finishes, landed}
+use Rattle.crash.proofs.Barrier.{barrier}
+use Rattle.demands.specs.Third.{Unread, Demand3}
 
--- a file that the tests 1 to 7 refuse is refused by the check, with every map
-unread : (d map : List ℕ) (f : Flaw) → baseFault d ≡ Flawed f → checkAnswer d map ≡ checked.Refused (refusalOf f)
-unread d map f e = check-refused d map (survey-front d map (front-base d (length map) e) .0) refl
+-- ---- a file that the tests 1 to 7 refuse is refused by every call of the reader
 
-pub demand3 : Demand3
-demand3 =
+module _ (d : List ℕ) (f : Flaw) (e : baseFault d ≡ Flawed f) where
+  key-look : (us : List ℕ) → keyLook d us ≡ Faulty f
+  key-look us = look-stop d us (open-base d us e)
+
+  value-look : (us x : List ℕ) → valueLook d us x ≡ Faulty f
+  unfolding valueLook
+  value-look us x = rw (key-look us)
+
+  find : (us : List ℕ) → findAnswer d us ≡ key.Refused (refusalOf f)
+  unfolding findAnswer
+  find us = rw (key-look us)
+
+  info : (us x : List ℕ) → infoAnswer d us x ≡ value.Refused (refusalOf f)
+  unfolding infoAnswer
+  info us x = rw (value-look us x)
+
+  view : (us x : List ℕ) → viewAnswer d us x ≡ value.Refused (refusalOf f)
+  unfolding viewAnswer
+  view us x = rw (value-look us x)
+
+  no-view : (us x : List ℕ) → viewBytes d us x ≡ []
+  unfolding viewBytes
+  no-view us x = rw (view us x)
+
+  copy : (us x out : List ℕ) → copyAnswer d us x (length out) ≡ copied.Refused (refusalOf f)
+  unfolding copyAnswer
+  copy us x out = rw (info us x)
+
+  subkey : (o : Offset) (i : ℕ) → subkeyAnswer d o i ≡ member.Refused (refusalOf f)
+  unfolding subkeyAnswer
+  subkey o i = rw e
+
+  nth-value : (o : Offset) (i : ℕ) → valueAnswer d o i ≡ member.Refused (refusalOf f)
+  unfolding valueAnswer
+  nth-value o i = rw e
+
+  at : (v : Offset) → infoAt d v ≡ value.Refused (refusalOf f)
+  unfolding infoAt
+  at v = rw (stop (baseFault d) _ e)
+
+  unread : Unread d (refusalOf f)
+  unread =
+      record {
+        check = λ map. let s = survey-front d map (front-base d (length map) e) in (check-refused d map (s .0) refl, s .1);
+        find-key = find;
+        value-info = info;
+        view-info = view;
+        value-view = no-view;
+        value-copy = λ us x out. (copy us x out, refused-untouched d us x out (copy us x out));
+        nth-subkey = subkey;
+        nth-value = nth-value;
+        info-at = at;
+      }
+
+pub demand3 : (h l : List ℕ) (n : ℕ) → startAnswer h l ≡ started.Pages n → Bytes l → Demand3 h l n
+demand3 h l n ok b =
     record {
-      until = λ h l n e b c m q d o. until h l n e b o;
-      unread = λ h l n e b c m q d o map. let r = until h l n e b o .refused in (refusalOf (r .0), unread d map (r .0) (r .1));
-      landed = λ h l n e b m q d x. landed h l n e b x;
+      until = λ c m q k d o. until h l n ok b o;
+      unread = λ c m q k d o. let r = until h l n ok b o .refused in (refusalOf (r .0), unread d (r .0) (r .1));
+      running = λ m q d o. running h l n ok b o;
+      finishes = λ e c m q k d o ps g. finishes h l n ok b o ps g;
+      barrier = λ e m q k d o a. barrier h l n ok b o a;
+      landed = λ c m q k d o. landed h l n ok b o;
     }

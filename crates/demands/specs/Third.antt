@@ -1,25 +1,54 @@
--- Demand 3. "Power may fail during the repair, any number of times, pages in any order, some twice." The traces are those of crash/specs/Trace.antt; the
--- repair began with the hive h and the log l, and the start gave n set bits.
+-- Demand 3. "Take a hive and a log that recovery has accepted. Suppose the disk stores a 512-byte sector wholly or not at all, nobody else alters either
+-- file, and all page stores have landed before the closing sector is sent. Let power fail any number of times, pages go in any order, some twice."
+-- The traces are those of crash/specs/Trace.antt: the repair began with the hive h and the log l, and the start gave n set bits; memory holds m, the page
+-- stores q and the closing sectors k are under way, and the disk holds d.
 use Prim.Native.Nat.{ℕ}
 use mathlib.Core.Path.{_≡_}
-use mathlib.Core.Bool.{Bool}
-use mathlib.Core.List.{List}
+use mathlib.Core.Bool.{Bool, true, false}
+use mathlib.Core.List.{List, []}
+use lib.ListN.{length}
+use Rattle.fields.specs.declared.Offset.{Offset}
 use Rattle.fields.specs.declared.Refusal.{Refusal}
-use Rattle.sectors.specs.Sector.{Bytes}
+use Rattle.sectors.specs.Sector.{page}
+use Rattle.cells.specs.Survey.{mapLeft}
 use Rattle.tree.specs.declared.Checked.the-variants as checked
 use Rattle.tree.specs.Tree.{checkAnswer}
-use Rattle.recovery.specs.declared.Started.the-variants as started
-use Rattle.recovery.specs.Calls.{startAnswer}
-use Rattle.crash.specs.Trace.{Sent, Open, Closed}
-use Rattle.crash.specs.Demand.{Until, Landed}
+use Rattle.lookup.specs.declared.Copied.the-variants as copied
+use Rattle.lookup.specs.declared.KeyFound.the-variants as key
+use Rattle.lookup.specs.declared.ValueFound.the-variants as value
+use Rattle.lookup.specs.Answers.{findAnswer, infoAnswer, viewAnswer, viewBytes, copyAnswer, copyOut}
+use Rattle.listing.specs.declared.Member.the-variants as member
+use Rattle.listing.specs.Members.{subkeyAnswer, valueAnswer, infoAnswer as infoAt}
+use Rattle.old_log.specs.Layout.{isLogged}
+use Rattle.recovery.specs.Calls.{closeHive}
+use Rattle.recovery.specs.Finished.{finished, afterPages, Covers}
+use Rattle.crash.specs.Trace.{Sent, Trace, Open, Closed, AllLanded}
+use Rattle.crash.specs.Demand.{Until, Running, Landed}
 
-pub record Demand3 : Type 0 where
-  -- "until the closing sector lands the same log is still accepted, [..] and closing succeeds exactly when every logged page is in"
-  pub until : (h l : List ℕ) (n : ℕ) → startAnswer h l ≡ started.Pages n → Bytes l
-      → (c : Bool) (m : List ℕ) (q : List Sent) (d : List ℕ) → Open h l c m q d → Until l n d
-  -- "the reader refuses the file", with any work map
-  pub unread : (h l : List ℕ) (n : ℕ) → startAnswer h l ≡ started.Pages n → Bytes l
-      → (c : Bool) (m : List ℕ) (q : List Sent) (d : List ℕ) → Open h l c m q d → (map : List ℕ) → (r : Refusal) × (checkAnswer d map ≡ checked.Refused r)
-  -- "once it lands the file is byte for byte that of one unbroken run, and every later call says clean"
-  pub landed : (h l : List ℕ) (n : ℕ) → startAnswer h l ≡ started.Pages n → Bytes l
-      → (m : List ℕ) (q : List Sent) (d : List ℕ) → Closed h l m q d → Landed h l d
+-- "the reader refuses the file": each of its calls gives that refusal, whatever else it is given, and writes nothing
+pub record Unread (d : List ℕ) (r : Refusal) : Type 0 where
+  pub check : (map : List ℕ) → (checkAnswer d map ≡ checked.Refused r) × (mapLeft d map ≡ map)
+  pub find-key : (us : List ℕ) → findAnswer d us ≡ key.Refused r
+  pub value-info : (us x : List ℕ) → infoAnswer d us x ≡ value.Refused r
+  pub view-info : (us x : List ℕ) → viewAnswer d us x ≡ value.Refused r
+  pub value-view : (us x : List ℕ) → viewBytes d us x ≡ []
+  pub value-copy : (us x out : List ℕ) → (copyAnswer d us x (length out) ≡ copied.Refused r) × (copyOut d us x out ≡ out)
+  pub nth-subkey : (o : Offset) (i : ℕ) → subkeyAnswer d o i ≡ member.Refused r
+  pub nth-value : (o : Offset) (i : ℕ) → valueAnswer d o i ≡ member.Refused r
+  pub info-at : (v : Offset) → infoAt d v ≡ value.Refused r
+
+pub record Demand3 (h l : List ℕ) (n : ℕ) : Type 0 where
+  -- "Until the closing sector lands, the same log is still accepted, [..] and the closing call succeeds exactly when every logged page is in."
+  pub until : (c : Bool) (m : List ℕ) (q : List Sent) (k : List (List ℕ)) (d : List ℕ) → Open h l c m q k d → Until l n d
+  -- "the reader refuses the file"
+  pub unread : (c : Bool) (m : List ℕ) (q : List Sent) (k : List (List ℕ)) (d : List ℕ) → Open h l c m q k d → (r : Refusal) × Unread d r
+  -- the calls of a run work on memory: until its closing call is done, or a closing sector was sent, the same holds there, and they are done
+  pub running : (m : List ℕ) (q : List Sent) (d : List ℕ) → Open h l false m q [] d → Running l n m
+  -- and from every state page calls that cover the log, in any order, then the closing call, give the finished file
+  pub finishes : (e c : Bool) (m : List ℕ) (q : List Sent) (k : List (List ℕ)) (d : List ℕ) → Trace h l e c m q k d → (ps : List ℕ) → Covers l ps
+      → closeHive (afterPages m l ps) l ≡ finished h l
+  -- "all page stores have landed before the closing sector is sent": then the disk holds every logged page as memory does, and the sector may be sent
+  pub barrier : (e : Bool) (m : List ℕ) (q : List Sent) (k : List (List ℕ)) (d : List ℕ) (o : Trace h l e true m q k d) → AllLanded o
+      → (p : ℕ) → isLogged l p ≡ true → page d p ≡ page m p
+  -- "Once it lands, the file is, byte for byte, that of one unbroken run, and every later repair call says "clean" and changes nothing."
+  pub landed : (c : Bool) (m : List ℕ) (q : List Sent) (k : List (List ℕ)) (d : List ℕ) → Closed h l c m q k d → Landed h l d

@@ -66,7 +66,7 @@ module _ (h l : List ℕ) (n : ℕ) (ok : startAnswer h l ≡ start.Pages n) whe
 
   whole-in : AllIn whole l
   unfolding whole
-  whole-in = covered h l n ok (below (pageCount l)) (λ p m. below-all (pageCount l) p (logged-below l (good h l n ok .log) p m))
+  whole-in = covered h l n ok (below (pageCount l)) h (within-self h l) (λ p m. below-all (pageCount l) p (logged-below l (good h l n ok .log) p m))
 
   whole-long : 4096 ≤ length whole
   whole-long = omega (arith, said h l n ok .long, whole-within .long)

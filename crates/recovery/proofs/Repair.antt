@@ -140,15 +140,17 @@ module _ (h l : List ℕ) (n : ℕ) (ok : startAnswer h l ≡ Pages n) where
           (subst (λ (x : ℕ). page (pageHive d l x) p ≡ logged l p) s (page-is h l n ok d w p m))
       go rest (inr k) = rest k
 
-  pub covered : (ps : List ℕ) → Covers l ps → AllIn (afterPages h l ps) l
-  covered ps c p m = pages-in ps h (within-self h l) p m (c p m)
+  -- page calls that cover the log, on any file that a repair can reach
+  pub covered : (ps d : List ℕ) → Within h l d → Covers l ps → AllIn (afterPages d l ps) l
+  covered ps d w c p m = pages-in ps d w p m (c p m)
 
   -- Theorem 2.
   pub repaired : (ps : List ℕ) → Covers l ps → Repaired h l ps
   repaired ps c =
       let w = pages-within ps h (within-self h l) in
+      let i = covered ps h (within-self h l) c in
       record {
         page-done = λ qs p m. page-done h l n ok (afterPages h l qs) (pages-within qs h (within-self h l)) p m;
-        close-done = all-close h l n ok (afterPages h l ps) w (covered ps c);
-        file = close-finishes (afterPages h l ps) w (covered ps c);
+        close-done = all-close h l n ok (afterPages h l ps) w i;
+        file = close-finishes (afterPages h l ps) w i;
       }
