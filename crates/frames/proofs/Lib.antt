@@ -1,2 +1,3 @@
 pub mod Rounds
 pub mod Units
+pub mod Holds

@@ -9,9 +9,10 @@ use recovery::Started;
 use tree::Checked;
 use tree::Report;
 ghost use mathlib.Core.Path.{_≡_};
-ghost use Prim.Native.Nat.{_≤_, _/_};
-ghost use mathlib.Core.Bool.{false};
-ghost use lib.ListN.{length, take};
+ghost use Prim.Native.Nat.{_≤_, _/_, min};
+ghost use mathlib.Core.Bool.{true, false};
+ghost use lib.ListN.{length, take, drop};
+ghost use Rattle.cells.specs.Survey.{mapLeft};
 ghost use Rattle.names.specs.Codes.{codes};
 ghost use Rattle.tree.specs.Tree.{checkAnswer};
 ghost use Rattle.lookup.specs.Answers.{findAnswer};
@@ -20,16 +21,21 @@ ghost use Rattle.old_log.specs.Layout.{pageCount};
 ghost use Rattle.old_log.specs.Tests.{logFault};
 ghost use Rattle.recovery.specs.Calls.{startAnswer};
 ghost use Rattle.recovery.specs.Finished.{asked, afterPages};
-ghost use Rattle.frames.specs.Frames.{framed, frameOf, checkedLine, repairedLine, repairedHive, foundLine};
+ghost use Rattle.frames.specs.Frames.{framed, frameOf, checkedLine, repairedLine, repairedHive, foundLine, someHive, heldIn, logLine, logHeld, pathLine, unitsLeft, lineOf, heldAfter, mapAfter, unitsAfter};
 
 // "payload up to 20,480 bytes"
 const PAYLOAD_MOST: u32 = 20480;
 
+// "kind (1 hive, 2 log, 3 path)"
+pub enum Kind {
+    Hive,
+    Log,
+    Path,
+}
+
 // A frame by its header: its kind, and how long its payload is.
 pub enum Frame {
-    Hive(usize),
-    Log(usize),
-    Path(usize),
+    Good { kind: Kind, len: usize },
     Bad,
 }
 
@@ -48,16 +54,25 @@ fn framed(kind: u16, n: usize) -> Frame
     ensures { λ r. ⌜ r ≡ framed kind n ⌝ }
 {
     if kind == 1 {
-        return Frame::Hive(n);
+        return Frame::Good {
+            kind: Kind::Hive,
+            len: n,
+        };
     }
     if kind == 2 {
-        return Frame::Log(n);
+        return Frame::Good {
+            kind: Kind::Log,
+            len: n,
+        };
     }
     if kind != 3 {
         return Frame::Bad;
     }
     if n % 2 == 0 {
-        return Frame::Path(n);
+        return Frame::Good {
+            kind: Kind::Path,
+            len: n,
+        };
     }
     Frame::Bad
 }
@@ -77,6 +92,7 @@ fn frame_of(head: &[u8]) -> Frame
 // The line of a hive frame.
 pub fn hive_line(hive: &[u8], map: &mut [u8]) -> Line
     ensures { λ r. ⌜ r ≡ checkedLine (checkAnswer (now (hive .entry)) (now (map .entry))) ⌝ }
+    ensures { λ _. ⌜ now (map .exit) ≡ mapLeft (now (hive .entry)) (now (map .entry)) ⌝ }
 {
     match tree::check(hive, map) {
         Checked::Accepted(report) => Line::Accepted(report),
@@ -128,10 +144,11 @@ fn log_line(hive: &mut [u8], log: &[u8]) -> Line
     }
 }
 
-// The UTF-16 units of a path frame's bytes.
+// The UTF-16 units of a path frame's bytes; the units past them stay.
 pub fn path_units(path: &[u8], units: &mut [u16])
     requires { ⌜ length (now path) / 2 ≤ length (now units) ⌝ }
     ensures { λ _. ⌜ take (length (now (path .entry)) / 2) (now (units .exit)) ≡ codes false (now (path .entry)) ⌝ }
+    ensures { λ _. ⌜ drop (length (now (path .entry)) / 2) (now (units .exit)) ≡ drop (length (now (path .entry)) / 2) (now (units .entry)) ⌝ }
 {
     let n = path.len() / 2;
     let mut i: usize = 0;
@@ -151,20 +168,99 @@ pub fn key_line(hive: &[u8], path: &[u16]) -> Line
     }
 }
 
+// The smaller of two numbers.
+pub fn least(a: usize, b: usize) -> usize
+    ensures { λ r. ⌜ (r ≤ a) × (r ≤ b) ⌝ }
+    ensures { λ r. ⌜ r ≡ min a b ⌝ }
+{
+    if a < b { a } else { b }
+}
+
+// What is held between frames: no hive yet, or the last hive frame's bytes as they then stand, so many from the start of the hive's room.
+pub enum Held {
+    Nothing,
+    Hive(usize),
+}
+
+// A frame's line, and what is held after it.
+pub struct Answer {
+    pub line: Line,
+    pub held: Held,
+}
+
+// A hive frame's bytes are held from then on, also where the check refuses them.
+fn hive_turn(hive: &mut [u8], payload: &[u8], map: &mut [u8]) -> Answer
+    requires { ⌜ length (now payload) ≤ length (now hive) ⌝ }
+    ensures { λ r. ⌜ r .line ≡ checkedLine (checkAnswer (now (payload .entry)) (now (map .entry))) ⌝ }
+    ensures { λ r. ⌜ heldIn (r .held) (now (hive .exit)) ≡ someHive (now (payload .entry)) ⌝ }
+    ensures { λ _. ⌜ now (map .exit) ≡ mapLeft (now (payload .entry)) (now (map .entry)) ⌝ }
+{
+    let n = payload.len();
+    fields::copy_all(payload, &mut hive[0..n]);
+    Answer {
+        line: hive_line(payload, map),
+        held: Held::Hive(n),
+    }
+}
+
+// "Before any hive, kinds 2 and 3 give `no hive`."
+fn log_turn(held: Held, hive: &mut [u8], log: &[u8]) -> Line
+    ensures { λ r. ⌜ r ≡ logLine (heldIn held (now (hive .entry))) (now (log .entry)) ⌝ }
+    ensures { λ _. ⌜ heldIn held (now (hive .exit)) ≡ logHeld (heldIn held (now (hive .entry))) (now (log .entry)) ⌝ }
+{
+    match held {
+        Held::Nothing => Line::NoHive,
+        Held::Hive(len) => {
+            let end = least(len, hive.len());
+            log_line(&mut hive[0..end], log)
+        }
+    }
+}
+
 // "Path, in that hive as it then stands: `key at N`."
-fn path_line(hive: &[u8], path: &[u8], units: &mut [u16]) -> Line
+fn path_turn(held: Held, hive: &[u8], path: &[u8], units: &mut [u16]) -> Line
     requires { ⌜ length (now path) / 2 ≤ length (now units) ⌝ }
-    ensures { λ r. ⌜ r ≡ foundLine (findAnswer (now (hive .entry)) (codes false (now (path .entry)))) ⌝ }
+    ensures { λ r. ⌜ r ≡ pathLine (heldIn held (now (hive .entry))) (now (path .entry)) ⌝ }
+    ensures { λ _. ⌜ now (units .exit) ≡ unitsLeft (now (path .entry)) (now (units .entry)) ⌝ }
 {
     path_units(path, units);
     let n = path.len() / 2;
-    key_line(hive, &units[0..n])
+    match held {
+        Held::Nothing => Line::NoHive,
+        Held::Hive(len) => {
+            let end = least(len, hive.len());
+            key_line(&hive[0..end], &units[0..n])
+        }
+    }
 }
 
-// The hive that later frames speak of: how long it is.
-enum Held {
-    Nothing,
-    Hive(usize),
+// The turn: what is held and a frame that was read give the frame's line and what is held after it.
+fn turned(
+    kind: Kind,
+    held: Held,
+    hive: &mut [u8],
+    payload: &[u8],
+    units: &mut [u16],
+    map: &mut [u8],
+) -> Answer
+    requires { ⌜ length (now payload) ≤ length (now hive) ⌝ }
+    requires { ⌜ length (now payload) / 2 ≤ length (now units) ⌝ }
+    ensures { λ r. ⌜ r .line ≡ lineOf (now (map .entry)) kind (heldIn held (now (hive .entry))) (now (payload .entry)) ⌝ }
+    ensures { λ r. ⌜ heldIn (r .held) (now (hive .exit)) ≡ heldAfter kind (heldIn held (now (hive .entry))) (now (payload .entry)) ⌝ }
+    ensures { λ _. ⌜ now (map .exit) ≡ mapAfter kind (now (payload .entry)) (now (map .entry)) ⌝ }
+    ensures { λ _. ⌜ now (units .exit) ≡ unitsAfter kind (now (payload .entry)) (now (units .entry)) ⌝ }
+{
+    match kind {
+        Kind::Hive => hive_turn(hive, payload, map),
+        Kind::Log => Answer {
+            line: log_turn(held, hive, payload),
+            held,
+        },
+        Kind::Path => Answer {
+            line: path_turn(held, hive, payload, units),
+            held,
+        },
+    }
 }
 
 enum Went {
@@ -172,14 +268,10 @@ enum Went {
     Ended,
 }
 
-pub fn least(a: usize, b: usize) -> usize
-    ensures { λ r. ⌜ (r ≤ a) × (r ≤ b) ⌝ }
-{
-    if a < b { a } else { b }
-}
-
 // Reads a payload; false where the input is cut. A longer payload than there is room for is no frame.
-pub fn payload(fd: i32, room: &mut [u8], n: usize) -> bool {
+pub fn payload(fd: i32, room: &mut [u8], n: usize) -> bool
+    ensures { λ r. ⌜ (r ≡ true → n ≤ length (now (room .exit))) ⌝ }
+{
     let end = least(n, room.len());
     io::read_full(fd, &mut room[0..end]) == n
 }
@@ -189,52 +281,29 @@ fn bad_frame() -> Went {
     Went::Ended
 }
 
-fn hive_frame(fd: i32, hive: &mut [u8], map: &mut [u8], n: usize) -> Went {
-    if !payload(fd, hive, n) {
-        return bad_frame();
-    }
-    let end = least(n, hive.len());
-    say::line(hive_line(&hive[0..end], map));
-    Went::On(Held::Hive(n))
-}
-
-fn log_frame(fd: i32, hive: &mut [u8], log: &mut [u8], held: Held, n: usize) -> Went {
-    if !payload(fd, log, n) {
-        return bad_frame();
-    }
-    match held {
-        Held::Nothing => say::line(Line::NoHive),
-        Held::Hive(len) => {
-            let hive_end = least(len, hive.len());
-            let log_end = least(n, log.len());
-            say::line(log_line(&mut hive[0..hive_end], &log[0..log_end]));
-        }
-    }
-    Went::On(held)
-}
-
-fn path_frame(
+// The payload of a frame whose header is good, and its line.
+fn good_frame(
     fd: i32,
-    hive: &[u8],
-    path: &mut [u8],
+    hive: &mut [u8],
+    room: &mut [u8],
     units: &mut [u16],
+    map: &mut [u8],
     held: Held,
-    n: usize,
+    kind: Kind,
+    len: usize,
 ) -> Went
-    requires { ⌜ length (now path) / 2 ≤ length (now units) ⌝ }
+    requires { ⌜ length (now room) ≤ length (now hive) ⌝ }
+    requires { ⌜ length (now room) / 2 ≤ length (now units) ⌝ }
 {
-    if !payload(fd, path, n) {
+    if !payload(fd, room, len) {
         return bad_frame();
     }
-    match held {
-        Held::Nothing => say::line(Line::NoHive),
-        Held::Hive(len) => {
-            let hive_end = least(len, hive.len());
-            let path_end = least(n, path.len());
-            say::line(path_line(&hive[0..hive_end], &path[0..path_end], units));
-        }
-    }
-    Went::On(held)
+    let end = least(len, room.len());
+    let answer = turned(kind, held, hive, &room[0..end], units, map);
+    let line = answer.line;
+    let after = answer.held;
+    say::line(line);
+    Went::On(after)
 }
 
 // One frame: "`bad frame`, before all else", then its line.
@@ -256,9 +325,7 @@ fn turn(
     }
     match frame_of(&head) {
         Frame::Bad => bad_frame(),
-        Frame::Hive(n) => hive_frame(fd, hive, map, n),
-        Frame::Log(n) => log_frame(fd, hive, room, held, n),
-        Frame::Path(n) => path_frame(fd, hive, room, units, held, n),
+        Frame::Good { kind, len } => good_frame(fd, hive, room, units, map, held, kind, len),
     }
 }
 

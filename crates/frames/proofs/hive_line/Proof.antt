@@ -17,13 +17,13 @@ same-length : tie.Need-same-length
 same-length c = search needs
 
 returns : tie.Need-returns
-returns c = sym (ap checkedLine (sym (c .before .before .before .before .before .check .ensures .0) ∙ c .before .report .given .1))
+returns c = (sym (ap checkedLine (sym (c .before .before .before .before .before .check .ensures .0) ∙ c .before .report .given .1)), c .before .before .before .before .before .check .ensures .1)
 
 same-length-2 : tie.Need-same-length-2
 same-length-2 c = search needs
 
 returns-2 : tie.Need-returns-2
-returns-2 c = sym (ap checkedLine (sym (c .before .before .before .before .before .check .ensures .0) ∙ c .before .r .given .1))
+returns-2 c = (sym (ap checkedLine (sym (c .before .before .before .before .before .check .ensures .0) ∙ c .before .r .given .1)), c .before .before .before .before .before .check .ensures .1)
 
 pub hive-line-spec : {M : Type 1} → statement M
 hive-line-spec =

@@ -1,0 +1,59 @@
+use Prim.Native.Nat.{ℕ}
+use mathlib.Core.Path.{ap, _∙_}
+use mathlib.Core.List.{List}
+use Rattle.recovery.specs.Calls.{startAnswer}
+use Rattle.frames.specs.Frames.{repairedLine, someHive}
+use Rattle.frames.proofs.Holds.{lent, repaired-back}
+use borrow.Author.Needs.{needs}
+use Rattle.frames.proofs.log_turn.Statement.{statement}
+use Rattle.frames.proofs.log_turn.Tie as tie
+
+enum-told : tie.Need-enum-told
+enum-told c = search needs
+
+enum-known-held : tie.Need-enum-known-held
+enum-known-held c = search needs
+
+least-requires : tie.Need-least-requires
+least-requires c κs = search needs
+
+sub-log-line : tie.Need-sub-log-line
+sub-log-line c = search needs
+
+part-log-line-start : tie.Need-part-log-line-start
+part-log-line-start c = search needs
+
+part-log-line-end : tie.Need-part-log-line-end
+part-log-line-end c = search needs
+
+log-line-requires : tie.Need-log-line-requires
+log-line-requires c κs = search needs
+
+returns : tie.Need-returns
+returns c = search needs
+
+same-length : tie.Need-same-length
+same-length c = search needs
+
+returns-2 : tie.Need-returns-2
+returns-2 c =
+    let a = c .before .before .before .before .before .before .before .before .before .before .args in
+    let l = a .log .now in
+    let q = c .before .before .before .before .least .ensures .1 in
+    rw (c .before .before .before .before .before .before .held .given .1)
+    (c .before .before .log-line .ensures .0 ∙ ap (λ (x : List ℕ). repairedLine (startAnswer x l)) (lent _ _ (a .hive .now) q), ap someHive (repaired-back _ _ (a .hive .now) l _ q (c .before .before .log-line .ensures .1)))
+
+pub log-turn-spec : {M : Type 1} → statement M
+log-turn-spec =
+    tie.close
+    (tie.spec
+    enum-told
+    enum-known-held
+    least-requires
+    sub-log-line
+    part-log-line-start
+    part-log-line-end
+    log-line-requires
+    returns
+    same-length
+    returns-2)
