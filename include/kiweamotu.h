@@ -13,21 +13,8 @@
  * - Nobody changes a buffer during the call. So read a file into memory; do not map one that others may write.
  * - 1 MiB of free stack.
  *
- * A place in a refusal is an offset in the bins data: the byte 4096 + place of the file. The numbers:
- *    1 hive under 4096 bytes                    15 level over 512
- *    2 no "regf"                                16 path: empty part, part over 255 units, over 512 parts
- *    3 checksum                                 17 no such key
- *    4 version, type, format, clustering        18 no such value
- *    5 bins size field                          19 view asked of segmented data
- *    6 hive ends before the bins do             20 output too short
- *    7 sequence numbers differ                  21 log's base block, or its sequence numbers differ
- *    8 work map too small                       22 log too short for bitmap or pages
- *    9 bin header                               23 no "DIRT"
- *   10 cell size                                24 hive shorter than 4096 + the log's bins size
- *   11 offset names no cell in use              25 stamps differ
- *   12 wrong signature, length, count or name   26 page not marked dirty, or past the bitmap
- *   13 order of names, or lh hash               27 closing, but a logged page is not in yet
- *   14 parent, root listed, total count
+ * A refusal is a number, one of enum HiveFault, and a place. For 9 to 15 and 19 the place is an offset in the bins data: the
+ * byte 4096 + place of the file. Any other number has no place, and then place is 0.
  */
 #ifndef KIWEAMOTU_H
 #define KIWEAMOTU_H
@@ -44,7 +31,57 @@ extern "C" {
 
 HIVE_ASSERT(sizeof(size_t) == 8); /* x86-64 only */
 
-/* Part of every answer. number: 0, or the refusal's number. place: the refusal's place. key: 0xFFFFFFFF, always, in this
+/* The refusals. */
+enum HiveFault {
+    HIVE_FAULT_HIVE_SHORT = 1, /* hive under 4096 bytes */
+    HIVE_FAULT_NO_REGF = 2, /* no "regf" */
+    HIVE_FAULT_CHECKSUM = 3, /* checksum */
+    HIVE_FAULT_VERSION = 4, /* version, type, format, clustering */
+    HIVE_FAULT_BINS_SIZE = 5, /* bins size field */
+    HIVE_FAULT_BINS_CUT = 6, /* hive ends before the bins do */
+    HIVE_FAULT_SEQUENCES = 7, /* sequence numbers differ */
+    HIVE_FAULT_MAP_SMALL = 8, /* work map too small */
+    HIVE_FAULT_BIN_HEADER = 9, /* bin header */
+    HIVE_FAULT_CELL_SIZE = 10, /* cell size */
+    HIVE_FAULT_NO_CELL = 11, /* offset names no cell in use */
+    HIVE_FAULT_RECORD = 12, /* wrong signature, length, count or name */
+    HIVE_FAULT_ORDER = 13, /* order of names, or `lh` hash */
+    HIVE_FAULT_PARENT = 14, /* parent, root listed, total count */
+    HIVE_FAULT_LEVEL = 15, /* level over 512 */
+    HIVE_FAULT_PATH_PARTS = 16, /* path: empty part, part over 255 units, over 512 parts */
+    HIVE_FAULT_NO_KEY = 17, /* no such key */
+    HIVE_FAULT_NO_VALUE = 18, /* no such value */
+    HIVE_FAULT_SEGMENTED = 19, /* view asked of segmented data */
+    HIVE_FAULT_OUTPUT_SHORT = 20, /* output too short */
+    HIVE_FAULT_LOG_BASE = 21, /* log under 512 bytes, its base block not usable (type 1 or 2), or its sequence numbers differ */
+    HIVE_FAULT_LOG_SHORT = 22, /* log too short for bitmap or pages */
+    HIVE_FAULT_NO_DIRT = 23, /* no "DIRT" */
+    HIVE_FAULT_HIVE_CUT = 24, /* hive shorter than 4096 + the log's bins size */
+    HIVE_FAULT_STAMPS = 25, /* stamps differ */
+    HIVE_FAULT_NOT_DIRTY = 26, /* page not marked dirty, or past the bitmap */
+    HIVE_FAULT_NOT_IN = 27, /* closing, but a logged page is not in yet */
+};
+
+/* The states: of an answer that goes on or ends, and of a step of the repair. */
+enum {
+    HIVE_REFUSED = 0,
+    HIVE_NO_MORE = 1,
+    HIVE_THERE = 2,
+    HIVE_CLEAN = 1,
+    HIVE_DONE = 2,
+};
+
+/* The forms of a value's data. */
+enum {
+    HIVE_INLINE = 1,
+    HIVE_ONE_CELL = 2,
+    HIVE_SEGMENTS = 3,
+};
+
+/* No key is named: no cell lies there. */
+#define HIVE_NO_KEY 0xffffffffu
+
+/* Part of every answer. number: 0, or the refusal's number. place: the refusal's place. key: HIVE_NO_KEY, always, in this
  * version; a later one may name the key under examination. value: the offset of the key or value that hive_find_key,
  * hive_nth_subkey or hive_nth_value found, else 0.
  * Where number is not 0, every other field of the answer but place and key is 0.
@@ -80,8 +117,8 @@ HIVE_ASSERT(offsetof(HiveReport, used) == 40);
 HIVE_ASSERT(offsetof(HiveReport, free) == 48);
 HIVE_ASSERT(sizeof(HiveReport) == 56);
 
-/* A value. kind: its registry type (1 REG_SZ, 3 REG_BINARY, 4 REG_DWORD ..). form: 1 inline in the record, 2 in one cell,
- * 3 in segments. at: the place in the file where its data lie, so hive + at in memory (in segments: where the db record lies).
+/* A value. kind: its registry type (1 REG_SZ, 3 REG_BINARY, 4 REG_DWORD ..). form: HIVE_INLINE in the record, HIVE_ONE_CELL or
+ * HIVE_SEGMENTS. at: the place in the file where its data lie, so hive + at in memory (in segments: where the db record lies).
  * length: how many bytes the data have. Data of length 0 that are not inline have at 0.
  */
 typedef struct {
@@ -107,7 +144,7 @@ HIVE_ASSERT(offsetof(HiveCopy, answer) == 0);
 HIVE_ASSERT(offsetof(HiveCopy, length) == 16);
 HIVE_ASSERT(sizeof(HiveCopy) == 24);
 
-/* A subkey or a value of a key. state: 0 refused, 1 no more, 2 there; then answer.value is its offset. name: the place in the
+/* A subkey or a value of a key. state: HIVE_REFUSED, HIVE_NO_MORE or HIVE_THERE; then answer.value is its offset. name: the place in the
  * file where its name stands, so hive + name in memory. length: how many bytes the name has; all of them lie in the hive,
  * whatever it holds. narrow: 1 where each byte is a character, 0 where the name is UTF-16LE.
  */
@@ -125,7 +162,7 @@ HIVE_ASSERT(offsetof(HiveMember, length) == 32);
 HIVE_ASSERT(offsetof(HiveMember, narrow) == 40);
 HIVE_ASSERT(sizeof(HiveMember) == 48);
 
-/* An answer of recovery. state: 0 refused, 1 the hive is clean and nothing was changed, 2 accepted or done.
+/* An answer of recovery. state: HIVE_REFUSED; HIVE_CLEAN: nothing is to be done and nothing was changed; HIVE_DONE: accepted or done.
  * pages: the number of pages that the log holds, where hive_recover_start accepts it, else 0.
  */
 typedef struct {
@@ -138,7 +175,7 @@ HIVE_ASSERT(offsetof(HiveRecovery, state) == 16);
 HIVE_ASSERT(offsetof(HiveRecovery, pages) == 24);
 HIVE_ASSERT(sizeof(HiveRecovery) == 32);
 
-/* A page of a log. state: 0 refused, 1 no more pages, 2 a page. page: its number. from: where its 512 bytes lie in the log.
+/* A page of a log. state: HIVE_REFUSED, HIVE_NO_MORE or HIVE_THERE. page: its number. from: where its 512 bytes lie in the log.
  * to: where they go in the hive. Both are places in the file.
  */
 typedef struct {
@@ -189,8 +226,9 @@ HiveValue hive_value_view(const uint8_t *hive, size_t hive_len, const uint16_t *
  */
 HiveCopy hive_value_copy(const uint8_t *hive, size_t hive_len, const uint16_t *path, size_t path_len, const uint16_t *name, size_t name_len, uint8_t *out, size_t out_len);
 
-/* Subkey n, from 0 on, of the key at an offset, in the order of its lists. Start with 0, and go on with n + 1 until state 1. A
- * hive that the check refuses can be asked too, and any offset. Refuses 1 to 7, then 11 and 12 of the records on the way.
+/* Subkey n, from 0 on, of the key at an offset, in the order of its lists. Start with 0, and go on with n + 1 until
+ * HIVE_NO_MORE. A hive that the check refuses can be asked too, and any offset. Refuses 1 to 7, then 11 and 12 of the records on
+ * the way.
  */
 HiveMember hive_nth_subkey(const uint8_t *hive, size_t hive_len, uint32_t key, size_t n);
 
@@ -204,29 +242,32 @@ HiveMember hive_nth_value(const uint8_t *hive, size_t hive_len, uint32_t key, si
  */
 HiveValue hive_value_at(const uint8_t *hive, size_t hive_len, uint32_t value);
 
-/* Whether an old-format log (file type 1 or 2) repairs this hive. A hive that needs no repair answers state 1, whatever the
- * log. Refuses 1, 21, 22, 23, 22, 24, 25, in this order.
+/* Whether an old-format log (file type 1 or 2) repairs this hive. A hive that needs no repair answers HIVE_CLEAN, whatever
+ * the log. Refuses 1, 21, 22, 23, 22, 24, 25, in this order.
  *
  * A repair: start; for each page of hive_recover_next call hive_recover_page and store those 512 bytes in the file; wait until
  * they are on the disk; hive_recover_close; store the first 512 bytes; wait again. After a power failure, or in doubt, do all
  * of it again with the file as it is: the outcome is the same file, byte for byte.
+ *
+ * In all calls of the repair the hive is private memory, never a shared mapping of the file: hive_recover_close writes the first
+ * sector in two steps, and the file must see them as one.
  */
 HiveRecovery hive_recover_start(const uint8_t *hive, size_t hive_len, const uint8_t *log, size_t log_len);
 
 /* Installs the logged page of that number in the hive in memory: 512 bytes at 4096 + 512 x page become the log's, and no other
- * byte changes. State 2 where it did. Makes all tests of hive_recover_start first and refuses as it does, then 26. A refusal,
- * and state 1, leave the hive as it was.
+ * byte changes. HIVE_DONE where it did. Makes all tests of hive_recover_start first and refuses as it does, then 26. A refusal,
+ * and HIVE_CLEAN, leave the hive as it was.
  */
 HiveRecovery hive_recover_page(uint8_t *hive, size_t hive_len, const uint8_t *log, size_t log_len, size_t page);
 
 /* Writes the closing sector to the first 512 bytes of the hive in memory, once every logged page is in: the log's first 512
  * bytes with file type 0 and a new checksum. No other byte changes. Makes all tests of hive_recover_start first and refuses as
- * it does, then 27. A refusal, and state 1, leave the hive as it was. Store these bytes only when all pages are on the disk.
+ * it does, then 27. A refusal, and HIVE_CLEAN, leave the hive as it was. Store these bytes only when all pages are on the disk.
  */
 HiveRecovery hive_recover_close(uint8_t *hive, size_t hive_len, const uint8_t *log, size_t log_len);
 
 /* The least page that the log holds, at or after a number. Refuses 21, 22, 23, 22, in this order. Start with 0, and go on with
- * page + 1 until state 1.
+ * page + 1 until HIVE_NO_MORE.
  */
 HivePage hive_recover_next(const uint8_t *log, size_t log_len, size_t from);
 

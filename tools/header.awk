@@ -1,6 +1,6 @@
-# Prints the C header of what a crate exports: awk -f tools/header.awk crates/hive_c/src/lib.rt >include/kiweamotu.h
-# Comments at the top of the file, above a #[repr(C)] struct and above a #[no_mangle] function become C comments. The layout that the
-# C rules give each struct is asserted.
+# Prints the C header of what a crate exports: awk -f tools/header.awk crates/fields/src/lib.rt crates/hive_c/src/lib.rt >include/kiweamotu.h
+# Of the first file the faults are read, and their numbers. Of the second, comments at the top of the file, above a block of constants, above a
+# #[repr(C)] struct and above a #[no_mangle] function become C comments. The layout that the C rules give each struct is asserted.
 function trim(s) { gsub(/^[ \t]+|[ \t]+$/, "", s); return s }
 function number(t) {
     if (t == "usize") return "size_t"
@@ -53,12 +53,35 @@ function signature(s,   name, res, args, d, cur, out, k, ch) {
     }
     printf "%s %s(%s);\n", res, name, out == "" ? "void" : out
 }
+# TwoWords as TWO_WORDS
+function upper(s) { gsub(/[A-Z]/, "_&", s); return toupper(substr(s, 2)) }
+function faults(   k) {
+    print "\n/* The refusals. */\nenum HiveFault {"
+    for (k = 1; k <= fault_count; k++) printf "    HIVE_FAULT_%s = %d, /* %s */\n", upper(fault[k]), k, meaning[fault[k]]
+    print "};"
+}
+function enum_ends() { if (block) print "};"; block = 0 }
+# One constant. Those below one comment become one enum, if an int holds them.
+function constant(s,   name, n) {
+    if (lines > 0) enum_ends()
+    name = s; sub(/^const /, "", name); sub(/:.*/, "", name); n = s; sub(/^.*= /, "", n); gsub(/[;_]/, "", n)
+    if (n ~ /^0x/) { print ""; comment(); printf "#define HIVE_%s %su\n", name, n; return }
+    if (!block) { print ""; comment(); print "enum {" }
+    block = 1; printf "    HIVE_%s = %s,\n", name, n
+}
+FNR == NR && /^    \/\/ [0-9]+: / { said = $0; sub(/^[^:]*: /, "", said) }
+FNR == NR && /^    [A-Za-z]+,$/ && said != "" { x = $1; sub(/,/, "", x); meaning[x] = said; said = "" }
+FNR == NR && /^ *Fault::[A-Za-z]+ => [0-9]+,$/ { x = $1; sub(/^Fault::/, "", x); fault[$3 + 0] = x; if ($3 + 0 > fault_count) fault_count = $3 + 0 }
+FNR == NR { next }
 /^\/\// { x = $0; sub(/^\/\/ ?/, "", x); text[++lines] = x; next }
 !begun {
     begun = 1; comment(); lines = 0
     print "#ifndef KIWEAMOTU_H\n#define KIWEAMOTU_H\n\n#include <stddef.h>\n#include <stdint.h>\n\n#ifdef __cplusplus\n#define HIVE_ASSERT(x) static_assert(x, #x)\nextern \"C\" {\n#else\n#define HIVE_ASSERT(x) _Static_assert(x, #x)\n#endif\n"
     print "HIVE_ASSERT(sizeof(size_t) == 8); /* x86-64 only */"
+    faults()
 }
+/^const / { constant($0) }
+!/^const / && NF > 0 { enum_ends() }
 /^#\[repr\(C\)\]/ { repr = 1; next }
 repr && /^pub struct/ { struct = $3; body = ""; inside = 1; print ""; comment() }
 inside {

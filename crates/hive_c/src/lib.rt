@@ -13,21 +13,8 @@
 // - Nobody changes a buffer during the call. So read a file into memory; do not map one that others may write.
 // - 1 MiB of free stack.
 //
-// A place in a refusal is an offset in the bins data: the byte 4096 + place of the file. The numbers:
-//    1 hive under 4096 bytes                    15 level over 512
-//    2 no "regf"                                16 path: empty part, part over 255 units, over 512 parts
-//    3 checksum                                 17 no such key
-//    4 version, type, format, clustering        18 no such value
-//    5 bins size field                          19 view asked of segmented data
-//    6 hive ends before the bins do             20 output too short
-//    7 sequence numbers differ                  21 log's base block, or its sequence numbers differ
-//    8 work map too small                       22 log too short for bitmap or pages
-//    9 bin header                               23 no "DIRT"
-//   10 cell size                                24 hive shorter than 4096 + the log's bins size
-//   11 offset names no cell in use              25 stamps differ
-//   12 wrong signature, length, count or name   26 page not marked dirty, or past the bitmap
-//   13 order of names, or lh hash               27 closing, but a logged page is not in yet
-//   14 parent, root listed, total count
+// A refusal is a number, one of enum HiveFault, and a place. For 9 to 15 and 19 the place is an offset in the bins data: the
+// byte 4096 + place of the file. Any other number has no place, and then place is 0.
 use fields::Offset;
 use fields::Refusal;
 use listing::Entry;
@@ -50,7 +37,28 @@ ghost use Rattle.listing.specs.Members.{subkeyAnswer, valueAnswer, infoAnswer a
 ghost use Rattle.recovery.specs.Calls.{startAnswer, pageAnswer, pageHive, closeAnswer, closeHive, nextAnswer};
 ghost use Rattle.hive_c.specs.Flat.{granted as grantedOf, refused as refusedOf, reportIn, keyIn, formOf, valueIn, copyIn, narrowIn, memberIn, startIn, stepIn, pageIn};
 
-// Part of every answer. number: 0, or the refusal's number. place: the refusal's place. key: 0xFFFFFFFF, always, in this
+// The states: of an answer that goes on or ends, and of a step of the repair.
+const REFUSED: u64 = 0;
+
+const NO_MORE: u64 = 1;
+
+const THERE: u64 = 2;
+
+const CLEAN: u64 = 1;
+
+const DONE: u64 = 2;
+
+// The forms of a value's data.
+const INLINE: u32 = 1;
+
+const ONE_CELL: u32 = 2;
+
+const SEGMENTS: u32 = 3;
+
+// No key is named: no cell lies there.
+const NO_KEY: u32 = 0xffff_ffff;
+
+// Part of every answer. number: 0, or the refusal's number. place: the refusal's place. key: HIVE_NO_KEY, always, in this
 // version; a later one may name the key under examination. value: the offset of the key or value that hive_find_key,
 // hive_nth_subkey or hive_nth_value found, else 0.
 // Where number is not 0, every other field of the answer but place and key is 0.
@@ -74,8 +82,8 @@ pub struct HiveReport {
     pub free: u64,
 }
 
-// A value. kind: its registry type (1 REG_SZ, 3 REG_BINARY, 4 REG_DWORD ..). form: 1 inline in the record, 2 in one cell,
-// 3 in segments. at: the place in the file where its data lie, so hive + at in memory (in segments: where the db record lies).
+// A value. kind: its registry type (1 REG_SZ, 3 REG_BINARY, 4 REG_DWORD ..). form: HIVE_INLINE in the record, HIVE_ONE_CELL or
+// HIVE_SEGMENTS. at: the place in the file where its data lie, so hive + at in memory (in segments: where the db record lies).
 // length: how many bytes the data have. Data of length 0 that are not inline have at 0.
 #[repr(C)]
 pub struct HiveValue {
@@ -93,7 +101,7 @@ pub struct HiveCopy {
     pub length: u64,
 }
 
-// A subkey or a value of a key. state: 0 refused, 1 no more, 2 there; then answer.value is its offset. name: the place in the
+// A subkey or a value of a key. state: HIVE_REFUSED, HIVE_NO_MORE or HIVE_THERE; then answer.value is its offset. name: the place in the
 // file where its name stands, so hive + name in memory. length: how many bytes the name has; all of them lie in the hive,
 // whatever it holds. narrow: 1 where each byte is a character, 0 where the name is UTF-16LE.
 #[repr(C)]
@@ -105,7 +113,7 @@ pub struct HiveMember {
     pub narrow: u64,
 }
 
-// An answer of recovery. state: 0 refused, 1 the hive is clean and nothing was changed, 2 accepted or done.
+// An answer of recovery. state: HIVE_REFUSED; HIVE_CLEAN: nothing is to be done and nothing was changed; HIVE_DONE: accepted or done.
 // pages: the number of pages that the log holds, where hive_recover_start accepts it, else 0.
 #[repr(C)]
 pub struct HiveRecovery {
@@ -114,7 +122,7 @@ pub struct HiveRecovery {
     pub pages: u64,
 }
 
-// A page of a log. state: 0 refused, 1 no more pages, 2 a page. page: its number. from: where its 512 bytes lie in the log.
+// A page of a log. state: HIVE_REFUSED, HIVE_NO_MORE or HIVE_THERE. page: its number. from: where its 512 bytes lie in the log.
 // to: where they go in the hive. Both are places in the file.
 #[repr(C)]
 pub struct HivePage {
@@ -124,8 +132,6 @@ pub struct HivePage {
     pub from: u64,
     pub to: u64,
 }
-
-const NO_KEY: u32 = 0xffff_ffff;
 
 // No refusal.
 fn granted(value: u32) -> HiveAnswer
@@ -221,9 +227,9 @@ fn form_of(d: ValueData) -> u32
     ensures { λ r. ⌜ r ≡ formOf d ⌝ }
 {
     match d {
-        ValueData::Inline { at: _, len: _ } => 1,
-        ValueData::OneCell { cell: _, len: _ } => 2,
-        ValueData::Segments { cell: _, len: _ } => 3,
+        ValueData::Inline { at: _, len: _ } => INLINE,
+        ValueData::OneCell { cell: _, len: _ } => ONE_CELL,
+        ValueData::Segments { cell: _, len: _ } => SEGMENTS,
     }
 }
 
@@ -315,7 +321,7 @@ fn member_facts(e: Entry) -> HiveMember
 {
     HiveMember {
         answer: granted(e.at.0),
-        state: 2,
+        state: THERE,
         name: e.name.0 as u64,
         length: e.len as u64,
         narrow: narrow_of(e.narrow),
@@ -329,14 +335,14 @@ fn member(m: Member) -> HiveMember
         Member::At(e) => member_facts(e),
         Member::NoMore => HiveMember {
             answer: granted(0),
-            state: 1,
+            state: NO_MORE,
             name: 0,
             length: 0,
             narrow: 0,
         },
         Member::Refused(f) => HiveMember {
             answer: refused(f),
-            state: 0,
+            state: REFUSED,
             name: 0,
             length: 0,
             narrow: 0,
@@ -344,8 +350,9 @@ fn member(m: Member) -> HiveMember
     }
 }
 
-// Subkey n, from 0 on, of the key at an offset, in the order of its lists. Start with 0, and go on with n + 1 until state 1. A
-// hive that the check refuses can be asked too, and any offset. Refuses 1 to 7, then 11 and 12 of the records on the way.
+// Subkey n, from 0 on, of the key at an offset, in the order of its lists. Start with 0, and go on with n + 1 until
+// HIVE_NO_MORE. A hive that the check refuses can be asked too, and any offset. Refuses 1 to 7, then 11 and 12 of the records on
+// the way.
 #[no_mangle]
 pub extern "C" fn hive_nth_subkey(hive: &[u8], key: u32, n: usize) -> HiveMember
     ensures { λ r. ⌜ r ≡ memberIn (subkeyAnswer (now (hive .entry)) (record { 0 = key }) n) ⌝ }
@@ -377,28 +384,31 @@ fn started(s: Started) -> HiveRecovery
     match s {
         Started::Clean => HiveRecovery {
             answer: granted(0),
-            state: 1,
+            state: CLEAN,
             pages: 0,
         },
         Started::Pages(n) => HiveRecovery {
             answer: granted(0),
-            state: 2,
+            state: DONE,
             pages: n as u64,
         },
         Started::Refused(f) => HiveRecovery {
             answer: refused(f),
-            state: 0,
+            state: REFUSED,
             pages: 0,
         },
     }
 }
 
-// Whether an old-format log (file type 1 or 2) repairs this hive. A hive that needs no repair answers state 1, whatever the
-// log. Refuses 1, 21, 22, 23, 22, 24, 25, in this order.
+// Whether an old-format log (file type 1 or 2) repairs this hive. A hive that needs no repair answers HIVE_CLEAN, whatever
+// the log. Refuses 1, 21, 22, 23, 22, 24, 25, in this order.
 //
 // A repair: start; for each page of hive_recover_next call hive_recover_page and store those 512 bytes in the file; wait until
 // they are on the disk; hive_recover_close; store the first 512 bytes; wait again. After a power failure, or in doubt, do all
 // of it again with the file as it is: the outcome is the same file, byte for byte.
+//
+// In all calls of the repair the hive is private memory, never a shared mapping of the file: hive_recover_close writes the first
+// sector in two steps, and the file must see them as one.
 #[no_mangle]
 pub extern "C" fn hive_recover_start(hive: &[u8], log: &[u8]) -> HiveRecovery
     ensures { λ r. ⌜ r ≡ startIn (startAnswer (now (hive .entry)) (now (log .entry))) ⌝ }
@@ -412,25 +422,25 @@ fn stepped(s: Stepped) -> HiveRecovery
     match s {
         Stepped::Clean => HiveRecovery {
             answer: granted(0),
-            state: 1,
+            state: CLEAN,
             pages: 0,
         },
         Stepped::Done => HiveRecovery {
             answer: granted(0),
-            state: 2,
+            state: DONE,
             pages: 0,
         },
         Stepped::Refused(f) => HiveRecovery {
             answer: refused(f),
-            state: 0,
+            state: REFUSED,
             pages: 0,
         },
     }
 }
 
 // Installs the logged page of that number in the hive in memory: 512 bytes at 4096 + 512 x page become the log's, and no other
-// byte changes. State 2 where it did. Makes all tests of hive_recover_start first and refuses as it does, then 26. A refusal,
-// and state 1, leave the hive as it was.
+// byte changes. HIVE_DONE where it did. Makes all tests of hive_recover_start first and refuses as it does, then 26. A refusal,
+// and HIVE_CLEAN, leave the hive as it was.
 #[no_mangle]
 pub extern "C" fn hive_recover_page(hive: &mut [u8], log: &[u8], page: usize) -> HiveRecovery
     ensures { λ r. ⌜ r ≡ stepIn (pageAnswer (now (hive .entry)) (now (log .entry)) page) ⌝ }
@@ -441,7 +451,7 @@ pub extern "C" fn hive_recover_page(hive: &mut [u8], log: &[u8], page: usize) ->
 
 // Writes the closing sector to the first 512 bytes of the hive in memory, once every logged page is in: the log's first 512
 // bytes with file type 0 and a new checksum. No other byte changes. Makes all tests of hive_recover_start first and refuses as
-// it does, then 27. A refusal, and state 1, leave the hive as it was. Store these bytes only when all pages are on the disk.
+// it does, then 27. A refusal, and HIVE_CLEAN, leave the hive as it was. Store these bytes only when all pages are on the disk.
 #[no_mangle]
 pub extern "C" fn hive_recover_close(hive: &mut [u8], log: &[u8]) -> HiveRecovery
     ensures { λ r. ⌜ r ≡ stepIn (closeAnswer (now (hive .entry)) (now (log .entry))) ⌝ }
@@ -456,21 +466,21 @@ fn next(n: NextPage) -> HivePage
     match n {
         NextPage::At { page, from, to } => HivePage {
             answer: granted(0),
-            state: 2,
+            state: THERE,
             page: page as u64,
             from: from.0 as u64,
             to: to.0 as u64,
         },
         NextPage::NoMore => HivePage {
             answer: granted(0),
-            state: 1,
+            state: NO_MORE,
             page: 0,
             from: 0,
             to: 0,
         },
         NextPage::Refused(f) => HivePage {
             answer: refused(f),
-            state: 0,
+            state: REFUSED,
             page: 0,
             from: 0,
             to: 0,
@@ -479,7 +489,7 @@ fn next(n: NextPage) -> HivePage
 }
 
 // The least page that the log holds, at or after a number. Refuses 21, 22, 23, 22, in this order. Start with 0, and go on with
-// page + 1 until state 1.
+// page + 1 until HIVE_NO_MORE.
 #[no_mangle]
 pub extern "C" fn hive_recover_next(log: &[u8], from: usize) -> HivePage
     ensures { λ r. ⌜ r ≡ pageIn (nextAnswer (now (log .entry)) from) ⌝ }
