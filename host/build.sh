@@ -6,31 +6,55 @@ emulator=$tools/bin/qemu-x86_64
 [ -x "$emulator" ] || emulator='' # an x86-64 machine has none and needs none
 out=$top/target/host
 library=$top/target/staticlib/libhive_c.a
+tool_parts=$(cd "$top/host" && for part in *.c; do echo "${part%.c}.o"; done)
 
 # compile SOURCE OBJECT
 compile() {
-    "$tools/bin/clang" --target=x86_64-unknown-linux-gnu -isystem "$top/host/kit" -std=c11 -O2 -Wall -Wextra -Werror -fPIE -c "$1" -o "$2"
+    "$tools/bin/clang" --target=x86_64-unknown-linux-gnu -isystem "$top/host/kit" -I "$out" -std=c11 -O2 -Wall -Wextra -Werror -fPIE -c "$1" -o "$2"
 }
 
-# link PROGRAM OBJECT..
+# link PROGRAM OBJECT.., all of them in $out
 link() {
     program=$1
     shift
-    "$kit/on/$machine/bin/rattle-link" --target x86_64-unknown-linux-gnu --toolchain "$tools" -o "$program" "$@" "$library" >>"$out/log" 2>&1 ||
+    (cd "$out" && "$kit/on/$machine/bin/rattle-link" --target x86_64-unknown-linux-gnu --toolchain "$tools" -o "$program" "$@" "$library") >>"$out/log" 2>&1 ||
         { cat "$out/log" >&2; return 1; }
+}
+
+# become PROGRAM WORD..: this process is the program from here on, so that a signal reaches it
+become() {
+    exec ${emulator:+"$emulator"} "$tools/lib/ld-linux-x86-64.so.2" --library-path "$tools/lib" "$@"
 }
 
 # run PROGRAM WORD..
 run() {
-    ${emulator:+"$emulator"} "$tools/lib/ld-linux-x86-64.so.2" --library-path "$tools/lib" "$@"
+    (become "$@")
+}
+
+# The crates that a crate is built of, itself too.
+crates_of() {
+    awk -v top="$1" '/^[a-z_]+:/ { name = $1; sub(/:/, "", name); uses[name] = $0 }
+        function visit(c,   n, w, k) { if (seen[c]++ || !(c in uses)) return; print c; n = split(uses[c], w, " "); for (k = 2; k <= n; k++) visit(w[k]) }
+        END { visit(top) }' "$top/crates.txt"
+}
+
+# What the prover says goes to a file. Each crate that is proved is told, with how many there are.
+prove() {
+    of=$(crates_of hive_c | wc -l) n=0
+    echo "hive: proving and building the library, $of crates; the first time this takes some minutes" >&2
+    { (cd "$top" && rt staticlib hive_c) 2>&1 && echo 'rt: done'; } | tee "$out/proof" | while read -r word crate verdict rest; do
+        [ "$word $verdict" = 'rt: proved' ] || continue
+        n=$((n + 1))
+        echo "hive: $crate is proved ($n of $of)" >&2
+    done
+    [ "$(tail -n 1 "$out/proof")" = 'rt: done' ] || { cat "$out/proof" >&2; return 1; }
 }
 
 # The archive is proved and made where a source is newer, and then the tool.
 build_library() {
     mkdir -p "$out"
     if [ ! -f "$library" ] || [ -n "$(find "$top/crates" "$top/crates.txt" -newer "$library" -type f | head -n 1)" ]; then
-        echo 'hive: proving and building the library; the first time this takes some minutes' >&2
-        (cd "$top" && rt staticlib hive_c) >"$out/proof" 2>&1 || { cat "$out/proof" >&2; return 1; }
+        prove || return 1
         touch "$library"
     fi
 }
@@ -38,9 +62,10 @@ build_library() {
 build_tool() {
     if [ ! -x "$out/hive" ] || [ "$library" -nt "$out/hive" ] || [ -n "$(find "$top/host" "$top/include" -newer "$out/hive" -type f | head -n 1)" ]; then
         : >"$out/log"
-        for part in main files text explain list repair; do
-            compile "$top/host/$part.c" "$out/$part.o" || return 1
+        sed 's/[\\"]/\\&/g; s/.*/"&\\n"/' "$top/host/help.txt" >"$out/help.h"
+        for part in $tool_parts; do
+            compile "$top/host/${part%.o}.c" "$out/$part" || return 1
         done
-        link "$out/hive.new" "$out/main.o" "$out/files.o" "$out/text.o" "$out/explain.o" "$out/list.o" "$out/repair.o" && mv "$out/hive.new" "$out/hive"
+        link hive.new $tool_parts && mv "$out/hive.new" "$out/hive"
     fi
 }

@@ -5,11 +5,12 @@
 #include <stdbool.h>
 #include <stddef.h>
 #include <stdint.h>
+#include <stdio.h>
 
 #include "../include/kiweamotu.h"
 
-/* Exit statuses. */
-enum { GOOD = 0, REFUSED = 1, TROUBLE = 2 };
+/* Exit statuses. UNSOUND: repaired, or it would be, but the check refuses what comes out. */
+enum { GOOD = 0, REFUSED = 1, TROUBLE = 2, UNSOUND = 3 };
 
 typedef struct {
     uint8_t *at;
@@ -21,30 +22,102 @@ typedef struct {
     size_t length;
 } Units;
 
-/* files.c. Those that answer an int answer GOOD or TROUBLE, after a message on standard error. */
-int trouble(const char *format, ...) __attribute__((format(printf, 1, 2)));
+/* A name in a hive, or a piece of text: one byte to a character, or UTF-16LE. */
+typedef struct {
+    const uint8_t *at;
+    size_t length;
+    bool narrow;
+} Name;
+
+enum Style { VALUE_NAME, KEY_NAME };
+
+/* The command line: a verb's words, and the options that it takes. */
+typedef struct {
+    char **words;
+    int count;
+    const char *log, *backup;
+    bool json, dry, anyway;
+} Order;
+
+/* A hive in memory, and the log that was given with it; log is NULL where none was. */
+typedef struct {
+    const char *file, *log;
+    Bytes bytes, logged;
+} Hive;
+
+/* A path as it was given, and its units. */
+typedef struct {
+    const char *text;
+    Units units;
+} Path;
+
+/* order.c */
+typedef int Verb(const Order *);
+int read_order(int count, char **words, Order *out, Verb **verb);
+
+/* The verbs. */
+Verb check_verb, key_verb, list_verb, value_verb, repair_verb, explain_verb;
+
+/* say.c: answers on standard output, as a line or as a JSON object; messages on standard error. Those that answer an int answer TROUBLE. */
+void say_as(bool json, bool many);
+bool say_json(void);
+void say(const char *file, const char *answer);
+void say_number(const char *label, uint64_t n);
+void say_bare(const char *label, uint64_t n);
+void say_only(const char *label, uint64_t n);
+void say_word(const char *label, const char *word);
+void say_name(Name name, enum Style style);
+void say_end(void);
+void put_json_name(FILE *to, Name name);
+int trouble(const char *file, const char *format, ...) __attribute__((format(printf, 2, 3)));
+int misused(const char *format, ...) __attribute__((format(printf, 1, 2)));
+void note(const char *file, const char *words);
+
+/* names.c: the notation of names. */
+bool is_hidden(uint32_t code);
+uint32_t next_code(Name name, size_t *i);
+size_t unit_count(Name name);
+uint32_t unit_at(Name name, size_t i);
+long decode(const char **text);
+void put_utf8(FILE *to, uint32_t code);
+void put_escape(FILE *to, uint32_t code);
+void put_name(FILE *to, Name name, enum Style style);
+void put_argument(FILE *to, const char *text);
+int path_units(const char *text, Path *out);
+int name_units(const char *text, Units *out);
+
+/* data.c */
+void print_data(const char *file, uint32_t kind, Bytes data);
+void say_data(uint32_t kind, Bytes data);
+const char *kind_name(uint32_t kind, char *room);
+
+/* explain.c. path is what was asked for, or NULL. */
+int refusal(const Hive *h, HiveAnswer a, const Path *path);
+int check(const char *file, Bytes hive, HiveReport *out);
+int report(const Hive *h, HiveReport r);
+
+/* hints.c */
+void put_hints(FILE *to, const Hive *h, const Path *path, uint32_t number);
+
+/* files.c. Those that answer an int answer GOOD or TROUBLE, after a message. */
 int read_file(const char *path, Bytes *out);
 int read_open(int fd, const char *path, Bytes *out);
+int read_hive(const Order *o, const char *file, Hive *out);
+void drop_hive(Hive *h);
+
+/* store.c. The same. */
 int open_locked(const char *path);
 int store(int fd, const char *path, const uint8_t *from, size_t length, uint64_t at);
 int settle(int fd, const char *path);
 int write_new(const char *path, Bytes bytes);
-
-/* text.c */
-int path_units(const char *text, Units *out);
-int name_units(const char *text, Units *out);
-void print_value(uint32_t kind, Bytes data);
-void print_name(Bytes name, bool narrow);
-
-/* explain.c */
-int explain(const char *number);
-int refusal(const char *file, const char *log, HiveAnswer answer);
-int report(const char *file, Bytes hive);
-
-/* list.c */
-int list(const char *file, Bytes hive, uint32_t key);
+int copy_new(const char *path, int from, const char *from_path);
 
 /* repair.c */
-int repair(int count, char **words);
+int recover(const Hive *h);
+
+/* progress.c: on a terminal, from one second on. */
+void work_starts(const char *what, uint64_t of);
+void work_did(uint64_t done);
+void work_ends(void);
 
 #endif

@@ -1,58 +1,66 @@
 /* What a key holds. */
-#include <stdio.h>
+#include <unistd.h>
 
 #include "host.h"
 
-/* The registry's names of the types; others are shown as their number. */
-static const char *const KINDS[] = {
-    "REG_NONE", "REG_SZ", "REG_EXPAND_SZ", "REG_BINARY", "REG_DWORD", "REG_DWORD_BIG_ENDIAN",
-    "REG_LINK", "REG_MULTI_SZ", "REG_RESOURCE_LIST", "REG_FULL_RESOURCE_DESCRIPTOR", "REG_RESOURCE_REQUIREMENTS_LIST", "REG_QWORD",
-};
-enum { KIND_COUNT = sizeof KINDS / sizeof KINDS[0] };
+typedef HiveMember (*Nth)(const uint8_t *, size_t, uint32_t, size_t);
 
-static int show_name(Bytes hive, HiveMember m)
+static Name name_of(const Hive *h, HiveMember m)
 {
-    print_name((Bytes){hive.at + m.name, m.length}, m.narrow == 1);
+    return (Name){h->bytes.at + m.name, m.length, m.narrow == 1};
+}
+
+static int show_key(const Hive *h, HiveMember m)
+{
+    say(h->file, "key");
+    say_only("at", m.answer.value);
+    say_name(name_of(h, m), KEY_NAME);
+    say_end();
     return GOOD;
 }
 
-static int show_key(const char *file, Bytes hive, HiveMember m)
+static int show_value(const Hive *h, HiveMember m)
 {
-    (void)file;
-    printf("key ");
-    return show_name(hive, m);
-}
-
-static int show_value(const char *file, Bytes hive, HiveMember m)
-{
-    HiveValue v = hive_value_at(hive.at, hive.length, m.answer.value);
+    char room[16];
+    HiveValue v = hive_value_at(h->bytes.at, h->bytes.length, m.answer.value);
     if (v.answer.number != 0)
-        return refusal(file, file, v.answer);
-    if (v.kind < KIND_COUNT)
-        printf("value %s %llu ", KINDS[v.kind], (unsigned long long)v.length);
-    else
-        printf("value 0x%x %llu ", v.kind, (unsigned long long)v.length);
-    return show_name(hive, m);
+        return refusal(h, v.answer, NULL);
+    say(h->file, "value");
+    say_word("type", kind_name(v.kind, room));
+    say_bare("length", v.length);
+    say_only("at", m.answer.value);
+    say_name(name_of(h, m), VALUE_NAME);
+    say_end();
+    return GOOD;
 }
 
 /* All that one of the two calls gives, one after the other. */
-static int each(const char *file, Bytes hive, uint32_t key, HiveMember (*nth)(const uint8_t *, size_t, uint32_t, size_t),
-                int (*show)(const char *, Bytes, HiveMember))
+static int each(const Hive *h, uint32_t key, Nth nth, int (*show)(const Hive *, HiveMember))
 {
     for (size_t n = 0;; n++) {
-        HiveMember m = nth(hive.at, hive.length, key, n);
-        if (m.state == 0)
-            return refusal(file, file, m.answer);
-        if (m.state == 1)
+        HiveMember m = nth(h->bytes.at, h->bytes.length, key, n);
+        if (m.state == HIVE_REFUSED)
+            return refusal(h, m.answer, NULL);
+        if (m.state == HIVE_NO_MORE)
             return GOOD;
-        int status = show(file, hive, m);
+        int status = show(h, m);
         if (status != GOOD)
             return status;
     }
 }
 
-int list(const char *file, Bytes hive, uint32_t key)
+int list_verb(const Order *o)
 {
-    int status = each(file, hive, key, hive_nth_subkey, show_key);
-    return status == GOOD ? each(file, hive, key, hive_nth_value, show_value) : status;
+    Hive h;
+    Path path;
+    int status = path_units(o->count == 2 ? o->words[1] : "", &path);
+    if (status == GOOD)
+        status = read_hive(o, o->words[0], &h);
+    if (status != GOOD)
+        return status;
+    HiveAnswer a = hive_find_key(h.bytes.at, h.bytes.length, path.units.at, path.units.length);
+    if (a.number != 0)
+        return refusal(&h, a, &path);
+    status = each(&h, a.value, hive_nth_subkey, show_key);
+    return status == GOOD ? each(&h, a.value, hive_nth_value, show_value) : status;
 }

@@ -1,107 +1,161 @@
 /* Repair in place. A power failure at any moment leaves a file that the same command repairs. */
 #include <errno.h>
 #include <fcntl.h>
-#include <stdio.h>
 #include <string.h>
 #include <unistd.h>
 
 #include "host.h"
 
-typedef struct {
-    const char *file, *log, *backup;
-    bool dry;
-} Order;
+enum { SECTOR = 512 };
 
-static int read_order(int count, char **words, Order *o)
+static HivePage page_from(const Hive *h, size_t from)
 {
-    int names = 0;
-    bool options = true;
-    for (int i = 0; i < count; i++) {
-        if (options && strcmp(words[i], "--") == 0)
-            options = false;
-        else if (options && strcmp(words[i], "--dry-run") == 0)
-            o->dry = true;
-        else if (options && strcmp(words[i], "--backup") == 0 && i + 1 < count)
-            o->backup = words[++i];
-        else if (options && words[i][0] == '-' && words[i][1] == '-')
-            return trouble("repair: %s is not known, or wants a file (see: hive --help)", words[i]);
-        else if (names == 2)
-            return trouble("repair: one FILE and one LOG are wanted (see: hive --help)");
-        else
-            *(names++ == 0 ? &o->file : &o->log) = words[i];
-    }
-    return names == 2 ? GOOD : trouble("repair: a FILE and its LOG are wanted (see: hive --help)");
+    return hive_recover_next(h->logged.at, h->logged.length, from);
 }
 
-static void progress(uint64_t done, uint64_t of)
+static HiveRecovery start(const Hive *h)
 {
-    if (of < 4096 || !isatty(2) || (done % 512 != 0 && done != of))
-        return;
-    fprintf(stderr, "\r%llu of %llu pages%s", (unsigned long long)done, (unsigned long long)of, done == of ? "\n" : "");
+    return hive_recover_start(h->bytes.at, h->bytes.length, h->logged.at, h->logged.length);
 }
 
-/* Every page of the log, in memory and, where fd is a file, in it. */
-static int install(int fd, const Order *o, Bytes hive, Bytes log, uint64_t pages)
+static HiveRecovery close_in_memory(const Hive *h)
 {
+    return hive_recover_close(h->bytes.at, h->bytes.length, h->logged.at, h->logged.length);
+}
+
+/* Every page of the log, in memory. */
+static HiveAnswer install_all(const Hive *h, uint64_t pages)
+{
+    HiveAnswer a = {0, 0, HIVE_NO_KEY, 0};
     uint64_t done = 0;
-    for (HivePage p = hive_recover_next(log.at, log.length, 0); p.state == 2; p = hive_recover_next(log.at, log.length, p.page + 1)) {
-        HiveRecovery r = hive_recover_page(hive.at, hive.length, log.at, log.length, p.page);
-        if (r.state != 2)
-            return refusal(o->file, o->log, r.answer);
-        if (fd >= 0 && store(fd, o->file, hive.at + p.to, 512, p.to) != GOOD)
-            return TROUBLE;
-        progress(++done, pages);
+    work_starts("installing page", pages);
+    for (HivePage p = page_from(h, 0); p.state == HIVE_THERE && a.number == 0; p = page_from(h, p.page + 1)) {
+        a = hive_recover_page(h->bytes.at, h->bytes.length, h->logged.at, h->logged.length, p.page).answer;
+        work_did(++done);
     }
-    return GOOD;
+    work_ends();
+    return a;
+}
+
+/* The repair in memory alone, for those who only read. */
+int recover(const Hive *h)
+{
+    HiveRecovery s = start(h);
+    if (s.state == HIVE_CLEAN)
+        return GOOD;
+    HiveAnswer a = s.state == HIVE_DONE ? install_all(h, s.pages) : s.answer;
+    if (a.number == 0)
+        a = close_in_memory(h).answer;
+    return a.number == 0 ? GOOD : refusal(h, a, NULL);
+}
+
+/* What will come out is known before the first write: all pages in, closed, checked; then open again, for no page is stored after a closing call. */
+static int rehearse(const Hive *h, uint64_t pages, HiveReport *out)
+{
+    uint8_t first[SECTOR];
+    HiveAnswer a = install_all(h, pages);
+    memcpy(first, h->bytes.at, SECTOR);
+    if (a.number == 0)
+        a = close_in_memory(h).answer;
+    if (a.number != 0)
+        return refusal(h, a, NULL);
+    int status = check(h->file, h->bytes, out);
+    memcpy(h->bytes.at, first, SECTOR);
+    return status;
+}
+
+static int store_pages(int fd, const Hive *h, uint64_t pages)
+{
+    int status = GOOD;
+    uint64_t done = 0;
+    work_starts("storing page", pages);
+    for (HivePage p = page_from(h, 0); p.state == HIVE_THERE && status == GOOD; p = page_from(h, p.page + 1)) {
+        status = store(fd, h->file, h->bytes.at + p.to, SECTOR, p.to);
+        work_did(++done);
+    }
+    return status == GOOD ? settle(fd, h->file) : status;
+}
+
+static int store_first(int fd, const Hive *h)
+{
+    int status = store(fd, h->file, h->bytes.at, SECTOR, 0);
+    if (status == GOOD)
+        status = settle(fd, h->file);
+    work_ends();
+    return status;
 }
 
 /* The closing sector goes out only when all pages are on the disk: before that "the file looks clean and is half old". */
-static int finish(int fd, const Order *o, Bytes hive, Bytes log)
+static int write_out(int fd, const Hive *h, uint64_t pages)
 {
-    if (fd >= 0 && settle(fd, o->file) != GOOD)
-        return TROUBLE;
-    HiveRecovery r = hive_recover_close(hive.at, hive.length, log.at, log.length);
-    if (r.state != 2)
-        return refusal(o->file, o->log, r.answer);
-    if (fd >= 0 && store(fd, o->file, hive.at, 512, 0) != GOOD)
-        return TROUBLE;
-    return fd >= 0 ? settle(fd, o->file) : GOOD;
+    int status = store_pages(fd, h, pages);
+    HiveAnswer a = status == GOOD ? close_in_memory(h).answer : (HiveAnswer){0, 0, HIVE_NO_KEY, 0};
+    if (a.number != 0)
+        return refusal(h, a, NULL);
+    if (status == GOOD)
+        status = store_first(fd, h);
+    if (status != GOOD)
+        note(h->file, "it may be half repaired now: keep the log, and give the same command again, which goes on from there");
+    return status;
+}
+
+/* The run before may have been cut before its last sync: what looks clean is stored once more and synced, each byte as it is. */
+static int clean(int fd, const Hive *h)
+{
+    HiveReport r;
+    int status = fd >= 0 ? store_first(fd, h) : GOOD;
+    if (status == GOOD)
+        status = check(h->file, h->bytes, &r);
+    if (status != GOOD)
+        return status;
+    say(h->file, "clean");
+    say_end();
+    return report(h, r);
+}
+
+static int back_up(int fd, const Order *o, const Hive *h)
+{
+    int status = o->backup == NULL ? GOOD : copy_new(o->backup, fd, h->file);
+    if (status != GOOD)
+        note(h->file, "nothing was changed. If the backup is there from an earlier run, give the same command without --backup");
+    return status;
 }
 
 /* fd: the file to repair, or -1 for a dry run. */
-static int run(int fd, const Order *o, Bytes hive, Bytes log)
+static int run(int fd, const Order *o, const Hive *h)
 {
-    HiveRecovery s = hive_recover_start(hive.at, hive.length, log.at, log.length);
-    if (s.state == 0)
-        return refusal(o->file, o->log, s.answer);
-    if (s.state == 1) {
-        puts("clean");
-        return GOOD;
-    }
-    int status = fd >= 0 && o->backup != NULL ? write_new(o->backup, hive) : GOOD;
-    if (status == GOOD)
-        status = install(fd, o, hive, log, s.pages);
-    if (status == GOOD)
-        status = finish(fd, o, hive, log);
+    HiveRecovery s = start(h);
+    if (s.state == HIVE_REFUSED)
+        return refusal(h, s.answer, NULL);
+    if (s.state == HIVE_CLEAN)
+        return clean(fd, h);
+    HiveReport r;
+    int status = rehearse(h, s.pages, &r);
     if (status != GOOD)
         return status;
-    printf("%s %llu\n", fd >= 0 ? "repaired" : "would repair", (unsigned long long)s.pages);
-    if (fd >= 0 && (status = read_open(fd, o->file, &hive)) != GOOD)
+    bool sound = r.answer.number == 0, write = fd >= 0 && (sound || o->anyway);
+    if (write && ((status = back_up(fd, o, h)) != GOOD || (status = write_out(fd, h, s.pages)) != GOOD))
         return status;
-    return report(o->file, hive);
+    say(h->file, write ? "repaired" : "would repair");
+    say_bare("pages", s.pages);
+    say_end();
+    report(h, r);
+    if (!sound)
+        note(h->file, write ? "it was repaired all the same (--anyway)" : "nothing was written: the repaired hive would be refused so; --anyway writes it all the same");
+    return sound ? GOOD : UNSOUND;
 }
 
-int repair(int count, char **words)
+int repair_verb(const Order *o)
 {
-    Order o = {NULL, NULL, NULL, false};
-    Bytes hive, log;
-    int status = read_order(count, words, &o);
-    if (status != GOOD)
-        return status;
-    int fd = o.dry ? open(o.file, O_RDONLY | O_CLOEXEC) : open_locked(o.file);
+    Hive h = {o->words[0], o->words[1], {NULL, 0}, {NULL, 0}};
+    if (strcmp(h.file, "-") == 0 || strcmp(h.log, "-") == 0)
+        return misused("repair wants a FILE and a LOG that stay, not standard input");
+    int fd = o->dry ? open(h.file, O_RDONLY | O_CLOEXEC) : open_locked(h.file);
     if (fd < 0)
-        return o.dry ? trouble("%s: %s", o.file, strerror(errno)) : TROUBLE;
-    if (read_open(fd, o.file, &hive) != GOOD || read_file(o.log, &log) != GOOD)
+        return o->dry ? trouble(h.file, "%s", strerror(errno)) : TROUBLE;
+    if (lseek(fd, 0, SEEK_END) < 0)
+        return trouble(h.file, "it is a pipe or a terminal; repair wants a file");
+    if (read_open(fd, h.file, &h.bytes) != GOOD || read_file(h.log, &h.logged) != GOOD)
         return TROUBLE;
-    return run(o.dry ? -1 : fd, &o, hive, log);
+    return run(o->dry ? -1 : fd, o, &h);
 }

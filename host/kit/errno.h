@@ -6,4 +6,6 @@ int *__errno_location(void);
 #define EEXIST 17
 #define EISDIR 21
 #define EWOULDBLOCK 11
+#define EINVAL 22
+#define ENOSYS 38
 #endif

@@ -7,6 +7,9 @@
 #define O_EXCL 0200
 #define O_TRUNC 01000
 #define O_DIRECTORY 0200000
+#define O_NOFOLLOW 0400000
 #define O_CLOEXEC 02000000
+#define O_PATH 010000000
+#define AT_FDCWD (-100)
 int open(const char *, int, ...);
 #endif

@@ -6,6 +6,7 @@ ssize_t read(int, void *, size_t), write(int, const void *, size_t);
 ssize_t pread(int, void *, size_t, off_t), pwrite(int, const void *, size_t, off_t);
 off_t lseek(int, off_t, int);
 void _exit(int) __attribute__((noreturn));
+unsigned alarm(unsigned), sleep(unsigned);
 #define SEEK_SET 0
 #define SEEK_END 2
 #endif

@@ -1,8 +1,12 @@
-/* Linked into the tool's test build in front of the C library: each open, pwrite and fsync is written to the file HIVE_TRACE. The process ends after
- * HIVE_CUT of the pwrite and fsync calls. With HIVE_LOSE=k the k-th pwrite is lost, and the process ends at the next fsync: as if the power had
- * failed with that page not on the disk yet. */
+/* Linked into the tool's test build in front of the C library: each open, pwrite and fsync is written to the file HIVE_TRACE.
+ * HIVE_CUT=k: the process ends after k of the pwrite and fsync calls, as if it had been killed.
+ * HIVE_LOSE=k: the k-th pwrite is lost, and the process ends at the next fsync: as if the power had failed with that page not on the disk yet.
+ * HIVE_FAIL=k: the k-th of the pwrite and fsync calls fails. HIVE_INTERRUPT: each second fsync, from the first on, is interrupted.
+ * HIVE_SLOW: each fsync takes two seconds. HIVE_TERMINAL: the outputs are taken for a terminal. */
+#include <errno.h>
 #include <fcntl.h>
 #include <stdarg.h>
+#include <stdbool.h>
 #include <stdio.h>
 #include <stdlib.h>
 #include <unistd.h>
@@ -10,7 +14,9 @@
 int open64(const char *, int, ...);
 ssize_t pwrite64(int, const void *, size_t, off_t);
 long syscall(long, ...);
-enum { SYS_FSYNC = 74, CUT = 99 };
+enum { SYS_FSYNC = 74, CUT = 99, FAILED = 5 /* EIO */ };
+
+static long calls;
 
 static long number(const char *name)
 {
@@ -28,10 +34,15 @@ static void trace(const char *what, long a, long b, const char *text)
         _exit(98);
 }
 
-static void count_down(void)
+static bool fails(void)
 {
-    static long done;
-    if (++done == number("HIVE_CUT"))
+    errno = FAILED;
+    return ++calls == number("HIVE_FAIL");
+}
+
+static void cut(void)
+{
+    if (calls == number("HIVE_CUT"))
         _exit(CUT);
 }
 
@@ -49,17 +60,34 @@ ssize_t pwrite(int fd, const void *from, size_t length, off_t at)
 {
     static long count;
     trace("pwrite", (long)at, (long)length, "");
+    if (fails())
+        return -1;
     ssize_t n = ++count == number("HIVE_LOSE") ? (ssize_t)length : pwrite64(fd, from, length, at);
-    count_down();
+    cut();
     return n;
 }
 
 int fsync(int fd)
 {
+    static int count;
+    if (getenv("HIVE_INTERRUPT") != NULL && count++ % 2 == 0) {
+        errno = EINTR;
+        return -1;
+    }
     trace("fsync", 0, 0, "");
+    if (fails())
+        return -1;
     if (number("HIVE_LOSE") > 0)
         _exit(CUT);
+    for (unsigned left = getenv("HIVE_SLOW") != NULL ? 2 : 0; left > 0;)
+        left = sleep(left);
     int status = (int)syscall(SYS_FSYNC, fd);
-    count_down();
+    cut();
     return status;
+}
+
+int isatty(int fd)
+{
+    (void)fd;
+    return getenv("HIVE_TERMINAL") != NULL;
 }

@@ -2,6 +2,7 @@
 #include <fcntl.h>
 #include <stdio.h>
 #include <stdlib.h>
+#include <string.h>
 #include <unistd.h>
 
 #include "build.h"
@@ -41,6 +42,77 @@ static void write_names(void)
     write_file("bad-key", m.file, made_length(&m));
 }
 
+/* A key or a value whose name is given in UTF-16, in the place of one that is as long. */
+static void rename_key(Made *m, uint32_t key, const char *bytes, size_t length)
+{
+    put16(data_of(m, key) + 2, 0);
+    put16(data_of(m, key) + 72, (uint32_t)length);
+    memcpy(data_of(m, key) + 76, bytes, length);
+}
+
+static void rename_value(Made *m, uint32_t value, const char *bytes, size_t length)
+{
+    put16(data_of(m, value) + 16, 0);
+    put16(data_of(m, value) + 2, (uint32_t)length);
+    memcpy(data_of(m, value) + 20, bytes, length);
+}
+
+/* Names and texts with escapes: in order for the check, which compares codes. The data of a value say which it is. */
+static void write_notation(void)
+{
+    static const char *const named[] = {"", "@", "a\\b", "\\x41", "C:\\u0041", "ab\x07", "ffff", "nnnn", "wwwwww"};
+    Made m = made(2 * 4096, 5);
+    m.root = new_key(&m, "R", 0);
+    uint32_t keys[] = {new_key(&m, "\x07", m.root), new_key(&m, "@", m.root), new_key(&m, "llllll", m.root), new_key(&m, "hhhh", m.root)};
+    rename_key(&m, keys[2], "\x2e\x20x\0\x28\x20", 6); /* a direction mark, x, a line separator */
+    rename_key(&m, keys[3], "\x3d\xd8g\0", 4);         /* half of a pair */
+    hang_keys(&m, m.root, new_leaf(&m, "lh", keys, 2), 2);
+    hang_keys(&m, keys[1], new_leaf(&m, "li", keys + 2, 2), 2);
+    put32(data_of(&m, keys[2]) + 16, keys[1]);
+    put32(data_of(&m, keys[3]) + 16, keys[1]);
+    uint32_t values[9];
+    for (int i = 0; i < 9; i++)
+        values[i] = new_value(&m, named[i], 4, (const uint8_t[]){(uint8_t)i, 0, 0, 0}, 4);
+    rename_value(&m, values[6], "\xff\xfe\x3d\xd8", 4);
+    rename_value(&m, values[7], "n\0\0\0", 4);
+    rename_value(&m, values[8], "\x3d\xd8\0\xde\x0a\0", 6); /* a pair and a line's end */
+    hang_values(&m, m.root, values, 9);
+    finish(&m);
+    write_file("notation", m.file, made_length(&m));
+}
+
+/* Several strings, with an empty one, without their ends, with a byte too many; and text that a terminal would obey. */
+static void write_texts(void)
+{
+    Made m = made(4096, 5);
+    m.root = new_key(&m, "R", 0);
+    uint32_t values[] = {
+        new_value(&m, "inner", 7, (const uint8_t *)"a\0\0\0\0\0b\0\0\0\0", 12), new_value(&m, "open", 7, (const uint8_t *)"a\0\0\0b\0", 6),
+        new_value(&m, "odd", 7, (const uint8_t *)"a\0\0\0b\0\0\0\xff", 9),   new_value(&m, "none", 7, (const uint8_t *)"\0\0", 2),
+        new_value(&m, "empty", 7, (const uint8_t *)"\0\0\0", 4),              new_value(&m, "order", 1, (const uint8_t *)"\x1b\0c\0\0", 6),
+        new_value(&m, "half", 1, (const uint8_t *)"\x3d\xd8!\0\0", 6),        new_value(&m, "\xe9", 4, (const uint8_t *)"\1\0\0", 4),
+        new_value(&m, "\xc9", 4, (const uint8_t *)"\2\0\0", 4),
+    };
+    hang_values(&m, m.root, values, sizeof values / sizeof values[0]);
+    finish(&m);
+    write_file("texts", m.file, made_length(&m));
+}
+
+/* Logs for the spoilt sample: one whose pages hold a bin without its signature, and one as Windows 8.1 writes them. */
+static void write_logs(const Made *good, const uint32_t *pages, size_t count)
+{
+    Log log = made_log(good, pages, count);
+    write_file("log", log.at, log.length);
+    write_file("short-log", log.at, log.length - 1);
+    put32(log.at + 28, 6);
+    reseal(log.at);
+    write_file("new-log", log.at, log.length);
+    good->file[4096] = 'x';
+    log = made_log(good, pages, count);
+    write_file("bad-log", log.at, log.length);
+    good->file[4096] = 'h';
+}
+
 int main(int count, char **words)
 {
     static const uint32_t pages[] = {0, 3, 4, 17, 30, 31, 64, 127};
@@ -55,13 +127,13 @@ int main(int count, char **words)
     size_t n = made_length(&good);
     write_file("sample", good.file, n);
     write_file("spoilt", spoilt(&good, pages, 8), n);
-    Log log = made_log(&good, pages, 8);
-    write_file("log", log.at, log.length);
-    write_file("short-log", log.at, log.length - 1);
+    write_logs(&good, pages, 8);
     write_file("cut", good.file, n - 1);
     write_file("empty", NULL, 0);
     write_at("vast", (const uint8_t *)"x", 1, 5368709120 - 1);
     write_names();
+    write_notation();
+    write_texts();
     good.file[4096 + good.root + 4] = 'x';
     write_file("no-root", good.file, n);
     return 0;

@@ -1,0 +1,123 @@
+/* A value's type and data, as words or in a JSON object. */
+#include <unistd.h>
+
+#include "host.h"
+
+enum { SZ = 1, EXPAND_SZ = 2, DWORD = 4, DWORD_BIG_ENDIAN = 5, LINK = 6, MULTI_SZ = 7, QWORD = 11 };
+
+/* The registry's names of the types. */
+static const char *const KINDS[] = {
+    "REG_NONE", "REG_SZ", "REG_EXPAND_SZ", "REG_BINARY", "REG_DWORD", "REG_DWORD_BIG_ENDIAN",
+    "REG_LINK", "REG_MULTI_SZ", "REG_RESOURCE_LIST", "REG_FULL_RESOURCE_DESCRIPTOR", "REG_RESOURCE_REQUIREMENTS_LIST", "REG_QWORD",
+};
+
+/* Others are shown as their number, for which there is room of 16 bytes. */
+const char *kind_name(uint32_t kind, char *room)
+{
+    if (kind < sizeof KINDS / sizeof KINDS[0])
+        return KINDS[kind];
+    snprintf(room, 16, "0x%x", kind);
+    return room;
+}
+
+static bool is_text(uint32_t kind, Bytes data)
+{
+    return kind == MULTI_SZ || (data.length % 2 == 0 && (kind == SZ || kind == EXPAND_SZ || kind == LINK));
+}
+
+static Name piece(Bytes data, size_t from, size_t to)
+{
+    return (Name){data.at + 2 * from, 2 * (to - from), false};
+}
+
+/* The strings in data of a text type. Of several each ends with a unit 0, and one more unit 0 ends the list: it is no string. */
+static void each_string(uint32_t kind, Bytes data, void (*show)(Name, size_t))
+{
+    size_t end = data.length / 2, n = 0;
+    Name all = piece(data, 0, end);
+    if (kind != MULTI_SZ) {
+        while (end > 0 && unit_at(all, end - 1) == 0)
+            end--;
+        show(piece(data, 0, end), 0);
+        return;
+    }
+    if (end > 0 && unit_at(all, end - 1) == 0 && (end == 1 || unit_at(all, end - 2) == 0))
+        end--;
+    for (size_t i = 0, stop; i < end; i = stop + 1) {
+        for (stop = i; stop < end && unit_at(all, stop) != 0;)
+            stop++;
+        show(piece(data, i, stop), n++);
+    }
+}
+
+static void put_hex(Bytes data)
+{
+    for (size_t i = 0; i < data.length; i++)
+        printf("%02x", data.at[i]);
+}
+
+static void print_hex(Bytes data)
+{
+    for (size_t i = 0; i < data.length; i += 32) {
+        put_hex((Bytes){data.at + i, data.length - i < 32 ? data.length - i : 32});
+        putchar('\n');
+    }
+}
+
+/* Raw into a file or a pipe. On a terminal what is hidden is shown as its code: a file cannot give a terminal orders. Half of a pair is never UTF-8. */
+static void print_string(Name text, size_t n)
+{
+    (void)n;
+    bool terminal = isatty(1);
+    for (size_t i = 0; i < unit_count(text);) {
+        uint32_t c = next_code(text, &i);
+        if (c >= 0xd800 && c < 0xe000 ? true : terminal && is_hidden(c))
+            put_escape(stdout, c);
+        else
+            put_utf8(stdout, c);
+    }
+    putchar('\n');
+}
+
+/* Little-endian, or big-endian. */
+static void print_number(Bytes data, bool big)
+{
+    uint64_t n = 0;
+    for (size_t i = 0; i < data.length; i++)
+        n = n * 256 + data.at[big ? i : data.length - 1 - i];
+    printf("%llu (0x%llx)\n", (unsigned long long)n, (unsigned long long)n);
+}
+
+void print_data(const char *file, uint32_t kind, Bytes data)
+{
+    if (is_text(kind, data)) {
+        each_string(kind, data, print_string);
+        if (data.length % 2 != 0) {
+            print_hex((Bytes){data.at + data.length - 1, 1});
+            note(file, "the last byte of the data is no part of a string and is shown in hexadecimal");
+        }
+    } else if ((data.length == 4 && (kind == DWORD || kind == DWORD_BIG_ENDIAN)) || (data.length == 8 && kind == QWORD))
+        print_number(data, kind == DWORD_BIG_ENDIAN);
+    else
+        print_hex(data);
+}
+
+static void say_string(Name text, size_t n)
+{
+    if (n > 0)
+        putchar(',');
+    put_json_name(stdout, text);
+}
+
+/* All bytes in hexadecimal, and the strings if it is text. */
+void say_data(uint32_t kind, Bytes data)
+{
+    fputs(",\"hex\":\"", stdout);
+    put_hex(data);
+    putchar('"');
+    if (!is_text(kind, data))
+        return;
+    fputs(",\"strings\":[", stdout);
+    each_string(kind, data, say_string);
+    putchar(']');
+}

@@ -1,0 +1,85 @@
+/* The command line. */
+#include <string.h>
+
+#include "host.h"
+
+enum { LOG = 1, JSON = 2, DRY_RUN = 4, BACKUP = 8, ANYWAY = 16, NO_END = 1 << 30 };
+
+static const struct {
+    const char *name, *wants;
+    int least, most;
+    unsigned options;
+    Verb *go;
+} VERBS[] = {
+    {"check", "FILE..", 1, NO_END, LOG | JSON, check_verb},
+    {"key", "FILE PATH", 2, 2, LOG | JSON, key_verb},
+    {"ls", "FILE [PATH]", 1, 2, LOG | JSON, list_verb},
+    {"value", "FILE PATH NAME [OUT]", 3, 4, LOG | JSON, value_verb},
+    {"repair", "FILE LOG", 2, 2, JSON | DRY_RUN | BACKUP | ANYWAY, repair_verb},
+    {"explain", "N", 1, 1, 0, explain_verb},
+};
+enum { VERB_COUNT = sizeof VERBS / sizeof VERBS[0] };
+
+/* follows: what the word behind the option is, or NULL where none is wanted. */
+static const struct {
+    const char *name, *follows;
+    unsigned bit;
+} OPTIONS[] = {
+    {"--log", "a LOG", LOG}, {"--json", NULL, JSON}, {"--dry-run", NULL, DRY_RUN}, {"--backup", "a COPY", BACKUP}, {"--anyway", NULL, ANYWAY},
+};
+enum { OPTION_COUNT = sizeof OPTIONS / sizeof OPTIONS[0] };
+
+static void take(Order *o, unsigned bit, const char *word)
+{
+    o->json |= bit == JSON;
+    o->dry |= bit == DRY_RUN;
+    o->anyway |= bit == ANYWAY;
+    if (bit == LOG)
+        o->log = word;
+    if (bit == BACKUP)
+        o->backup = word;
+}
+
+/* The option words[*i], of a verb that takes those in `options`. */
+static int read_option(const char *verb, unsigned options, int count, char **words, int *i, Order *o)
+{
+    const char *word = words[*i];
+    for (int k = 0; k < OPTION_COUNT; k++) {
+        if (strcmp(word, OPTIONS[k].name) != 0)
+            continue;
+        if ((options & OPTIONS[k].bit) == 0)
+            return misused("%s takes no %s", verb, word);
+        if (OPTIONS[k].follows != NULL && ++*i == count)
+            return misused("%s wants %s behind it", word, OPTIONS[k].follows);
+        take(o, OPTIONS[k].bit, words[*i]);
+        return GOOD;
+    }
+    return misused("%s: %s is no option (-- ends the options)", verb, word);
+}
+
+/* words[0] is the verb. The words that are no options move to the front. */
+int read_order(int count, char **words, Order *o, Verb **verb)
+{
+    int v = 0, status = GOOD;
+    bool options = true;
+    while (v < VERB_COUNT && strcmp(words[0], VERBS[v].name) != 0)
+        v++;
+    if (v == VERB_COUNT)
+        return misused("\"%s\" is none of check, key, ls, value, repair and explain", words[0]);
+    *o = (Order){.words = words};
+    for (int i = 1; i < count && status == GOOD; i++) {
+        if (options && strcmp(words[i], "--") == 0)
+            options = false;
+        else if (options && words[i][0] == '-' && words[i][1] != 0)
+            status = read_option(words[0], VERBS[v].options, count, words, &i, o);
+        else
+            words[1 + o->count++] = words[i];
+    }
+    o->words = words + 1;
+    *verb = VERBS[v].go;
+    if (status == GOOD && o->count < VERBS[v].least)
+        return misused("%s wants %s, and a word is missing", words[0], VERBS[v].wants);
+    if (status == GOOD && o->count > VERBS[v].most)
+        return misused("%s wants %s, and \"%s\" is a word too many", words[0], VERBS[v].wants, o->words[VERBS[v].most]);
+    return status;
+}

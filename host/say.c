@@ -1,0 +1,178 @@
+/* Answers on standard output, each one line: words, or a JSON object. Messages on standard error. */
+#include <stdarg.h>
+#include <stdlib.h>
+#include <string.h>
+
+#include "host.h"
+
+/* replaced: something that no JSON string can hold stands in this object as U+FFFD. */
+static struct {
+    bool json, many, replaced;
+} shape;
+
+void say_as(bool json, bool many)
+{
+    shape.json = json;
+    shape.many = many;
+}
+
+bool say_json(void)
+{
+    return shape.json;
+}
+
+static void put_json_code(FILE *to, uint32_t c)
+{
+    if (c == '"' || c == '\\')
+        fprintf(to, "\\%c", (int)c);
+    else if (c >= 0xd800 && c < 0xe000) {
+        shape.replaced = true;
+        put_utf8(to, 0xfffd);
+    } else if (is_hidden(c))
+        fprintf(to, "\\u%04x", c);
+    else
+        put_utf8(to, c);
+}
+
+void put_json_name(FILE *to, Name name)
+{
+    fputc('"', to);
+    for (size_t i = 0; i < unit_count(name);)
+        put_json_code(to, next_code(name, &i));
+    fputc('"', to);
+}
+
+/* Bytes that are no UTF-8, in the name of a file, count as halves of pairs do. */
+static void put_json_text(FILE *to, const char *text)
+{
+    fputc('"', to);
+    while (*text != 0) {
+        long c = decode(&text);
+        put_json_code(to, c < 0 ? 0xd800 : (uint32_t)c);
+        text += c < 0;
+    }
+    fputc('"', to);
+}
+
+void say(const char *file, const char *answer)
+{
+    work_ends();
+    if (shape.json) {
+        shape.replaced = false;
+        fputs("{\"file\":", stdout);
+        put_json_text(stdout, file);
+        printf(",\"answer\":\"%s\"", answer);
+        return;
+    }
+    if (shape.many) {
+        put_argument(stdout, file);
+        fputs(": ", stdout);
+    }
+    fputs(answer, stdout);
+}
+
+void say_number(const char *label, uint64_t n)
+{
+    printf(shape.json ? ",\"%s\":%llu" : " %s %llu", label, (unsigned long long)n);
+}
+
+void say_bare(const char *label, uint64_t n)
+{
+    if (shape.json)
+        say_number(label, n);
+    else
+        printf(" %llu", (unsigned long long)n);
+}
+
+/* For programs alone. */
+void say_only(const char *label, uint64_t n)
+{
+    if (shape.json)
+        say_number(label, n);
+}
+
+void say_word(const char *label, const char *word)
+{
+    if (!shape.json) {
+        printf(" %s", word);
+        return;
+    }
+    printf(",\"%s\":", label);
+    put_json_text(stdout, word);
+}
+
+/* The name as the tool reads it, which loses nothing. */
+static void say_notation(Name name, enum Style style)
+{
+    char *text = NULL;
+    size_t length;
+    FILE *to = open_memstream(&text, &length);
+    if (to == NULL)
+        return;
+    put_name(to, name, style);
+    fclose(to);
+    say_word("notation", text);
+    free(text);
+}
+
+void say_name(Name name, enum Style style)
+{
+    if (!shape.json) {
+        putchar(' ');
+        put_name(stdout, name, style);
+        return;
+    }
+    fputs(",\"name\":", stdout);
+    put_json_name(stdout, name);
+    if (shape.replaced)
+        say_notation(name, style);
+}
+
+void say_end(void)
+{
+    if (shape.json)
+        fputs(shape.replaced ? ",\"replaced\":true}" : "}", stdout);
+    putchar('\n');
+    fflush(stdout);
+}
+
+void note(const char *file, const char *words)
+{
+    work_ends();
+    fflush(stdout);
+    fputs("hive: ", stderr);
+    if (file != NULL) {
+        put_argument(stderr, file);
+        fputs(": ", stderr);
+    }
+    put_argument(stderr, words);
+    fputs("\n", stderr);
+}
+
+int trouble(const char *file, const char *format, ...)
+{
+    char words[600];
+    va_list list;
+    va_start(list, format);
+    vsnprintf(words, sizeof words, format, list);
+    va_end(list);
+    note(file, words);
+    if (shape.json) {
+        say(file, "trouble");
+        say_word("words", words);
+        say_end();
+    }
+    return TROUBLE;
+}
+
+int misused(const char *format, ...)
+{
+    char words[600];
+    va_list list;
+    va_start(list, format);
+    vsnprintf(words, sizeof words - 20, format, list);
+    va_end(list);
+    strcat(words, "; see: hive --help");
+    note(NULL, words);
+    return TROUBLE;
+}

@@ -1,0 +1,52 @@
+# The check, what it reads, usage, explanations, and the example.
+
+try 'check: the minimal hive' 0 'accepted bins 1 keys 1 values 0 used 88 free 3976' '' hive check minimal
+try 'check: cut short' 1 'refused 6 at 0' 'cut: the file ends before its bins do' hive check cut
+try 'check: a record' 1 'refused 12 at 32' 'at offset 32 (0x20), which is byte 4128 (0x1020) of the file' hive check no-root
+try 'check: not finished' 1 'refused 7 at 0' 'give its log with --log, or repair it' hive check spoilt
+try 'check: no file' 2 '' 'hive: nothing: No such file' hive check nothing
+try 'check: a directory' 2 '' 'is a directory' hive check .
+try 'check: an empty file' 1 'refused 1 at 0' 'fewer than 4096 bytes' hive check empty
+try 'check: 5 GiB' 2 '' "vast: it has more than 2147483648 bytes, which is this tool's limit" hive check vast
+try 'check: no hive' 1 'refused 2 at 0' 'regf' hive check "$out/hive"
+try 'check: many' 2 "$(printf '%s\n' 'minimal: accepted bins 1 keys 1 values 0 used 88 free 3976' 'cut: refused 6 at 0' 'empty: refused 1 at 0')" \
+    'hive: nothing: No such file' hive check minimal cut nothing empty
+try 'check: the worst of many' 1 "$(printf '%s\n' 'cut: refused 6 at 0' 'minimal: accepted bins 1 keys 1 values 0 used 88 free 3976')" 'cut: the file' hive check cut minimal
+cp minimal "$(printf 'odd\033[2J\377')"
+try 'check: a name that gives orders' 0 "$(printf '%s\n' 'odd\x1b[2J\xff: accepted bins 1 keys 1 values 0 used 88 free 3976' \
+    'minimal: accepted bins 1 keys 1 values 0 used 88 free 3976')" '' hive check odd* minimal
+try 'check: no file of such a name' 2 '' 'hive: no\x0ane: No such file' hive check "$(printf 'no\nne')"
+
+from_input() { hive "$@" <sample; }
+from_pipe() { cat sample | hive "$@"; }
+try 'check: standard input' 0 "$(hive check sample)" '' from_input check -
+try 'check: a pipe' 0 "$(hive check sample)" '' from_pipe check -
+try 'check: a pipe by its name' 0 "$(hive check sample)" '' from_pipe check /dev/stdin
+try 'key: a pipe' 0 "$(hive key sample "$print")" '' from_pipe key - "$print"
+try 'repair: no pipe' 2 '' 'not standard input' from_pipe repair - log
+try 'repair: no pipe for a log' 2 '' 'not standard input' from_pipe repair spoilt -
+
+try 'json: accepted' 0 '{"file":"minimal","answer":"accepted","bins":1,"keys":1,"values":0,"used":88,"free":3976}' '' hive check --json minimal
+try 'json: many' 2 "$(printf '%s\n' '{"file":"nothing","answer":"trouble","words":"No such file or directory"}' \
+    '{"file":"no-root","answer":"refused","number":12,"place":32,"key":null,"words":"a record in a cell is wrong or does not fit its cell, at offset 32 (0x20), which is byte 4128 (0x1020) of the file"}' \
+    '{"file":"cut","answer":"refused","number":6,"place":null,"key":null,"words":"the file ends before its bins do"}')" 'nothing: No such' hive check --json nothing no-root cut
+try 'json: a name that is no UTF-8' 0 '{"file":"odd\u001b[2J'"$replaced"'","answer":"accepted","bins":1,"keys":1,"values":0,"used":88,"free":3976,"replaced":true}' '' hive check --json odd*
+rm odd*
+
+try 'explain' 0 "17: there is no such key. Letters a to z are the same in either case; all others must be given as they are." '' hive explain 17
+try 'explain: the checksum' 0 "3: the checksum of the base block is wrong. The word at byte 508 is not the XOR of the 127 words before it, with 0 stored as 1 and 0xFFFFFFFF as 0xFFFFFFFE: the first sector was changed or half written. A log may repair it." '' hive explain 3
+try 'explain: no number' 2 '' 'from 1 to 27' hive explain 28
+try 'usage: nothing' 2 '' 'a verb is wanted: check, key, ls, value, repair or explain; see: hive --help' hive
+try 'usage: no verb' 2 '' '"chekc" is none of check, key, ls, value, repair and explain; see: hive --help' hive chekc a
+try 'usage: a word too few' 2 '' 'key wants FILE PATH, and a word is missing; see: hive --help' hive key sample
+try 'usage: a word too many' 2 '' 'key wants FILE PATH, and "b" is a word too many; see: hive --help' hive key sample a b
+try 'usage: an unknown option' 2 '' 'repair: --fast is no option' hive repair --fast spoilt log
+try "usage: another verb's option" 2 '' 'check takes no --backup' hive check --backup x sample
+try 'usage: an option without its word' 2 '' '--log wants a LOG behind it' hive check sample --log
+try 'usage: one log, many files' 2 '' 'check --log wants one FILE' hive check --log log spoilt spoilt
+try 'usage: a file that looks like an option' 2 '' 'hive: -x: No such file' hive check -- -x
+try 'usage: it is one line' 2 '' 'see: hive --help' hive chekc
+right 'usage: one line' [ "$(wc -l <stderr)" -eq 1 ]
+try 'usage: --help' 0 "$(cat "$top/host/help.txt")" '' hive --help
+full() { hive "$@" >/dev/full; }
+try 'an answer that cannot be written' 2 '' 'cannot write the answer' full check sample

@@ -1,0 +1,77 @@
+# Keys, lists of what they hold, values.
+
+cp sample sample.before
+try 'key: the root' 0 'key at 32' '' hive key minimal ''
+try 'key: the root by a backslash' 0 'key at 32' '' hive key minimal '\'
+try 'key: the root by a doubled backslash' 0 'key at 32' '' hive key minimal '\\'
+at=$(hive key sample "$print")
+try 'key: lower case' 0 "$at" '' hive key sample 'controlset001\services\EVENTLOG\application\print'
+try 'key: doubled backslashes' 0 "$at" '' hive key sample 'ControlSet001\\Services\\EventLog\\Application\\Print'
+try 'key: one in front' 0 "$at" '' hive key sample "\\$print"
+try 'key: two in front' 0 "$at" '' hive key sample "\\\\$print"
+try 'key: three in front' 1 'refused 16 at 0' 'the path is not possible' hive key sample "\\\\\\$print"
+try 'key: one at the end' 1 'refused 16 at 0' 'leave out the backslash at the end' hive key sample 'a\'
+try 'key: none' 1 'refused 17 at 0' 'there is no such key: a has no subkey k9 (see' hive key sample 'a\k9'
+try 'key: none at the root' 1 'refused 17 at 0' 'the root has no subkey c' hive key sample 'c\k9\x'
+try 'key: none further down' 1 'refused 17 at 0' 'ControlSet001\Services has no subkey Event' hive key sample 'ControlSet001\Services\Event\Application'
+try 'key: a path of a machine' 1 'refused 17 at 0' "a path starts below the hive's own root" hive key sample 'HKLM\SYSTEM\ControlSet001'
+try 'key: a long path of a machine' 1 'refused 17 at 0' "a path starts below the hive's own root" hive key sample '\hkey_local_machine\SYSTEM'
+try 'key: slashes' 1 'refused 17 at 0' 'parts are separated by backslashes' hive key sample ControlSet001/Services
+try 'key: json' 1 '{"file":"sample","answer":"refused","number":17,"place":null,"key":null,"words":"there is no such key: the root has no subkey \"x\""}' '' hive key --json sample '"x"'
+try 'key: not UTF-8' 2 '' 'this is not UTF-8: \xff; see' hive key sample "$(printf 'a\377')"
+try 'ls: the root' 0 "$(printf 'key a\nkey b\nkey ControlSet001\nkey d')" '' hive ls sample
+try 'ls: a list of three leaves' 0 "$(printf 'key k%s\n' 1 2 3 4 5 6 7)" '' hive ls sample A
+try 'ls: nothing in it' 0 '' '' hive ls sample b
+try 'ls: values' 0 "$(printf 'value %s\n' 'REG_EXPAND_SZ 38 EventMessageFile' 'REG_SZ 6 @' 'REG_DWORD 4 TypesSupported' 'REG_DWORD_BIG_ENDIAN 4 Big' \
+    'REG_QWORD 8 Long' 'REG_MULTI_SZ 18 Several' 'REG_SZ 4 Pair' 'REG_BINARY 33 Bytes' 'REG_BINARY 40000 Large' 'REG_BINARY 0 Empty')" '' hive ls sample "\\$print"
+try 'ls: no such key' 1 'refused 17 at 0' 'the root has no subkey nobody' hive ls sample nobody
+try 'ls: a key that is none' 1 "$(printf '%s\n' 'key \\x1b[2J' 'refused 11 at 40')" 'no cell in use' hive ls bad-key
+try 'ls: data that are not there' 1 "$(hive ls names | head -n 6 && echo refused 12 at 120)" 'does not fit its cell' hive ls bad-value
+try 'value: expanded string' 0 "$(printf '%%SystemRoot%%\\\303\251.dll')" '' hive value sample "$print" EventMessageFile
+try 'value: unnamed' 0 xy '' hive value sample "$print" @
+try 'value: no unnamed one' 1 'refused 18 at 0' 'no such value' hive value names '' @
+try 'value: number' 0 '7 (0x7)' '' hive value sample "$print" typessupported
+try 'value: big-endian number' 0 '258 (0x102)' '' hive value sample "$print" Big
+try 'value: long number' 0 '9223372036854775809 (0x8000000000000001)' '' hive value sample "$print" Long
+try 'value: several strings' 0 "$(printf 'one\ntwo')" '' hive value sample "$print" Several
+try 'value: an empty string among them' 0 "$(printf 'a\n\nb')" '' hive value texts '' inner
+try 'value: the last without its end' 0 "$(printf 'a\nb')" '' hive value texts '' open
+try 'value: a byte too many' 0 "$(printf 'a\nb\nff')" 'the last byte of the data is no part of a string' hive value texts '' odd
+try 'value: no string' 0 '' '' hive value texts '' none
+lines() { hive "$@" | wc -l | tr -d ' '; }
+try 'value: no string is no line' 0 0 '' lines value texts '' none
+try 'value: an empty string is a line' 0 1 '' lines value texts '' empty
+try 'value: text that gives orders, to a pipe' 0 "$(printf '\033c')" '' hive value texts '' order
+on_terminal() { HIVE_TERMINAL=1 hive_cut "$@"; }
+try 'value: text that gives orders, to a terminal' 0 '\x1bc' '' on_terminal value texts '' order
+try 'value: half of a pair' 0 '\ud83d!' '' hive value texts '' half
+try 'value: json' 0 '{"file":"sample","answer":"data","type":"REG_MULTI_SZ","length":18,"hex":"6f006e0065000000740077006f0000000000","strings":["one","two"]}' '' hive value --json sample "$print" Several
+try 'value: json of a number' 0 '{"file":"sample","answer":"data","type":"REG_DWORD","length":4,"hex":"07000000"}' '' hive value --json sample "$print" TypesSupported
+try 'value: json of half of a pair' 0 '{"file":"texts","answer":"data","type":"REG_SZ","length":6,"hex":"3dd821000000","strings":["'"$replaced"'!"],"replaced":true}' '' hive value --json texts '' half
+try 'value: a pair' 0 "$(printf '\360\237\230\200')" '' hive value sample "$print" Pair
+try 'value: bytes' 0 "$(printf '00070e151c232a31383f464d545b626970777e858c939aa1a8afb6bdc4cbd2d9\ne0')" '' hive value sample "$print" Bytes
+try 'value: nothing in it' 0 '' '' hive value sample "$print" Empty
+try 'value: no such value' 1 'refused 18 at 0' 'no such value' hive value sample "$print" nobody
+try 'value: to a file' 0 '' '' hive value sample "$print" Large large
+right 'value: all of it' [ "$(wc -c <large)" -eq 40000 ]
+hive value sample "$print" Large - >raw
+same 'value: raw to standard output' raw large
+right 'value: nothing is left beside it' [ "$(echo large*)" = large ]
+try 'value: never over a file' 2 '' 'is not overwritten' hive value sample "$print" Large sample
+ln -s nowhere dangling
+try 'value: never over a link to nothing' 2 '' 'is not overwritten' hive value sample "$print" Large dangling
+try 'value: no such folder' 2 '' 'No such file' hive value sample "$print" Large none/large
+same 'reading changes nothing' sample sample.before
+
+rm -f trace
+traced() { HIVE_TRACE=trace hive_cut "$@" >/dev/null; }
+traced check sample
+traced key sample a
+traced ls --json sample a
+traced value sample "$print" Big
+traced repair --dry-run spoilt log
+for verb in 'check spoilt' 'key spoilt a' 'ls spoilt a' "value spoilt $print Big"; do traced $verb --log log; done
+right 'reading opens no file for writing' [ "$(grep -c '^open 0 ' trace) $(grep -cv '^open 0 ' trace)" = '14 0' ]
+
+try 'example' 0 "$(printf '%%SystemRoot%%\\\303\251.dll')" '' run "$out/event_source" sample Print
+try 'example: no such source' 1 '' 'refused 17' run "$out/event_source" sample Nobody
