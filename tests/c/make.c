@@ -98,6 +98,30 @@ static void write_texts(void)
     write_file("texts", m.file, made_length(&m));
 }
 
+/* Event sources: one whose file is no text, one whose text gives a terminal orders, one with another name than ASCII. */
+static void write_sources(void)
+{
+    static const char *const path[] = {"ControlSet001", "Services", "EventLog", "Application"};
+    static const char *const named[] = {"Bin", "Esc", "\xe9"};
+    Made m = made(4096, 5);
+    uint32_t key = m.root = new_key(&m, "R", 0), keys[3];
+    for (int i = 0; i < 4; i++) {
+        uint32_t child = new_key(&m, path[i], key);
+        hang_keys(&m, key, new_leaf(&m, "lh", &child, 1), 1);
+        key = child;
+    }
+    for (int i = 0; i < 3; i++) {
+        uint32_t value = new_value(&m, "EventMessageFile", i == 0 ? 3 : 1, (const uint8_t *)"\x1b\0c\0\0", 6);
+        keys[i] = new_key(&m, named[i], key);
+        hang_values(&m, keys[i], &value, 1);
+    }
+    memcpy(data_of(&m, keys[0]) + 4, "\x07\x00\xcd\x66\x6b\x6b\xda\x01", 8); /* the last second of a leap day */
+    memset(data_of(&m, keys[2]) + 4, 0xff, 8);
+    hang_keys(&m, key, new_leaf(&m, "lh", keys, 3), 3);
+    finish(&m);
+    write_file("sources", m.file, made_length(&m));
+}
+
 /* Logs for the spoilt sample: one whose pages hold a bin without its signature, and one as Windows 8.1 writes them. */
 static void write_logs(const Made *good, const uint32_t *pages, size_t count)
 {
@@ -134,6 +158,7 @@ int main(int count, char **words)
     write_names();
     write_notation();
     write_texts();
+    write_sources();
     good.file[4096 + good.root + 4] = 'x';
     write_file("no-root", good.file, n);
     return 0;

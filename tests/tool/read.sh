@@ -73,5 +73,14 @@ traced repair --dry-run spoilt log
 for verb in 'check spoilt' 'key spoilt a' 'ls spoilt a' "value spoilt $print Big"; do traced $verb --log log; done
 right 'reading opens no file for writing' [ "$(grep -c '^open 0 ' trace) $(grep -cv '^open 0 ' trace)" = '14 0' ]
 
-try 'example' 0 "$(printf '%%SystemRoot%%\\\303\251.dll')" '' run "$out/event_source" sample Print
-try 'example: no such source' 1 '' 'refused 17' run "$out/event_source" sample Nobody
+example() { run "$out/event_source" "$@"; }
+try 'example' 0 "$(printf '%%SystemRoot%%\\\303\251.dll')" '' example sample Print
+try 'example: no such source' 1 '' 'refused 17' example sample Nobody
+try 'example: not finished' 1 '' 'refused 7' example spoilt Print
+try 'example: with its log' 0 "$(printf '%%SystemRoot%%\\\303\251.dll')" '' example spoilt Print log
+try 'example: not its log' 1 '' 'refused 22' example spoilt Print short-log
+try 'example: not sound' 1 '' 'refused 12 at 32' example no-root Print
+try 'example: no text' 2 '' 'is no text' example sources Bin
+try 'example: text that gives orders, of a source in UTF-8' 0 '\x1bc' '' example sources "$(printf '\303\251')"
+try 'example: a path is no name' 2 '' 'no event source is called so' example sources 'Esc\x'
+try 'example: not UTF-8' 2 '' 'no event source is called so' example sources "$(printf '\351')"
