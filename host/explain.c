@@ -44,7 +44,7 @@ enum { REASON_COUNT = sizeof REASONS / sizeof REASONS[0] };
 static const Reason *reason_of(uint32_t number)
 {
     static const Reason unknown = {false, false, "an unknown refusal", ""};
-    return number >= 1 && number < REASON_COUNT ? &REASONS[number] : &unknown;
+    return number < REASON_COUNT && REASONS[number].what != NULL ? &REASONS[number] : &unknown;
 }
 
 int explain_verb(const Order *o)

@@ -85,27 +85,30 @@ static int store_first(int fd, const Hive *h)
     return status;
 }
 
+static int cut_off(const Hive *h)
+{
+    note(h->file, "it may be half repaired now: keep the log, and give the same command again, which goes on from there");
+    return TROUBLE;
+}
+
 /* The closing sector goes out only when all pages are on the disk: before that "the file looks clean and is half old". */
 static int write_out(int fd, const Hive *h, uint64_t pages)
 {
-    int status = store_pages(fd, h, pages);
-    HiveAnswer a = status == GOOD ? close_in_memory(h).answer : (HiveAnswer){0, 0, HIVE_NO_KEY, 0};
+    if (store_pages(fd, h, pages) != GOOD)
+        return cut_off(h);
+    HiveAnswer a = close_in_memory(h).answer;
     if (a.number != 0)
         return refusal(h, a, NULL);
-    if (status == GOOD)
-        status = store_first(fd, h);
-    if (status != GOOD)
-        note(h->file, "it may be half repaired now: keep the log, and give the same command again, which goes on from there");
-    return status;
+    return store_first(fd, h) == GOOD ? GOOD : cut_off(h);
 }
 
 /* The run before may have been cut before its last sync: what looks clean is stored once more and synced, each byte as it is. */
 static int clean(int fd, const Hive *h)
 {
     HiveReport r;
-    int status = fd >= 0 ? store_first(fd, h) : GOOD;
-    if (status == GOOD)
-        status = check(h->file, h->bytes, &r);
+    if (fd >= 0 && store_first(fd, h) != GOOD)
+        return cut_off(h);
+    int status = check(h->file, h->bytes, &r);
     if (status != GOOD)
         return status;
     say(h->file, "clean");

@@ -46,6 +46,7 @@ done
 cp sample file
 fail=2
 try 'repair: clean, but it cannot be synced' 2 '' 'file: cannot sync: Input/output error' failing repair file log
+right 'repair: and what to do then' grep -qF 'keep the log' stderr
 cp spoilt file
 fail=1
 try 'repair: the backup cannot be written' 2 '' 'nothing was changed' failing repair --backup no-copy file log
