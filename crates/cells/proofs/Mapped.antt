@@ -32,7 +32,7 @@ use Rattle.cells.proofs.Turns.{done, step}
 use Rattle.cells.proofs.Marked.{marked-odd, marked-set}
 use Rattle.cells.proofs.Naming.{names, sound-names}
 use Rattle.cells.proofs.Fronts.{front-facts, survey-front, survey-on}
-use Rattle.cells.proofs.Tiles.{tile-counted, of-header, of-header-some, wholly-inside, tiled-exactly, total}
+use Rattle.cells.proofs.Tiles.{row-sums, of-header, of-header-some, starts-exactly, wholly-inside, tiled-exactly, total}
 
 module _ (d : List ℕ) where
   bits-from : {at : ℕ} → at % 4096 ≡ 0 → BinsTile d at → (m : List ℕ) → length d ≤ length m * 64 → (k : ℕ)
@@ -40,12 +40,11 @@ module _ (d : List ℕ) where
   unfolding marksAll startsIn isBad
   bits-from {at} a (bins-end e) m r k = rw (done d at (omega arith)) (sym (max-zero _))
   bits-from {at} a (bin-on n h t b) m r k =
-      let c = tile-counted d t 0 0 in
       let lt : at < length d = omega (arith, h .some, h .inside) in
       let one = marks-bit (tiling d (at + 32) (at + n)) m k
       (tiling-room (tiling-placed d (at + 32) (at + n) (omega arith) (omega (arith, h .pages)))) in
       let rest = bits-from (omega (arith, h .pages)) b (marks (tiling d (at + 32) (at + n)) m) (rw (length-marks (tiling d (at + 32) (at + n)) m) r) k in
-      rw (step d at lt (of-header-some d h), of-header d h, c .2, flag-or) (rest ∙ rw one (omega arith))
+      rw (step d at lt (of-header-some d h), of-header d h, row-sums d t 0 0, flag-or) (rest ∙ rw one (omega arith))
     where
       tiling-room : placed (tiling d (at + 32) (at + n)) (at + n)
           → placed (tiling d (at + 32) (at + n)) (length m * 64)
@@ -66,7 +65,7 @@ module _ (d : List ℕ) where
   pub in-use : BinsTile d 0 → (o : Offset) → InUse d o → isNamed d (o .0) ≡ true
   unfolding isNamed
   in-use b o e =
-      let i = wholly-inside d b (o .0) e in
+      let i = wholly-inside d o e in
       let c = i .inside in
       let h = i .header in
       let n = o .0 in
@@ -77,28 +76,37 @@ module _ (d : List ℕ) where
       (and-both (le-leb (n + 4) (length d) (omega (arith, c .before, c .some, c .whole, h .inside))) (and-both (c .used) (of-good g))))
 
   -- the map of the tiling, over all bins: each bit that is set is a cell in use
-  pub map-mapped : BinsTile d 0 → length d % 4096 ≡ 0 → (m : List ℕ) → length d / 64 ≤ length m
-      → Mapped d (marksAll (layout d 0) (zeros (length d / 64) m))
+  map-walk : BinsTile d 0 → length d % 4096 ≡ 0 → (m : List ℕ) → length d / 64 ≤ length m → (o : Offset) → o .0 < length d
+      → isMarked (marksAll (layout d 0) (zeros (length d / 64) m)) (o .0) ≡ startsIn (layout d 0) (o .0)
   unfolding zeros
-  map-mapped b l m r o lt = by (eqb (o % 8) 0) refl
+  map-walk b l m r o lt = by (eqb (n % 8) 0) refl
     where
+      n : ℕ
+      n = o .0
+
       z : List ℕ
       z = zeros (length d / 64) m
 
       long : length d ≤ length z * 64
       long = simp (length-append, length-replicate, length-drop) (omega arith)
 
-      by : (t : Bool) → eqb (o % 8) 0 ≡ t → isMarked (marksAll (layout d 0) z) o ≡ startsIn (layout d 0) o
-      by false e = marked-odd (marksAll (layout d 0) z) o (eqb-false (o % 8) 0 e) ∙ sym (none (startsIn (layout d 0) o) refl)
+      by : (t : Bool) → eqb (n % 8) 0 ≡ t → isMarked (marksAll (layout d 0) z) n ≡ startsIn (layout d 0) n
+      by false e = marked-odd (marksAll (layout d 0) z) n (eqb-false (n % 8) 0 e) ∙ sym (none (startsIn (layout d 0) n) refl)
         where
-          none : (s : Bool) → startsIn (layout d 0) o ≡ s → startsIn (layout d 0) o ≡ false
-          none true f = absurd (eqb-false (o % 8) 0 e (wholly-inside d b o f .inside .eights))
+          none : (s : Bool) → startsIn (layout d 0) n ≡ s → startsIn (layout d 0) n ≡ false
+          none true f = absurd (eqb-false (n % 8) 0 e (wholly-inside d o (starts-exactly d o .0 f) .inside .eights))
           none false f = f
       by true e =
-          let k : o / 8 * 8 ≡ o = omega (arith, eqb-true (o % 8) 0 e) in
-          let is-set : bit (marksAll (layout d 0) z) (o / 8) ≡ flag (startsIn (layout d 0) o)
-          = bits-from d refl b z long (o / 8) ∙ rw (zeros-bit (length d / 64) m (o / 8) (omega arith), k) (omega arith) in
-          marked-set (marksAll (layout d 0) z) o (eqb-true (o % 8) 0 e) ∙ ap (λ (x : ℕ). eqb x 1) is-set ∙ eqb-flag (startsIn (layout d 0) o)
+          let k : n / 8 * 8 ≡ n = omega (arith, eqb-true (n % 8) 0 e) in
+          let is-set : bit (marksAll (layout d 0) z) (n / 8) ≡ flag (startsIn (layout d 0) n)
+          = bits-from d refl b z long (n / 8) ∙ rw (zeros-bit (length d / 64) m (n / 8) (omega arith), k) (omega arith) in
+          marked-set (marksAll (layout d 0) z) n (eqb-true (n % 8) 0 e) ∙ ap (λ (x : ℕ). eqb x 1) is-set ∙ eqb-flag (startsIn (layout d 0) n)
+
+  pub map-mapped : BinsTile d 0 → length d % 4096 ≡ 0 → (m : List ℕ) → length d / 64 ≤ length m
+      → Mapped d (marksAll (layout d 0) (zeros (length d / 64) m))
+  map-mapped b l m r o lt =
+      let w = map-walk b l m r o lt in
+      (λ e. starts-exactly d o .0 (sym w ∙ e), λ u. w ∙ starts-exactly d o .1 u)
 
   -- the header's rule names them too, with the same bounds
   pub header-names : BinsTile d 0 → (m : List ℕ) (o : Offset) → InUse d o → cellOf Header d m o ≡ Named (cellAt d o)
@@ -116,13 +124,13 @@ module _ (d : List ℕ) where
     map-names e =
         let n = in-use b o e in
         let r = names d (o .0) n in
-        rw (mapped (o .0) (omega (arith, r .room)) ∙ e, n)
+        rw (mapped o (omega (arith, r .room)) .1 e, n)
 
     pub sound-in-use : cellFault Map d m o ≡ Sound → InUse d o
     unfolding cellFault cellOf
     sound-in-use e =
         let r = sound-names Map d m o e in
-        sym (mapped (o .0) (omega (arith, r .room))) ∙ marked (isMarked m (o .0)) refl
+        mapped o (omega (arith, r .room)) .0 (marked (isMarked m (o .0)) refl)
       where
         marked : (t : Bool) → isMarked m (o .0) ≡ t → isMarked m (o .0) ≡ true
         marked true f = f

@@ -1,13 +1,15 @@
--- The survey accepts exactly the bins data that bins and cells tile; and what the listing of cells then says of each cell in use.
+-- The survey accepts exactly the bins data that bins and cells tile, and counts them; where a cell in use starts, and where it lies.
 use Prim.Native.Nat.{ℕ, zero, suc, _+_, _-_, _*_, _%_, _≤_, _<_}
 use native.Mathlib.Omega.{arith}
-use mathlib.Core.Path.{_≡_, refl, subst}
+use mathlib.Core.Path.{_≡_, refl, sym, ap, ap₂, _∙_, subst}
 use mathlib.Core.Bool.{Bool, true, false, cond, _&&_, _||_}
 use mathlib.Core.Logic.{_⊎_, inl, inr, _↔_}
-use mathlib.Core.List.{List, [], _∷_}
+use mathlib.Core.List.{List, [], _∷_, _++_}
 use lib.Dec.{eqb, leb, ltb}
 use lib.ListN.{length}
 use borrow.Author.Tests.{ltb-true, ltb-false, leb-true, le-leb, eqb-true, eqb-false, eq-eqb}
+use Rattle.fields.specs.declared.Offset.{Offset}
+use Rattle.fields.specs.declared.Size.{Size}
 use Rattle.fields.specs.Number.{u32At, sizeAt}
 use Rattle.fields.specs.Bytes.{standsAt}
 use Rattle.fields.proofs.Bools.{and-inv}
@@ -17,14 +19,45 @@ use Rattle.cells.specs.declared.Tally.{Tally}
 use Rattle.cells.specs.declared.Surveyed.the-variants.{Tiled}
 use Rattle.cells.specs.Tiling.{goodSize, whole, tiling, rowOf, binSize, bin, layout, addRow, surveyOf}
 use Rattle.cells.specs.Map.{starts, startsIn}
-use Rattle.cells.specs.Tiled.{Good, CellsTile, cells-end, cell-on, Header, BinsTile, bins-end, bin-on, CellIn, InBin}
+use Rattle.cells.specs.Tiled.{Good, CellsTile, cells-end, cell-on, Header, BinsTile, bins-end, bin-on, InCells, this-cell, later-cell, InBins, this-bin, later-bin, InUse, CellIn, InBin}
+use Rattle.cells.specs.Counts.{cellsOf, cellsIn, binCount, usedBytes, freeBytes}
 use Rattle.cells.proofs.Steps.{good, of-good, done, fault, step}
-use Rattle.cells.proofs.Total.{sum}
 use Rattle.cells.proofs.Turns.{done as bins-done, fault as bins-fault, step as bins-step}
 
 or-cases : (a b : Bool) → a || b ≡ true → (a ≡ true) ⊎ (b ≡ true)
 or-cases true b e = inl refl
 or-cases false b e = inr e
+
+or-right : (a : Bool) {b : Bool} → b ≡ true → a || b ≡ true
+or-right true e = refl
+or-right false e = e
+
+-- a cell's bytes count where it belongs, and nowhere else
+add-used : (b : Bool) (u n rest : ℕ) → cond b (u + n) u + rest ≡ u + (cond b n 0 + rest)
+add-used true u n rest = omega arith
+add-used false u n rest = omega arith
+
+add-free : (b : Bool) (f n rest : ℕ) → cond b f (f + n) + rest ≡ f + (cond b 0 n + rest)
+add-free true f n rest = omega arith
+add-free false f n rest = omega arith
+
+used-or-free : (b : Bool) (n : ℕ) → cond b n 0 + cond b 0 n ≡ n
+used-or-free true n = omega arith
+used-or-free false n = omega arith
+
+used-append : (xs ys : List Size) → usedBytes (xs ++ ys) ≡ usedBytes xs + usedBytes ys
+unfolding usedBytes
+used-append [] ys = omega arith
+used-append (z ∷ xs) ys = let e = used-append xs ys in omega arith
+
+free-append : (xs ys : List Size) → freeBytes (xs ++ ys) ≡ freeBytes xs + freeBytes ys
+unfolding freeBytes
+free-append [] ys = omega arith
+free-append (z ∷ xs) ys = let e = free-append xs ys in omega arith
+
+counts-same : {n u f n′ u′ f′ : ℕ} → n ≡ n′ → u ≡ u′ → f ≡ f′
+    → _≡_ {A = Tally} (record { bins = n; used = u; free = f }) (record { bins = n′; used = u′; free = f′ })
+counts-same p q r = rw (p, q, r)
 
 module _ (d : List ℕ) where
   -- cells that are counted tile their bin, by as many steps as are enough
@@ -56,13 +89,16 @@ module _ (d : List ℕ) where
           let g = good n (end - at) y in
           cell-on lt g (ih lt g (rw (step d at end lt y) at e))
 
-  -- and cells that tile a bin are counted
-  pub tile-counted : {at end : ℕ} → CellsTile d end at → (u f : ℕ) → (u' : ℕ) × (f' : ℕ) × (rowOf (tiling d at end) u f ≡ Counted u' f')
-  unfolding rowOf
-  tile-counted {at} {end} cells-end u f = (u, f, rw (done d end end (omega arith)))
-  tile-counted {at} {end} (cell-on lt g t) u f =
-      let r = tile-counted t (cond (sizeAt d at .used) (u + sizeAt d at .bytes) u) (cond (sizeAt d at .used) f (f + sizeAt d at .bytes)) in
-      (r .0, r .1, rw (step d at end lt (of-good g)) (r .2))
+  -- and cells that tile a bin are counted: those in use and the free ones
+  pub row-sums : {at end : ℕ} (t : CellsTile d end at) (u f : ℕ)
+      → rowOf (tiling d at end) u f ≡ Counted (u + usedBytes (cellsOf t)) (f + freeBytes (cellsOf t))
+  unfolding rowOf cellsOf usedBytes freeBytes
+  row-sums {at} {end} cells-end u f = rw (done d end end (omega arith)) (ap₂ Counted (omega arith) (omega arith))
+  row-sums {at} {end} (cell-on lt g t) u f =
+      let z = sizeAt d at in
+      rw (step d at end lt (of-good g))
+      (row-sums t (cond (z .used) (u + z .bytes) u) (cond (z .used) f (f + z .bytes))
+      ∙ ap₂ Counted (add-used (z .used) u (z .bytes) (usedBytes (cellsOf t))) (add-free (z .used) f (z .bytes) (freeBytes (cellsOf t))))
 
   cells-order : {at end : ℕ} → CellsTile d end at → at ≤ end
   cells-order cells-end = omega arith
@@ -127,144 +163,178 @@ module _ (d : List ℕ) where
           bin-on n h (tile-by n (at + 32) (at + n) 0 0 u' f' (omega arith) (omega (arith, h .some, h .pages)) s)
           (ih lt h u' f' (rw (bins-step d at lt (eqb-false n 0 g), s) at e))
 
-  bins-tiled : {at : ℕ} → BinsTile d at → (c u f : ℕ) → (t : Tally) × (surveyOf (layout d at) c u f ≡ Tiled t)
-  unfolding surveyOf addRow
-  bins-tiled {at} (bins-end e) c u f = (record { bins = c; used = u; free = f }, rw (bins-done d at (omega arith)))
-  bins-tiled {at} (bin-on n h t b) c u f =
-      let r = tile-counted t 0 0 in
-      let s = bins-tiled b (c + 1) (u + r .0) (f + r .1) in
+  -- bins that tile are counted, and so are all their cells
+  pub survey-sums : {at : ℕ} (b : BinsTile d at) (c u f : ℕ)
+      → surveyOf (layout d at) c u f ≡ Tiled (record { bins = c + binCount b; used = u + usedBytes (cellsIn b); free = f + freeBytes (cellsIn b) })
+  unfolding surveyOf addRow cellsIn binCount usedBytes freeBytes
+  survey-sums {at} (bins-end e) c u f = rw (bins-done d at (omega arith)) (ap Tiled (counts-same (omega arith) (omega arith) (omega arith)))
+  survey-sums {at} (bin-on n h t b) c u f =
       let lt : at < length d = omega (arith, h .some, h .inside) in
-      (s .0, rw (bins-step d at lt (of-header-some h), of-header h, r .2) (s .1))
+      rw (bins-step d at lt (of-header-some h), of-header h, row-sums t 0 0)
+      (survey-sums b (c + 1) (u + (0 + usedBytes (cellsOf t))) (f + (0 + freeBytes (cellsOf t)))
+      ∙ ap Tiled
+      (counts-same (omega arith) (omega (arith, used-append (cellsOf t) (cellsIn b))) (omega (arith, free-append (cellsOf t) (cellsIn b)))))
 
   -- bins and cells pass the tests 9 and 10 exactly when they tile the bins data
   pub tiled-exactly : length d % 4096 ≡ 0 → ((t : Tally) × (surveyOf (layout d 0) 0 0 0 ≡ Tiled t)) ↔ BinsTile d 0
-  tiled-exactly l = (λ x. bins-by (length d) 0 0 0 0 (omega arith) (omega arith) refl l (x .1), λ b. bins-tiled b 0 0 0)
+  tiled-exactly l = (λ x. bins-by (length d) 0 0 0 0 (omega arith) (omega arith) refl l (x .1), λ b. (_, survey-sums b 0 0 0))
+
+  -- so the counts of a survey that accepts are those of the tiling
+  pub counts-are : {t : Tally} (b : BinsTile d 0) → surveyOf (layout d 0) 0 0 0 ≡ Tiled t
+      → (t .bins ≡ binCount b) × (t .used ≡ usedBytes (cellsIn b)) × (t .free ≡ freeBytes (cellsIn b))
+  counts-are {t} b e =
+      let s = sym (survey-sums b 0 0 0) ∙ e in
+      let q : _≡_ {A = Tally} (record { bins = 0 + binCount b; used = 0 + usedBytes (cellsIn b); free = 0 + freeBytes (cellsIn b) }) t = cc in
+      rw (← q) (omega arith, omega arith, omega arith)
 
   -- "32 x bins + used + free = bins size"
-  total-from : {at : ℕ} → BinsTile d at → (c u f : ℕ) {t : Tally} → surveyOf (layout d at) c u f ≡ Tiled t
-      → 32 * t .bins + t .used + t .free + at ≡ 32 * c + u + f + length d
-  unfolding surveyOf addRow
-  total-from {at} (bins-end p) c u f {t} e =
-      let r = rw (bins-done d at (omega arith)) at e in
-      let s : _≡_ {A = Tally} (record { bins = c; used = u; free = f }) t = cc in
-      rw (← s) (omega arith)
-  total-from {at} (bin-on n h b rest) c u f {t} e =
-      let r = tile-counted b 0 0 in
-      let lt : at < length d = omega (arith, h .some, h .inside) in
-      let s = total-from rest (c + 1) (u + r .0) (f + r .1) (rw (bins-step d at lt (of-header-some h), of-header h, r .2) at e) in
-      let k = sum d (at + 32) (at + n) (r .0) (r .1) (cells-order b) (r .2) in
-      let o = cells-order b in
-      omega arith
+  cells-add : {at end : ℕ} (t : CellsTile d end at) → usedBytes (cellsOf t) + freeBytes (cellsOf t) + at ≡ end
+  unfolding cellsOf usedBytes freeBytes
+  cells-add cells-end = omega arith
+  cells-add {at} (cell-on lt g t) =
+      let s = cells-add t in
+      let z = sizeAt d at in
+      omega (arith, used-or-free (z .used) (z .bytes))
+
+  bins-add : {at : ℕ} (b : BinsTile d at) → 32 * binCount b + usedBytes (cellsIn b) + freeBytes (cellsIn b) + at ≡ length d
+  unfolding cellsIn binCount usedBytes freeBytes
+  bins-add (bins-end e) = omega arith
+  bins-add (bin-on n h t b) =
+      let s = bins-add b in
+      omega (arith, cells-add t, used-append (cellsOf t) (cellsIn b), free-append (cellsOf t) (cellsIn b))
 
   pub total : {t : Tally} → BinsTile d 0 → surveyOf (layout d 0) 0 0 0 ≡ Tiled t → 32 * t .bins + t .used + t .free ≡ length d
-  total b e = let s = total-from b 0 0 0 e in omega arith
+  total b e = let s = bins-add b in let c = counts-are b e in omega (arith, c .0, c .1, c .2)
 
   -- ---- the cells in use
 
-  cell-in : {at end : ℕ} → at % 8 ≡ 0 → CellsTile d end at → (o : ℕ) → starts (tiling d at end) o ≡ true → CellIn d at end o
+  -- the walk's function says of an offset what the tiling says
+  cells-starts : {at end o : ℕ} → InCells d end o at → starts (tiling d at end) o ≡ true
   unfolding starts
-  cell-in {at} {end} a cells-end o e =
-      let r = rw (done d end end (omega arith)) at e in
+  cells-starts {at} {end} {o} (this-cell lt g u) = rw (step d o end lt (of-good g), u, eq-eqb o o refl)
+  cells-starts {at} {end} {o} (later-cell lt g s) = rw (step d at end lt (of-good g)) (or-right (sizeAt d at .used && eqb at o) (cells-starts s))
+
+  starts-cells : (k at end o : ℕ) → end - at ≤ k → starts (tiling d at end) o ≡ true → InCells d end o at
+  unfolding starts
+  starts-cells zero at end o p e =
+      let r = rw (done d at end (omega arith)) at e in
       let z : _≡_ {A = ℕ} 0 1 = cc in
       absurd (omega arith)
-  cell-in {at} {end} a (cell-on lt g t) o e = by (cell-in (omega (arith, g .eights)) t o) (or-cases _ _ (rw (step d at end lt (of-good g)) at e))
+  starts-cells (suc k) at end o p e =
+      by (ltb at end) refl (goodSize n (end - at)) refl (λ lt g r. starts-cells k (at + n) end o (omega (arith, g .some)) r)
     where
       n : ℕ
       n = sizeAt d at .bytes
 
-      by : (starts (tiling d (at + n) end) o ≡ true → CellIn d (at + n) end o) → (sizeAt d at .used && eqb at o ≡ true) ⊎ (starts (tiling d (at + n) end) o ≡ true) → CellIn d at end o
-      by ih (inl p) =
-          let q = and-inv (sizeAt d at .used) _ p in
-          let s : at ≡ o = eqb-true at o (q .1) in
-          subst (λ (x : ℕ). CellIn d at end x) s
-          (record { after = omega arith; before = omega (arith, g .inside); some = g .some; whole = g .eights; eights = a; used = q .0 })
-      by ih (inr p) =
-          let c = ih p in
-          record { after = omega (arith, c .after); before = c .before; some = c .some; whole = c .whole; eights = c .eights; used = c .used }
+      pick : at < end → Good n (end - at) → (starts (tiling d (at + n) end) o ≡ true → InCells d end o (at + n))
+          → (sizeAt d at .used && eqb at o ≡ true) ⊎ (starts (tiling d (at + n) end) o ≡ true) → InCells d end o at
+      pick lt g ih (inl q) =
+          let u = and-inv (sizeAt d at .used) _ q in
+          subst (λ (x : ℕ). InCells d end x at) (eqb-true at o (u .1)) (this-cell lt g (u .0))
+      pick lt g ih (inr q) = later-cell lt g (ih q)
 
-  in-bin : {at : ℕ} → at % 4096 ≡ 0 → BinsTile d at → (o : ℕ) → startsIn (layout d at) o ≡ true → InBin d o × (at ≤ o)
+      by : (t : Bool) → ltb at end ≡ t → (g : Bool) → goodSize n (end - at) ≡ g
+          → (at < end → Good n (end - at) → starts (tiling d (at + n) end) o ≡ true → InCells d end o (at + n)) → InCells d end o at
+      by false x g y ih =
+          let r = rw (done d at end (ltb-false at end x)) at e in
+          let z : _≡_ {A = ℕ} 0 1 = cc in
+          absurd (omega arith)
+      by true x false y ih =
+          let r = rw (fault d at end (ltb-true at end x) y) at e in
+          let z : _≡_ {A = ℕ} 0 1 = cc in
+          absurd (omega arith)
+      by true x true y ih =
+          let lt = ltb-true at end x in
+          let g = good n (end - at) y in
+          pick lt g (ih lt g) (or-cases _ _ (rw (step d at end lt y) at e))
+
+  bins-starts : {at o : ℕ} → InBins d o at → startsIn (layout d at) o ≡ true
   unfolding startsIn
-  in-bin {at} a (bins-end p) o e =
+  bins-starts {at} {o} (this-bin n h c) =
+      rw (bins-step d at (omega (arith, h .some, h .inside)) (of-header-some h), of-header h, cells-starts c)
+  bins-starts {at} {o} (later-bin n h b) =
+      rw (bins-step d at (omega (arith, h .some, h .inside)) (of-header-some h), of-header h) (or-right (starts (tiling d (at + 32) (at + n)) o) (bins-starts b))
+
+  starts-bins : (k at o : ℕ) → length d - at ≤ k → startsIn (layout d at) o ≡ true → InBins d o at
+  unfolding startsIn
+  starts-bins zero at o p e =
       let r = rw (bins-done d at (omega arith)) at e in
       let z : _≡_ {A = ℕ} 0 1 = cc in
       absurd (omega arith)
-  in-bin {at} a (bin-on n h t b) o e =
-      by (in-bin (omega (arith, h .pages)) b o)
-      (or-cases _ _ (rw (bins-step d at (omega (arith, h .some, h .inside)) (of-header-some h), of-header h) at e))
+  starts-bins (suc k) at o p e = by (ltb at (length d)) refl (eqb n 0) refl (λ lt h r. starts-bins k (at + n) o (omega (arith, h .some)) r)
     where
-      by : (startsIn (layout d (at + n)) o ≡ true → InBin d o × (at + n ≤ o)) → (starts (tiling d (at + 32) (at + n)) o ≡ true) ⊎ (startsIn (layout d (at + n)) o ≡ true) → InBin d o × (at ≤ o)
-      by ih (inl p) =
-          let c = cell-in (omega arith) t o p in
-          (record { bin = at; size = n; header = h; inside = c }, omega (arith, c .after))
-      by ih (inr p) = let r = ih p in (r .0, omega (arith, r .1))
+      n : ℕ
+      n = binSize d at
+
+      pick : Header d at n → (startsIn (layout d (at + n)) o ≡ true → InBins d o (at + n))
+          → (starts (tiling d (at + 32) (at + n)) o ≡ true) ⊎ (startsIn (layout d (at + n)) o ≡ true) → InBins d o at
+      pick h ih (inl q) = this-bin n h (starts-cells (at + n) (at + 32) (at + n) o (omega arith) q)
+      pick h ih (inr q) = later-bin n h (ih q)
+
+      by : (x : Bool) → ltb at (length d) ≡ x → (y : Bool) → eqb n 0 ≡ y
+          → (at < length d → Header d at n → startsIn (layout d (at + n)) o ≡ true → InBins d o (at + n)) → InBins d o at
+      by false x y g ih =
+          let r = rw (bins-done d at (ltb-false at (length d) x)) at e in
+          let z : _≡_ {A = ℕ} 0 1 = cc in
+          absurd (omega arith)
+      by true x true g ih =
+          let r = rw (bins-fault d at (ltb-true at (length d) x) (eqb-true n 0 g)) at e in
+          let z : _≡_ {A = ℕ} 0 1 = cc in
+          absurd (omega arith)
+      by true x false g ih =
+          let lt = ltb-true at (length d) x in
+          let h = header-of at (eqb-false n 0 g) lt in
+          pick h (ih lt h) (or-cases _ _ (rw (bins-step d at lt (eqb-false n 0 g)) at e))
+
+  -- a cell in use starts at an offset exactly when the walk finds one there
+  pub starts-exactly : (o : Offset) → (startsIn (layout d 0) (o .0) ≡ true) ↔ InUse d o
+  starts-exactly o = (starts-bins (length d) 0 (o .0) (omega arith), bins-starts)
+
+  cell-in : {at end o : ℕ} → at % 8 ≡ 0 → InCells d end o at → CellIn d at end o
+  cell-in a (this-cell lt g u) =
+      record { after = omega arith; before = omega (arith, g .inside); some = g .some; whole = g .eights; eights = a; used = u }
+  cell-in a (later-cell lt g s) =
+      let c = cell-in (omega (arith, g .eights)) s in
+      record { after = omega (arith, c .after); before = c .before; some = c .some; whole = c .whole; eights = c .eights; used = c .used }
+
+  in-bin : {at o : ℕ} → at % 4096 ≡ 0 → InBins d o at → InBin d o × (at ≤ o)
+  in-bin {at} a (this-bin n h c) =
+      let i = cell-in (omega arith) c in
+      (record { bin = at; size = n; header = h; inside = i }, omega (arith, i .after))
+  in-bin a (later-bin n h b) = let r = in-bin (omega (arith, h .pages)) b in (r .0, omega (arith, r .1))
 
   -- a cell in use lies wholly inside one bin
-  pub wholly-inside : BinsTile d 0 → (o : ℕ) → startsIn (layout d 0) o ≡ true → InBin d o
-  wholly-inside b o e = in-bin refl b o e .0
+  pub wholly-inside : (o : Offset) → InUse d o → InBin d (o .0)
+  wholly-inside o u = in-bin refl u .0
 
-  cells-apart : {at end : ℕ} → at % 8 ≡ 0 → CellsTile d end at → (o p : ℕ) → starts (tiling d at end) o ≡ true → starts (tiling d at end) p ≡ true
-      → o < p → o + sizeAt d o .bytes ≤ p
-  unfolding starts
-  cells-apart {at} {end} a cells-end o p e f lt =
-      let r = rw (done d end end (omega arith)) at e in
-      let z : _≡_ {A = ℕ} 0 1 = cc in
-      absurd (omega arith)
-  cells-apart {at} {end} a (cell-on l g t) o p e f lt =
-      by (λ x y. cells-apart (omega (arith, g .eights)) t o p x y lt) (or-cases _ _ (rw (step d at end l (of-good g)) at e)) (or-cases _ _ (rw (step d at end l (of-good g)) at f))
-    where
-      n : ℕ
-      n = sizeAt d at .bytes
+  -- a bin has one size
+  same-size : {at n n′ : ℕ} → Header d at n → Header d at n′ → n ≡ n′
+  same-size h h′ = sym (h .size) ∙ h′ .size
 
-      low : (x : ℕ) → starts (tiling d (at + n) end) x ≡ true → at + n ≤ x
-      low x q = cell-in (omega (arith, g .eights)) t x q .after
+  same-bin : {at n n′ o : ℕ} → Header d at n → Header d at n′ → InCells d (at + n′) o (at + 32) → InCells d (at + n) o (at + 32)
+  same-bin {at} {n} {n′} {o} h h′ c = subst (λ (k : ℕ). InCells d (at + k) o (at + 32)) (same-size h′ h) c
 
-      by : (starts (tiling d (at + n) end) o ≡ true → starts (tiling d (at + n) end) p ≡ true → o + sizeAt d o .bytes ≤ p)
-          → (sizeAt d at .used && eqb at o ≡ true) ⊎ (starts (tiling d (at + n) end) o ≡ true)
-          → (sizeAt d at .used && eqb at p ≡ true) ⊎ (starts (tiling d (at + n) end) p ≡ true) → o + sizeAt d o .bytes ≤ p
-      by ih (inl x) (inl y) =
-          let s = eqb-true at o (and-inv (sizeAt d at .used) _ x .1) in
-          let q = eqb-true at p (and-inv (sizeAt d at .used) _ y .1) in
-          absurd (omega arith)
-      by ih (inl x) (inr y) =
-          let s : at ≡ o = eqb-true at o (and-inv (sizeAt d at .used) _ x .1) in
-          subst (λ (k : ℕ). k + sizeAt d k .bytes ≤ p) s (low p y)
-      by ih (inr x) (inl y) =
-          let s = eqb-true at p (and-inv (sizeAt d at .used) _ y .1) in
-          let q = low o x in
-          absurd (omega arith)
-      by ih (inr x) (inr y) = ih x y
+  same-rest : {at n n′ o : ℕ} → Header d at n → Header d at n′ → InBins d o (at + n′) → InBins d o (at + n)
+  same-rest {at} {n} {n′} {o} h h′ b = subst (λ (k : ℕ). InBins d o (at + k)) (same-size h′ h) b
 
-  bins-apart : {at : ℕ} → at % 4096 ≡ 0 → BinsTile d at → (o p : ℕ) → startsIn (layout d at) o ≡ true → startsIn (layout d at) p ≡ true
-      → o < p → o + sizeAt d o .bytes ≤ p
-  unfolding startsIn
-  bins-apart {at} a (bins-end q) o p e f lt =
-      let r = rw (bins-done d at (omega arith)) at e in
-      let z : _≡_ {A = ℕ} 0 1 = cc in
-      absurd (omega arith)
-  bins-apart {at} a (bin-on n h t b) o p e f lt =
-      by (λ x y. bins-apart (omega (arith, h .pages)) b o p x y lt)
-      (or-cases _ _ (rw (bins-step d at below (of-header-some h), of-header h) at e))
-      (or-cases _ _ (rw (bins-step d at below (of-header-some h), of-header h) at f))
-    where
-      below : at < length d
-      below = omega (arith, h .some, h .inside)
+  cells-apart : {at end o p : ℕ} → at % 8 ≡ 0 → InCells d end o at → InCells d end p at → o < p → o + sizeAt d o .bytes ≤ p
+  cells-apart a (this-cell l g u) (this-cell l′ g′ u′) lt = absurd (omega arith)
+  cells-apart a (this-cell l g u) (later-cell l′ g′ s) lt = cell-in (omega (arith, g .eights)) s .after
+  cells-apart a (later-cell l g s) (this-cell l′ g′ u) lt = absurd (let c = cell-in (omega (arith, g .eights)) s .after in omega arith)
+  cells-apart a (later-cell l g s) (later-cell l′ g′ s′) lt = cells-apart (omega (arith, g .eights)) s s′ lt
 
-      by : (startsIn (layout d (at + n)) o ≡ true → startsIn (layout d (at + n)) p ≡ true → o + sizeAt d o .bytes ≤ p)
-          → (starts (tiling d (at + 32) (at + n)) o ≡ true) ⊎ (startsIn (layout d (at + n)) o ≡ true)
-          → (starts (tiling d (at + 32) (at + n)) p ≡ true) ⊎ (startsIn (layout d (at + n)) p ≡ true) → o + sizeAt d o .bytes ≤ p
-      by ih (inl x) (inl y) = cells-apart (omega arith) t o p x y lt
-      by ih (inl x) (inr y) =
-          let c = cell-in (omega arith) t o x in
-          let r = in-bin (omega (arith, h .pages)) b p y in
-          omega (arith, c .before, r .1)
-      by ih (inr x) (inl y) =
-          let c = cell-in (omega arith) t p y in
-          let r = in-bin (omega (arith, h .pages)) b o x in
-          let s = c .before in
-          let u = c .some in
-          absurd (omega (arith, r .1))
-      by ih (inr x) (inr y) = ih x y
+  bins-apart : {at o p : ℕ} → at % 4096 ≡ 0 → InBins d o at → InBins d p at → o < p → o + sizeAt d o .bytes ≤ p
+  bins-apart a (this-bin n h c) (this-bin n′ h′ c′) lt = cells-apart (omega arith) c (same-bin h h′ c′) lt
+  bins-apart a (this-bin n h c) (later-bin n′ h′ b) lt =
+      let e = same-size h h′ in
+      omega (arith, cell-in (omega arith) c .before, in-bin (omega (arith, h′ .pages)) b .1)
+  bins-apart a (later-bin n h b) (this-bin n′ h′ c) lt =
+      let e = same-size h h′ in
+      let i = cell-in (omega arith) c in
+      absurd (omega (arith, in-bin (omega (arith, h .pages)) b .1, i .before, i .some))
+  bins-apart a (later-bin n h b) (later-bin n′ h′ b′) lt =
+      bins-apart (omega (arith, h .pages)) b (same-rest h h′ b′) lt
 
   -- cells in use do not overlap
-  pub no-overlap : BinsTile d 0 → (o p : ℕ) → startsIn (layout d 0) o ≡ true → startsIn (layout d 0) p ≡ true → o < p → o + sizeAt d o .bytes ≤ p
-  no-overlap b o p e f lt = bins-apart refl b o p e f lt
+  pub no-overlap : (o p : Offset) → InUse d o → InUse d p → o .0 < p .0 → o .0 + sizeAt d (o .0) .bytes ≤ p .0
+  no-overlap o p u v lt = bins-apart refl u v lt

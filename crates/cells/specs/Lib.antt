@@ -3,3 +3,4 @@ pub mod Map
 pub mod Survey
 pub mod Named
 pub mod Tiled
+pub mod Counts

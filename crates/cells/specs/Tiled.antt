@@ -2,13 +2,13 @@
 use Prim.Native.Nat.{ℕ, _+_, _-_, _%_, _≤_, _<_}
 use mathlib.Core.Path.{_≡_}
 use mathlib.Core.Bool.{true}
+use mathlib.Core.Logic.{_↔_}
 use mathlib.Core.List.{List, [], _∷_}
 use lib.ListN.{length}
 use Rattle.fields.specs.declared.Offset.{Offset}
 use Rattle.fields.specs.Number.{u32At, sizeAt}
 use Rattle.fields.specs.Bytes.{standsAt}
-use Rattle.cells.specs.Tiling.{layout}
-use Rattle.cells.specs.Map.{isMarked, startsIn}
+use Rattle.cells.specs.Map.{isMarked}
 
 -- "the absolute value is a nonzero multiple of 8 and stays inside the bin"
 pub record Good (n room : ℕ) : Type 0 where
@@ -35,9 +35,19 @@ pub data BinsTile (d : List ℕ) : ℕ → Type 0 where
   bins-end : {at : ℕ} → at ≡ length d → BinsTile d at
   bin-on : {at : ℕ} (n : ℕ) → Header d at n → CellsTile d (at + n) (at + 32) → BinsTile d (at + n) → BinsTile d at
 
--- a cell in use starts at an offset
+-- a cell in use starts at an offset o: among the cells from an offset of a bin to the bin's end, "negative when in use"
+pub data InCells (d : List ℕ) (end o : ℕ) : ℕ → Type 0 where
+  this-cell : o < end → Good (sizeAt d o .bytes) (end - o) → sizeAt d o .used ≡ true → InCells d end o o
+  later-cell : {at : ℕ} → at < end → Good (sizeAt d at .bytes) (end - at) → InCells d end o (at + sizeAt d at .bytes) → InCells d end o at
+
+-- and among those of the bins from an offset on
+pub data InBins (d : List ℕ) (o : ℕ) : ℕ → Type 0 where
+  this-bin : {at : ℕ} (n : ℕ) → Header d at n → InCells d (at + n) o (at + 32) → InBins d o at
+  later-bin : {at : ℕ} (n : ℕ) → Header d at n → InBins d o (at + n) → InBins d o at
+
+-- of all bins
 abbrev pub InUse : List ℕ → Offset → Type 0
-InUse d o = startsIn (layout d 0) (o .0) ≡ true
+InUse d o = InBins d (o .0) 0
 
 -- a cell that stands in the part from one offset to another, and is in use
 pub record CellIn (d : List ℕ) (low high o : ℕ) : Type 0 where
@@ -57,4 +67,4 @@ pub record InBin (d : List ℕ) (o : ℕ) : Type 0 where
 
 -- "bit b of byte j (lowest bit first) is set exactly when a cell in use starts at offset 64j + 8b", of every offset in the bins data
 abbrev pub Mapped : List ℕ → List ℕ → Type 0
-Mapped d m = (o : ℕ) → o < length d → isMarked m o ≡ startsIn (layout d 0) o
+Mapped d m = (o : Offset) → o .0 < length d → (isMarked m (o .0) ≡ true) ↔ InUse d o

@@ -132,7 +132,7 @@ module _ (d : List ℕ) (hive : Hive) where
   pub few-keys : BinsTile d 0 → (n : ℕ) → TreeStands d hive n (hive .root) → length (keysIn d n (hive .root)) ≤ length d
   few-keys b n s =
       pigeonhole (length d) (keysIn d n (hive .root)) (each-once d hive n s)
-      (λ k i. let u = listed-stands n (hive .root) s k i .in-use in let w = wholly-inside d b (k .0) u in
+      (λ k i. let u = listed-stands n (hive .root) s k i .in-use in let w = wholly-inside d k u in
       omega (arith, w .inside .before, w .inside .some, w .header .inside))
 
   -- so their counts, added in 64 bits, are the listing's

@@ -1,4 +1,5 @@
--- "With a large enough work map, a hive is accepted exactly when it is clean and well formed."
+-- "Given a large enough work map, a hive is accepted exactly when it is clean and well formed by the published regf description as document 01
+-- condenses it". And what the report counts.
 use Prim.Native.Nat.{ℕ, _+_, _*_, _/_, _≤_}
 use native.Mathlib.Omega.{arith}
 use mathlib.Core.Path.{_≡_, refl, sym, _∙_}
@@ -12,8 +13,10 @@ use Rattle.cells.specs.declared.Surveyed.{Surveyed}
 use Rattle.cells.specs.declared.Surveyed.the-variants.{Tiled, Refused as Untiled}
 use Rattle.cells.specs.Tiling.{layout, surveyOf}
 use Rattle.cells.specs.Survey.{surveyAnswer, mapLeft}
+use Rattle.cells.specs.Tiled.{BinsTile}
+use Rattle.cells.specs.Counts.{binCount, cellsIn, usedBytes, freeBytes}
 use Rattle.cells.proofs.Fronts.{front-facts, front-good, survey-on}
-use Rattle.cells.proofs.Tiles.{tiled-exactly}
+use Rattle.cells.proofs.Tiles.{tiled-exactly, counts-are}
 use Rattle.cells.proofs.Mapped.{surveyed}
 use Rattle.tree.specs.declared.Checked.the-variants.{Accepted}
 use Rattle.tree.specs.declared.Listed.the-variants.{Start}
@@ -84,6 +87,13 @@ module _ (h m : List ℕ) where
       let s = surveyed h m (a .tally) (a .surveys) .1 in
       let w = accepted-formed e in
       rw (a .report) (s .adds ∙ bins-length (w .inside))
+
+  -- its bins, used and free bytes are those of the tiling, each by itself
+  pub report-sums : {r : Report} → checkAnswer h m ≡ Accepted r → (b : BinsTile (binsData h) 0)
+      → (r .bins ≡ binCount b) × (r .used ≡ usedBytes (cellsIn b)) × (r .free ≡ freeBytes (cellsIn b))
+  report-sums e b =
+      let a = accepted-as e in
+      rw (a .report) (counts-are (binsData h) b (surveyed h m (a .tally) (a .surveys) .1 .counts))
 
   -- the report's keys and values are those of the pre-order listing
   pub report-counts : {r : Report} → checkAnswer h m ≡ Accepted r → (r .keys ≡ length (keysOf h)) × (r .values ≡ valuesIn (binsData h) (keysOf h))
