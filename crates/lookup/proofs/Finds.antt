@@ -24,6 +24,7 @@ use Rattle.records.specs.Lists.{isRi, isLeaf, isList, leafChildren, leavesOf, c
 use Rattle.tree.specs.declared.Hive.{Hive}
 use Rattle.tree.specs.Tree.{nameAt}
 use Rattle.tree.specs.WellFormed.{ListStands, KeyStands, Ascends, more, TreeStands, key}
+use Rattle.tree.proofs.Facts.{signed-exactly, key-exactly, leaf-exactly, list-exactly}
 use Rattle.tree.proofs.Stands.{of-cell, of-leaf, of-key}
 use Rattle.lookup.specs.declared.Look.{Look}
 use Rattle.lookup.specs.declared.Look.the-variants.{Found, Missing, Faulty}
@@ -132,23 +133,23 @@ module _ (d x : List ℕ) where
 
 module _ (d : List ℕ) (hive : Hive) (tiles : BinsTile d 0) where
   pub key-good : (n : ℕ) (o : Offset) → TreeStands d hive n o → keyFault Header d [] o ≡ Sound
-  key-good (suc n) o (key s a ch tree) = of-key Header d [] (header-sound d tiles []) o (s .in-use) (s .record-good)
+  key-good (suc n) o (key s a ch tree) = of-key Header d [] (header-sound d tiles []) o (s .in-use) (key-exactly (dataAt d o) .1 (s .record-good))
 
   -- a list that stands, leaf by leaf
   pub list-head : (o : Offset) → ListStands d o → headFault Header d [] o ≡ Sound
   unfolding headFault
-  list-head o s = of-cell Header d [] (header-sound d tiles []) o (isList (dataAt d o)) _ (s .in-use) (s .record-good)
+  list-head o s = of-cell Header d [] (header-sound d tiles []) o (isList (dataAt d o)) _ (s .in-use) (list-exactly (dataAt d o) .1 (s .record-good))
 
   pub leaves-good : (o : Offset) → ListStands d o → (l : Offset) → List·Memᴰ l (leavesOf d o) → leafFault Header d [] l ≡ Sound
   unfolding leavesOf isList
   leaves-good o s l i = by (isRi (dataAt d o)) refl
     where
       by : (t : Bool) → isRi (dataAt d o) ≡ t → leafFault Header d [] l ≡ Sound
-      by true e = of-leaf Header d [] (header-sound d tiles []) l (s .leaves e l i)
+      by true e = of-leaf Header d [] (header-sound d tiles []) l (s .leaves (signed-exactly (dataAt d o) 114 105 .0 e) l i)
       by false e =
-          let good : isLeaf (dataAt d o) ≡ true = rw e at (s .record-good) in
+          let good : isLeaf (dataAt d o) ≡ true = rw e at (list-exactly (dataAt d o) .1 (s .record-good)) in
           let j : List·Memᴰ l (o ∷ []) = rw e at i in
-          ⊎-elim (λ q. subst (λ (y : Offset). leafFault Header d [] y ≡ Sound) (sym q) (of-leaf Header d [] (header-sound d tiles []) o (record { in-use = s .in-use; record-good = good })))
+          ⊎-elim (λ q. subst (λ (y : Offset). leafFault Header d [] y ≡ Sound) (sym q) (of-leaf Header d [] (header-sound d tiles []) o (record { in-use = s .in-use; record-good = leaf-exactly (dataAt d o) .0 good })))
           (λ k. absurd (List·Memᴰ·not-nil k)) (List·Memᴰ·cases-cons j)
 
   -- below a key that stands, its children are searched as one list

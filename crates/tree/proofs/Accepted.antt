@@ -14,6 +14,7 @@ use Rattle.fields.specs.declared.Fault.the-variants.{Order, Parent}
 use Rattle.fields.specs.Faults.{flaw, unless}
 use Rattle.fields.proofs.Firsts.{both, sound, held, holds}
 use Rattle.cells.specs.declared.Rule.the-variants.{Map}
+use Rattle.cells.specs.Named.{dataAt}
 use Rattle.cells.specs.Tiled.{BinsTile, Mapped}
 use Rattle.cells.proofs.Mapped.{in-use-sound}
 use Rattle.names.specs.declared.Order.{Order as Ordering}
@@ -30,6 +31,7 @@ use Rattle.tree.specs.declared.Listed.{Listed}
 use Rattle.tree.specs.declared.Listed.the-variants.{Start, First, After}
 use Rattle.tree.specs.Tree.{Free, _after_, chargeOf, nameAt, parentFault, isBefore, orderFault, placeFault, hashFault, levelFault, totalFault, restFault, ownFault, keyCharge, listCharge, treeCharge, levels, rootChild}
 use Rattle.tree.specs.WellFormed.{KeyStands, ChildStands, Ascends, none, more, TreeStands, key}
+use Rattle.tree.proofs.Facts.{key-exactly}
 use Rattle.tree.proofs.Stands.{values-of, of-values, lists-of, of-lists, key-of, of-key}
 use Rattle.tree.proofs.Charges.{both-free, free, key-parts, key-zero, key-free, lists-free, tree-free}
 
@@ -99,7 +101,7 @@ module _ (d m : List ℕ) (hive : Hive) (tiles : BinsTile d 0) (mapped : Mapped 
       let r = key-of d m tiles mapped (c .at) (x .0) in
       record {
         in-use = r .0;
-        record-good = r .1;
+        record-good = key-exactly (dataAt d (c .at)) .0 (r .1);
         values = values-of d m tiles mapped (hive .minor) (keyOf d (c .at)) (o .values);
         lists = lists-of d m tiles mapped (keyOf d (c .at)) (o .lists);
         total = total-of (keyOf d (c .at)) (c .at) (o .total);
@@ -174,7 +176,7 @@ module _ (d m : List ℕ) (hive : Hive) (tiles : BinsTile d 0) (mapped : Mapped 
       → hashFault d (keyOf d (c .at)) c ≡ Sound → keyCharge d m hive (suc n) c l ≡ Free
   unfolding keyCharge ownFault restFault levelFault
   of-stands n c l s p h =
-      free _ _ (ap chargeOf (of-key Map d m (in-use-sound d tiles m mapped) (c .at) (s .in-use) (s .record-good)))
+      free _ _ (ap chargeOf (of-key Map d m (in-use-sound d tiles m mapped) (c .at) (s .in-use) (key-exactly (dataAt d (c .at)) .1 (s .record-good))))
       (ap chargeOf
       (sound _ _ p
       (sound _ _ h

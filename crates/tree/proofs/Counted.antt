@@ -18,8 +18,8 @@ use Rattle.records.specs.Lists.{children}
 use Rattle.tree.specs.declared.Count.{Count}
 use Rattle.tree.specs.declared.Hive.{Hive}
 use Rattle.tree.specs.Tree.{keysIn, valuesIn, tally, tallied}
-use Rattle.tree.specs.WellFormed.{KeyStands, TreeStands, key}
-use Rattle.tree.proofs.Once.{Once, cons, in-joined, each-once, same-offset}
+use Rattle.tree.specs.WellFormed.{KeyStands, TreeStands, key, Once, cons}
+use Rattle.tree.proofs.Once.{in-joined, each-once, same-offset}
 
 abbrev plus : Bool → ℕ → ℕ
 plus true n = suc n

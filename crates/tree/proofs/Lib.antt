@@ -1,3 +1,4 @@
+pub mod Facts
 pub mod Stands
 pub mod Charges
 pub mod Accepted

@@ -15,12 +15,7 @@ use Rattle.records.specs.Keys.{keyOf}
 use Rattle.records.specs.Lists.{children}
 use Rattle.tree.specs.declared.Hive.{Hive}
 use Rattle.tree.specs.Tree.{nameAt, joined, keysIn}
-use Rattle.tree.specs.WellFormed.{ChildStands, Ascends, more, TreeStands, key}
-
--- none is there twice
-pub data Once : List Offset → Type 0 where
-  nil : Once []
-  cons : {c : Offset} {cs : List Offset} → (List·Memᴰ c cs → ⊥) → Once cs → Once (c ∷ cs)
+use Rattle.tree.specs.WellFormed.{ChildStands, Ascends, more, TreeStands, key, Once, nil, cons}
 
 pub same-offset : (a b : Offset) → a .0 ≡ b .0 → a ≡ b
 same-offset a b e = ap (λ (n : ℕ). let o : Offset = record { 0 = n } in o) e
@@ -158,6 +153,6 @@ module _ (d : List ℕ) (hive : Hive) where
           let v : b .steps ≡ b′ .steps = omega arith in
           sym (b .to) ∙ ap (λ (x : ℕ). climb x k) v ∙ b′ .to
 
-  -- "no key twice": each key cell once
+  -- from the root: no key twice
   pub each-once : (n : ℕ) → TreeStands d hive n (hive .root) → Once (keysIn d n (hive .root))
   each-once n s = once n (hive .root) 0 s depth-root

@@ -28,6 +28,7 @@ use Rattle.values.specs.Records.{isValue, valueFault, dataIn}
 use Rattle.values.specs.Segments.{roomFault, isDb, dbFault, segmentsOf, segmentFault, segmentListFault, segmentsFault, dataFault}
 use Rattle.values.specs.Lists.{valuesOf, valueListFault, wholeValueFault, valuesFault}
 use Rattle.tree.specs.WellFormed.{Room, Segmented, DataStands, ValueStands, ValuesStand, LeafStands, ListStands}
+use Rattle.tree.proofs.Facts.{signed-exactly, leaf-exactly, list-exactly, value-exactly, db-exactly}
 
 -- a test that is made only where a number is not 0
 unless-zero : (n : ℕ) {v : Verdict} → cond (eqb n 0) Sound v ≡ Sound → (n ≡ 0 → ⊥) → v ≡ Sound
@@ -53,7 +54,7 @@ module _ (r : Rule) (d m : List ℕ) (named : (o : Offset) → InUse d o → cel
   pub of-segments : (o : Offset) (n : ℕ) → Segmented d o n → segmentsFault r d m o n ≡ Sound
   unfolding segmentsFault segmentListFault dbFault segmentFault
   of-segments o n s =
-      sound _ _ (sound _ _ (of-cell o (isDb (dataAt d o) n) (flaw Record o) (s .in-use) (s .db)) (of-room _ _ (s .list)))
+      sound _ _ (sound _ _ (of-cell o (isDb (dataAt d o) n) (flaw Record o) (s .in-use) (db-exactly (dataAt d o) n .1 (s .db))) (of-room _ _ (s .list)))
       (each-over (segmentFault r d m) (segmentsOf d o n) (λ x i. of-room (x .at) (x .len) (s .each x i)))
 
   pub of-data : (x : ValueData) → DataStands d x → dataFault r d m x ≡ Sound
@@ -66,7 +67,7 @@ module _ (r : Rule) (d m : List ℕ) (named : (o : Offset) → InUse d o → cel
     pub of-value : (v : Offset) → ValueStands d minor v → wholeValueFault r d m minor v ≡ Sound
     unfolding wholeValueFault valueFault
     of-value v s =
-        sound _ _ (of-cell v (isValue (dataAt d v)) (flaw Record v) (s .in-use) (s .record-good)) (of-data (dataIn d minor v) (s .held))
+        sound _ _ (of-cell v (isValue (dataAt d v)) (flaw Record v) (s .in-use) (value-exactly (dataAt d v) .1 (s .record-good))) (of-data (dataIn d minor v) (s .held))
 
     pub of-values : (k : Key) → ValuesStand d minor k → valuesFault r d m minor k ≡ Sound
     unfolding valuesFault valueListFault
@@ -76,15 +77,15 @@ module _ (r : Rule) (d m : List ℕ) (named : (o : Offset) → InUse d o → cel
 
   pub of-leaf : (o : Offset) → LeafStands d o → leafFault r d m o ≡ Sound
   unfolding leafFault
-  of-leaf o s = of-cell o (isLeaf (dataAt d o)) (flaw Record o) (s .in-use) (s .record-good)
+  of-leaf o s = of-cell o (isLeaf (dataAt d o)) (flaw Record o) (s .in-use) (leaf-exactly (dataAt d o) .1 (s .record-good))
 
   pub of-list : (o : Offset) → ListStands d o → listFault r d m o ≡ Sound
   unfolding listFault headFault
   of-list o s =
-      sound _ _ (of-cell o (isList (dataAt d o)) (flaw Record o) (s .in-use) (s .record-good)) (by (isRi (dataAt d o)) refl)
+      sound _ _ (of-cell o (isList (dataAt d o)) (flaw Record o) (s .in-use) (list-exactly (dataAt d o) .1 (s .record-good))) (by (isRi (dataAt d o)) refl)
     where
       by : (t : Bool) → isRi (dataAt d o) ≡ t → cond (isRi (dataAt d o)) (faultOver (leafFault r d m) (leavesOf d o)) Sound ≡ Sound
-      by true e = rw e (each-over (leafFault r d m) (leavesOf d o) (λ l i. of-leaf l (s .leaves e l i)))
+      by true e = rw e (each-over (leafFault r d m) (leavesOf d o) (λ l i. of-leaf l (s .leaves (signed-exactly (dataAt d o) 114 105 .0 e) l i)))
       by false e = rw e
 
   pub of-lists : (k : Key) → ((k .subkeys ≡ 0 → ⊥) → ListStands d (k .list)) → listsFault r d m k ≡ Sound
@@ -113,7 +114,7 @@ module _ (d m : List ℕ) (tiles : BinsTile d 0) (mapped : Mapped d m) where
       let z = cell-of o (isDb (dataAt d o) n) (flaw Record o) (y .0) in
       record {
         in-use = z .0;
-        db = z .1;
+        db = db-exactly (dataAt d o) n .0 (z .1);
         list = room-of _ _ (y .1);
         each = λ s i. room-of (s .at) (s .len) (over-each (segmentFault Map d m) (segmentsOf d o n) (x .1) s i);
       }
@@ -130,7 +131,7 @@ module _ (d m : List ℕ) (tiles : BinsTile d 0) (mapped : Mapped d m) where
     value-of v e =
         let x = both (valueFault Map d m v) _ e in
         let y = cell-of v (isValue (dataAt d v)) (flaw Record v) (x .0) in
-        record { in-use = y .0; record-good = y .1; held = data-of (dataIn d minor v) (x .1) }
+        record { in-use = y .0; record-good = value-exactly (dataAt d v) .0 (y .1); held = data-of (dataIn d minor v) (x .1) }
 
     pub values-of : (k : Key) → valuesFault Map d m minor k ≡ Sound → ValuesStand d minor k
     unfolding valuesFault valueListFault
@@ -143,7 +144,7 @@ module _ (d m : List ℕ) (tiles : BinsTile d 0) (mapped : Mapped d m) where
 
   leaf-of : (o : Offset) → leafFault Map d m o ≡ Sound → LeafStands d o
   unfolding leafFault
-  leaf-of o e = let x = cell-of o (isLeaf (dataAt d o)) (flaw Record o) e in record { in-use = x .0; record-good = x .1 }
+  leaf-of o e = let x = cell-of o (isLeaf (dataAt d o)) (flaw Record o) e in record { in-use = x .0; record-good = leaf-exactly (dataAt d o) .0 (x .1) }
 
   list-of : (o : Offset) → listFault Map d m o ≡ Sound → ListStands d o
   unfolding listFault headFault
@@ -152,8 +153,8 @@ module _ (d m : List ℕ) (tiles : BinsTile d 0) (mapped : Mapped d m) where
       let y = cell-of o (isList (dataAt d o)) (flaw Record o) (x .0) in
       record {
         in-use = y .0;
-        record-good = y .1;
-        leaves = λ r l i. leaf-of l (over-each (leafFault Map d m) (leavesOf d o) (rw r at (x .1)) l i);
+        record-good = list-exactly (dataAt d o) .0 (y .1);
+        leaves = λ r l i. leaf-of l (over-each (leafFault Map d m) (leavesOf d o) (rw (signed-exactly (dataAt d o) 114 105 .1 r) at (x .1)) l i);
       }
 
   pub lists-of : (k : Key) → listsFault Map d m k ≡ Sound → (k .subkeys ≡ 0 → ⊥) → ListStands d (k .list)

@@ -1,4 +1,4 @@
--- What a well formed hive is, said without the order of tests and without the walk: "cells tile the bins; the keys reached from the root form a
+-- What a well formed hive is, said without the order of tests and without the walk: "cells tile the bins, and the keys reached from the root form a
 -- sorted tree". d is the bins data.
 use Prim.Native.Nat.{ℕ, suc, _+_, _*_, _≤_}
 use mathlib.Core.Path.{_≡_}
@@ -14,15 +14,16 @@ use Rattle.names.specs.Comparison.{compare}
 use Rattle.names.specs.Hashing.{hashOf}
 use Rattle.records.specs.declared.Child.{Child}
 use Rattle.records.specs.declared.Key.{Key}
-use Rattle.records.specs.Keys.{isKey, keyOf}
-use Rattle.records.specs.Lists.{isRi, isList, isLeaf, leavesOf, children}
+use Rattle.records.specs.Keys.{keyOf}
+use Rattle.records.specs.Lists.{leavesOf, children}
 use Rattle.values.specs.declared.Segment.{Segment}
 use Rattle.values.specs.declared.ValueData.{ValueData}
 use Rattle.values.specs.declared.ValueData.the-variants.{Inline, OneCell, Segments}
-use Rattle.values.specs.Records.{isValue, dataIn}
-use Rattle.values.specs.Segments.{segmentsFor, isDb, segmentList, segmentsOf}
+use Rattle.values.specs.Records.{dataIn}
+use Rattle.values.specs.Segments.{segmentsFor, segmentList, segmentsOf}
 use Rattle.values.specs.Lists.{valuesOf}
 use Rattle.tree.specs.declared.Hive.{Hive}
+use Rattle.tree.specs.Facts.{Signed, KeyRecord, LeafRecord, ListRecord, ValueRecord, DbRecord}
 use Rattle.tree.specs.Tree.{nameAt, levels, hiveOf}
 
 -- an offset names a cell in use with room for so many bytes
@@ -30,10 +31,11 @@ pub record Room (d : List ℕ) (o : Offset) (n : ℕ) : Type 0 where
   pub in-use : InUse d o
   pub room : n ≤ length (dataAt d o)
 
--- "Over 16,344 with minor 4 or 5: the cell holds `db` .."
+-- "Over 16,344 with minor 4 or 5: the cell holds `db`, segment count at 2, offset of the segment list at 4; count is size / 16,344 rounded up, each
+-- segment but the last holds 16,344 bytes."
 pub record Segmented (d : List ℕ) (o : Offset) (size : ℕ) : Type 0 where
   pub in-use : InUse d o
-  pub db : isDb (dataAt d o) size ≡ true
+  pub db : DbRecord (dataAt d o) (segmentsFor size)
   pub list : Room d (segmentList d o) (4 * segmentsFor size)
   pub each : (s : Segment) → List·Memᴰ s (segmentsOf d o size) → Room d (s .at) (s .len)
 
@@ -45,7 +47,7 @@ DataStands d (Segments o len) = Segmented d o len
 
 pub record ValueStands (d : List ℕ) (minor : ℕ) (v : Offset) : Type 0 where
   pub in-use : InUse d v
-  pub record-good : isValue (dataAt d v) ≡ true
+  pub record-good : ValueRecord (dataAt d v)
   pub held : DataStands d (dataIn d minor v)
 
 -- the values of a key
@@ -55,18 +57,18 @@ pub record ValuesStand (d : List ℕ) (minor : ℕ) (k : Key) : Type 0 where
 
 pub record LeafStands (d : List ℕ) (o : Offset) : Type 0 where
   pub in-use : InUse d o
-  pub record-good : isLeaf (dataAt d o) ≡ true
+  pub record-good : LeafRecord (dataAt d o)
 
 -- the list of a key: a leaf, or an `ri` of leaves
 pub record ListStands (d : List ℕ) (o : Offset) : Type 0 where
   pub in-use : InUse d o
-  pub record-good : isList (dataAt d o) ≡ true
-  pub leaves : isRi (dataAt d o) ≡ true → (l : Offset) → List·Memᴰ l (leavesOf d o) → LeafStands d l
+  pub record-good : ListRecord (dataAt d o)
+  pub leaves : Signed (dataAt d o) 114 105 → (l : Offset) → List·Memᴰ l (leavesOf d o) → LeafStands d l
 
 -- a key by itself: its record, its values with their data, its lists and the total
 pub record KeyStands (d : List ℕ) (minor : ℕ) (o : Offset) : Type 0 where
   pub in-use : InUse d o
-  pub record-good : isKey (dataAt d o) ≡ true
+  pub record-good : KeyRecord (dataAt d o)
   pub values : ValuesStand d minor (keyOf d o)
   pub lists : (keyOf d o .subkeys ≡ 0 → ⊥) → ListStands d (keyOf d o .list)
   pub total : length (children d o) ≡ keyOf d o .subkeys
@@ -90,12 +92,17 @@ pub data TreeStands (d : List ℕ) (hive : Hive) : ℕ → Offset → Type 0 whe
       → ((c : Child) → List·Memᴰ c (children d at) → TreeStands d hive n (c .at))
       → TreeStands d hive (suc n) at
 
+-- a listing that holds no key twice
+pub data Once : List Offset → Type 0 where
+  nil : Once []
+  cons : {c : Offset} {cs : List Offset} → (List·Memᴰ c cs → ⊥) → Once cs → Once (c ∷ cs)
+
 -- the whole
 pub record WellFormed (h : List ℕ) : Type 0 where
   pub tiled : BinsTile (binsData h) 0
   pub tree : TreeStands (binsData h) (hiveOf h) levels (hiveOf h .root)
 
--- "a hive is accepted exactly when it is clean and well formed": clean, with its bins inside the file
+-- "a hive is accepted exactly when it is clean and well formed by the published regf description": clean, with its bins inside the file
 pub record CleanAndWellFormed (h : List ℕ) : Type 0 where
   pub is-clean : clean (sector h) ≡ true
   pub inside : 4096 + binsOf (sector h) ≤ length h
