@@ -95,7 +95,7 @@ module _ (h us x out : List ℕ) where
           cut true p = absurd (let s = rw (q, p) at e in let z : _≡_ {A = ℕ} 0 1 = cc in omega arith)
           cut false p = rw (q, p)
 
-  -- "View and copy agree": where the view answers, a copy with room for it writes the view's bytes
+  -- view and copy agree: where the view answers, a copy with room for it writes the view's bytes
   module _ {i : Info} (e : viewAnswer h us x ≡ At i) where
     pub views-copied : i .len ≤ length out → copyOut h us x out ≡ viewBytes h us x ++ drop (i .len) out
     views-copied p = copy-written h us x out (view-info-same h us x e) p ∙ ap (λ (s : List ℕ). s ++ drop (i .len) out) (sym (view-is h us x e))
@@ -104,7 +104,7 @@ module _ (h us x out : List ℕ) where
     view-copy p =
         views-copied (omega arith) ∙ ap (λ (s : List ℕ). viewBytes h us x ++ s) (drop-all out (i .len) (omega arith)) ∙ append-nil (viewBytes h us x)
 
-  -- "the copy of segments is the concatenation"
+  -- the copy of segments is their bytes, one after the other
   pub segments-copied : {i : Info} {o : Offset} {n : ℕ} → infoAnswer h us x ≡ At i → i .content ≡ Segments o n → i .len ≤ length out
       → copyOut h us x out ≡ joinedBytes (binsData h) (segmentsOf (binsData h) o n) ++ drop (i .len) out
   unfolding bytesOf

@@ -1,11 +1,12 @@
--- "In an accepted hive a path finds its key and is refused exactly if the tree holds none."
+-- "In an accepted hive a path finds its key, and is refused exactly if the tree holds no such key"
 use Prim.Native.Nat.{ℕ}
 use native.Mathlib.Omega.{arith}
 use mathlib.Core.Path.{_≡_, refl, sym, ap, _∙_}
-use mathlib.Core.Bool.{true, false}
+use mathlib.Core.Bool.{Bool, true, false}
 use mathlib.Core.Logic.{_↔_}
 use mathlib.Core.List.{List}
 use Rattle.fields.specs.declared.Offset.{Offset}
+use Rattle.fields.specs.declared.Refusal.{Refusal}
 use Rattle.fields.specs.declared.Verdict.the-variants.{Sound, Flawed}
 use Rattle.fields.specs.declared.Fault.the-variants.{PathParts, NoKey}
 use Rattle.fields.specs.Faults.{flaw, nowhere, refusalOf}
@@ -22,6 +23,7 @@ use Rattle.lookup.specs.Search.{descend, lookupKey}
 use Rattle.lookup.specs.Answers.{openFault, keyLook, keyFound, findAnswer}
 use Rattle.lookup.specs.Reach.{Holds}
 use Rattle.lookup.proofs.Finds.{key-good, found-holds, holds-found, never-faulty}
+use Rattle.lookup.proofs.Held.{held-path}
 
 module _ (h : List ℕ) (w : CleanAndWellFormed h) where
   -- in such a hive a path is looked up from the root with no fault before it but 16
@@ -84,16 +86,37 @@ found-look-is Missing e = absurd (let z : _≡_ {A = ℕ} 0 1 = cc in omega arit
 found-look-is (Faulty f) e = absurd (let z : _≡_ {A = ℕ} 0 1 = cc in omega arith)
 
 module _ (h : List ℕ) (w : CleanAndWellFormed h) (us : List ℕ) where
-  pub find-exactly : isPath us ≡ true → (o : Offset) → (findAnswer h us ≡ At o) ↔ Holds (binsData h) (hiveOf h .root) (partsOf us) o
+  -- 16 where the path is malformed
+  pub find-malformed : isPath us ≡ false → findAnswer h us ≡ Refused (refusalOf (flaw PathParts nowhere))
   unfolding findAnswer
-  find-exactly p o = (λ e. look-exactly h w us p o .0 (found-look-is _ e), λ r. ap keyFound (look-exactly h w us p o .1 r))
+  find-malformed p = ap keyFound (look-malformed h w us p)
 
-  -- refused with 17 where the tree holds none, with 16 where the path is malformed, and never otherwise
+  found-path : {o : Offset} → findAnswer h us ≡ At o → isPath us ≡ true
+  found-path {o} e = by (isPath us) refl
+    where
+      by : (t : Bool) → isPath us ≡ t → isPath us ≡ true
+      by true p = p
+      by false p = absurd (let q = sym (find-malformed p) ∙ e in let z : _≡_ {A = ℕ} 0 1 = cc in omega arith)
+
+  -- a key is found exactly when the tree holds it there, whatever the path
+  pub find-exactly : (o : Offset) → (findAnswer h us ≡ At o) ↔ Holds (binsData h) (hiveOf h .root) (partsOf us) o
+  unfolding findAnswer
+  find-exactly o = (
+    λ e. look-exactly h w us (found-path e) o .0 (found-look-is (keyLook h us) e),
+    λ r. ap keyFound (look-exactly h w us (held-path h w us r) o .1 r),
+  )
+
+  -- 17 where the tree holds none under a path
   pub find-none : isPath us ≡ true → ((o : Offset) → Holds (binsData h) (hiveOf h .root) (partsOf us) o → ⊥)
       → findAnswer h us ≡ Refused (refusalOf (flaw NoKey nowhere))
   unfolding findAnswer
   find-none p f = ap keyFound (look-none h w us p .1 f)
 
-  pub find-malformed : isPath us ≡ false → findAnswer h us ≡ Refused (refusalOf (flaw PathParts nowhere))
-  unfolding findAnswer
-  find-malformed p = ap keyFound (look-malformed h w us p)
+  -- refused exactly if the tree holds no such key, whatever the path
+  pub find-refuses : ((r : Refusal) × (findAnswer h us ≡ Refused r)) ↔ ((o : Offset) → Holds (binsData h) (hiveOf h .root) (partsOf us) o → ⊥)
+  find-refuses = (λ x o r. let q = sym (find-exactly o .1 r) ∙ x .1 in let z : _≡_ {A = ℕ} 0 1 = cc in omega arith, λ f. by f (isPath us) refl)
+    where
+      by : ((o : Offset) → Holds (binsData h) (hiveOf h .root) (partsOf us) o → ⊥) → (t : Bool) → isPath us ≡ t
+          → (r : Refusal) × (findAnswer h us ≡ Refused r)
+      by f true p = (refusalOf (flaw NoKey nowhere), find-none p f)
+      by f false p = (refusalOf (flaw PathParts nowhere), find-malformed p)

@@ -1,6 +1,6 @@
 -- Lookup in a hive that is clean and well formed, so in every hive that the check accepts: each call answers what the tree holds, and neither 11
 -- nor 12 can occur.
-use Prim.Native.Nat.{ℕ, suc, _+_, _≤_}
+use Prim.Native.Nat.{ℕ, suc, _+_, _<_, _≤_}
 use native.Mathlib.Omega.{arith}
 use mathlib.Core.Path.{_≡_, refl, sym, ap, _∙_}
 use mathlib.Core.Bool.{Bool, true, false, cond}
@@ -9,7 +9,7 @@ use mathlib.Core.List.{List, [], _∷_, _++_, List·Memᴰ, List·Memᴰ·head, 
 use lib.Dec.{eqb}
 use lib.ListN.{length, take, drop}
 use borrow.Author.Tests.{eqb-true}
-use Rattle.fields.specs.declared.Fault.the-variants.{PathParts, NoKey, NoValue, Segmented}
+use Rattle.fields.specs.declared.Fault.the-variants.{PathParts, NoKey, NoValue, Segmented, OutputShort}
 use Rattle.fields.specs.declared.Offset.{Offset}
 use Rattle.fields.specs.declared.Refusal.{Refusal}
 use Rattle.fields.specs.declared.Verdict.the-variants.{Sound}
@@ -30,19 +30,20 @@ use Rattle.tree.specs.declared.Report.{Report}
 use Rattle.tree.specs.Tree.{levels, hiveOf, keysOf, checkAnswer}
 use Rattle.tree.specs.WellFormed.{CleanAndWellFormed, ValuesStand, KeyStands, TreeStands, key}
 use Rattle.tree.proofs.Exactly.{accepted-formed}
+use Rattle.lookup.specs.declared.Copied.the-variants.{Done, Refused as Uncopied}
 use Rattle.lookup.specs.declared.Info.{Info}
 use Rattle.lookup.specs.declared.KeyFound.the-variants.{At, Refused}
 use Rattle.lookup.specs.declared.Look.the-variants.{Found}
 use Rattle.lookup.specs.declared.ValueFound.the-variants.{At as ValueAt, Refused as Unvalued}
 use Rattle.lookup.specs.Paths.{partsOf, isPath}
-use Rattle.lookup.specs.Answers.{keyLook, findAnswer, valueLook, infoOf, viewFault, infoAnswer, viewAnswer, viewBytes, copyOut}
+use Rattle.lookup.specs.Answers.{keyLook, findAnswer, valueLook, infoOf, viewFault, infoAnswer, viewAnswer, viewBytes, copyAnswer, copyOut}
 use Rattle.lookup.specs.Reach.{Holds, here, below, FirstNamed, first, later}
-use Rattle.lookup.proofs.Exact.{find-exactly, find-none, find-malformed, found-look-is}
+use Rattle.lookup.proofs.Exact.{find-malformed, find-exactly, find-none, find-refuses, found-look-is}
 use Rattle.lookup.proofs.Listed.{FoundAgain, listed-found}
 use Rattle.lookup.proofs.ValueFinds.{value-exactly, value-none, data-good}
 use Rattle.lookup.proofs.Value_searches.{value-below}
 use Rattle.lookup.proofs.Value_answers.{info-missing}
-use Rattle.lookup.proofs.Answered.{content-as, info-answered, copy-written}
+use Rattle.lookup.proofs.Answered.{content-as, info-answered, copy-short, copy-done, copy-written}
 use Rattle.lookup.proofs.Agree.{view-is}
 
 -- a key that is held under a path stands
@@ -54,6 +55,13 @@ holds-stands d hive (suc n) o e (x ∷ xs) (key s a ch tree) (below {c = c} i q 
 first-in : {d : List ℕ} {minor : ℕ} {x : List ℕ} {vs : List Offset} {v : Offset} → FirstNamed d minor x vs v → List·Memᴰ v vs
 first-in (first p) = List·Memᴰ·head refl
 first-in (later p f) = List·Memᴰ·tail (first-in f)
+
+-- data that are not segmented can be viewed
+unsegmented : (v : Offset) (y : ValueData) → ((a : Offset) (n : ℕ) → y ≡ Segments a n → ⊥) → viewFault v y ≡ Sound
+unfolding viewFault
+unsegmented v (Inline at len) f = refl
+unsegmented v (OneCell o len) f = refl
+unsegmented v (Segments o len) f = absurd (f o len refl)
 
 module _ (h : List ℕ) (w : CleanAndWellFormed h) (us : List ℕ) where
   -- ---- keys
@@ -72,8 +80,7 @@ module _ (h : List ℕ) (w : CleanAndWellFormed h) (us : List ℕ) where
           let q = sym (find-malformed h w us p) ∙ e in
           inl (p, let z : refusalOf (flaw PathParts nowhere) ≡ f = cc in sym z)
       by true p =
-          let none : (o : Offset) → Holds (binsData h) (hiveOf h .root) (partsOf us) o → ⊥ =
-          λ o r. let q = sym (find-exactly h w us p o .1 r) ∙ e in let z : _≡_ {A = ℕ} 0 1 = cc in omega arith in
+          let none = find-refuses h w us .0 (f, e) in
           let q = sym (find-none h w us p none) ∙ e in
           inr (p, none, let z : refusalOf (flaw NoKey nowhere) ≡ f = cc in sym z)
 
@@ -83,16 +90,9 @@ module _ (h : List ℕ) (w : CleanAndWellFormed h) (us : List ℕ) where
     unfolding findAnswer
     at = found-look-is (keyLook h us) found
 
-    path : isPath us ≡ true
-    path = by (isPath us) refl
-      where
-        by : (t : Bool) → isPath us ≡ t → isPath us ≡ true
-        by true p = p
-        by false p = absurd (let q = sym (find-malformed h w us p) ∙ found in let z : _≡_ {A = ℕ} 0 1 = cc in omega arith)
-
     stands : ValuesStand (binsData h) (minorOf (sector h)) (keyOf (binsData h) o)
     stands =
-        holds-stands (binsData h) (hiveOf h) levels (hiveOf h .root) o (partsOf us) (w .formed .tree) (find-exactly h w us path o .0 found) .values
+        holds-stands (binsData h) (hiveOf h) levels (hiveOf h .root) o (partsOf us) (w .formed .tree) (find-exactly h w us o .0 found) .values
 
     module _ (x : List ℕ) where
       look-first : {v : Offset} → FirstNamed (binsData h) (minorOf (sector h)) x (valuesOf (binsData h) (keyOf (binsData h) o)) v → valueLook h us x ≡ Found v
@@ -140,15 +140,21 @@ module _ (h : List ℕ) (w : CleanAndWellFormed h) (us : List ℕ) where
 
       -- ---- the bytes of the first value of that name
       module _ (v : Offset) (named : FirstNamed (binsData h) (minorOf (sector h)) x (valuesOf (binsData h) (keyOf (binsData h) o)) v) where
-        viewed : viewFault v (dataIn (binsData h) (minorOf (sector h)) v) ≡ Sound
+        view-sound : viewFault v (dataIn (binsData h) (minorOf (sector h)) v) ≡ Sound
             → viewAnswer h us x ≡ ValueAt (infoOf (valueOf (binsData h) (minorOf (sector h)) v))
         unfolding viewAnswer
-        viewed q = rw (look-first named, on (viewFault v (dataIn (binsData h) (minorOf (sector h)) v)) (dataFault Header (binsData h) [] (dataIn (binsData h) (minorOf (sector h)) v)) q, whole named)
+        view-sound q = rw (look-first named, on (viewFault v (dataIn (binsData h) (minorOf (sector h)) v)) (dataFault Header (binsData h) [] (dataIn (binsData h) (minorOf (sector h)) v)) q, whole named)
 
         shows : viewFault v (dataIn (binsData h) (minorOf (sector h)) v) ≡ Sound → viewBytes h us x ≡ bytesOf (binsData h) (dataIn (binsData h) (minorOf (sector h)) v)
         shows q =
-            view-is h us x (viewed q)
+            view-is h us x (view-sound q)
             ∙ ap (bytesOf (binsData h)) (content-as (binsData h) (minorOf (sector h)) (infoOf (valueOf (binsData h) (minorOf (sector h)) v)) v refl)
+
+        -- data that are not segmented are answered, with the record's facts and bytes
+        pub viewed : ((a : Offset) (n : ℕ) → dataIn (binsData h) (minorOf (sector h)) v ≡ Segments a n → ⊥)
+            → (viewAnswer h us x ≡ ValueAt (infoOf (valueOf (binsData h) (minorOf (sector h)) v)))
+            × (viewBytes h us x ≡ bytesOf (binsData h) (dataIn (binsData h) (minorOf (sector h)) v))
+        viewed f = let q = unsegmented v (dataIn (binsData h) (minorOf (sector h)) v) f in (view-sound q, shows q)
 
         -- inline: the bytes at 8 of the record
         pub inline-viewed : (a : Offset) (n : ℕ) → dataIn (binsData h) (minorOf (sector h)) v ≡ Inline a n → viewBytes h us x ≡ take n (drop (a .0) (binsData h))
@@ -170,15 +176,27 @@ module _ (h : List ℕ) (w : CleanAndWellFormed h) (us : List ℕ) where
         unfolding viewAnswer viewBytes viewFault _next_
         segments-unviewed a n e = (rw (look-first named, e), rw (look-first named, e))
 
-        -- the copy, of each case
+        -- the copy, of each case: where there is room it is done, with the data's length; where there is not it is 20
+        content : infoOf (valueOf (binsData h) (minorOf (sector h)) v) .content ≡ dataIn (binsData h) (minorOf (sector h)) v
+        content = content-as (binsData h) (minorOf (sector h)) (infoOf (valueOf (binsData h) (minorOf (sector h)) v)) v refl
+
+        pub copy-says : (out : List ℕ) → lengthOf (dataIn (binsData h) (minorOf (sector h)) v) ≤ length out
+            → copyAnswer h us x (length out) ≡ Done (lengthOf (dataIn (binsData h) (minorOf (sector h)) v))
+        unfolding infoOf
+        copy-says out p = copy-done h us x out (info-first named) (rw (← content) at p) ∙ ap (λ (y : ValueData). Done (lengthOf y)) content
+
+        pub copy-20 : (out : List ℕ) → length out < lengthOf (dataIn (binsData h) (minorOf (sector h)) v)
+            → copyAnswer h us x (length out) ≡ Uncopied (refusalOf (flaw OutputShort nowhere))
+        unfolding infoOf
+        copy-20 out p = copy-short h us x out (info-first named) (rw (← content) at p)
+
         pub copied : (out : List ℕ) → lengthOf (dataIn (binsData h) (minorOf (sector h)) v) ≤ length out
             → copyOut h us x out
             ≡ bytesOf (binsData h) (dataIn (binsData h) (minorOf (sector h)) v) ++ drop (lengthOf (dataIn (binsData h) (minorOf (sector h)) v)) out
         unfolding infoOf
         copied out p =
-            let c = content-as (binsData h) (minorOf (sector h)) (infoOf (valueOf (binsData h) (minorOf (sector h)) v)) v refl in
-            copy-written h us x out (info-first named) (rw (← c) at p)
-            ∙ ap (λ (y : ValueData). bytesOf (binsData h) y ++ drop (lengthOf y) out) c
+            copy-written h us x out (info-first named) (rw (← content) at p)
+            ∙ ap (λ (y : ValueData). bytesOf (binsData h) y ++ drop (lengthOf y) out) content
 
         pub segments-copied : (a : Offset) (n : ℕ) → dataIn (binsData h) (minorOf (sector h)) v ≡ Segments a n → (out : List ℕ) → n ≤ length out
             → copyOut h us x out ≡ joinedBytes (binsData h) (segmentsOf (binsData h) a n) ++ drop n out
@@ -190,10 +208,10 @@ module _ (h m : List ℕ) {r : Report} (accepted : checkAnswer h m ≡ Accepted 
   formed : CleanAndWellFormed h
   formed = accepted-formed h m accepted
 
-  pub accepted-finds : (us : List ℕ) → isPath us ≡ true → (o : Offset) → (findAnswer h us ≡ At o) ↔ Holds (binsData h) (hiveOf h .root) (partsOf us) o
+  pub accepted-finds : (us : List ℕ) (o : Offset) → (findAnswer h us ≡ At o) ↔ Holds (binsData h) (hiveOf h .root) (partsOf us) o
   accepted-finds us = find-exactly h formed us
 
-  -- "No 11 or 12 can occur there."
+  -- no 11 or 12 can occur there
   pub accepted-refuses : (us : List ℕ) {f : Refusal} → findAnswer h us ≡ Refused f → (numberOf (f .fault) ≡ 16) ⊎ (numberOf (f .fault) ≡ 17)
   accepted-refuses us e =
       ⊎-elim (λ q. inl (ap (λ (g : Refusal). numberOf (g .fault)) (q .1))) (λ q. inr (ap (λ (g : Refusal). numberOf (g .fault)) (q .2)))

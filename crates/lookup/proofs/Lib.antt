@@ -9,6 +9,7 @@ pub mod Opens
 pub mod Value_searches
 pub mod Value_answers
 pub mod Answered
+pub mod Held
 pub mod Exact
 pub mod Listed
 pub mod Agree

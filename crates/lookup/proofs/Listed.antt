@@ -1,20 +1,15 @@
 -- "Every key of the pre-order listing is found again by the path of its names: same cell."
-use Prim.Native.Nat.{ℕ, zero, suc, _<_}
+use Prim.Native.Nat.{ℕ, zero, suc}
 use native.Mathlib.Omega.{arith}
 use mathlib.Core.Path.{_≡_, sym, subst}
 use mathlib.Core.Bool.{true}
 use mathlib.Core.Logic.{⊎-elim}
 use mathlib.Core.List.{List, [], _∷_, List·Memᴰ, List·Memᴰ·cases-cons, List·Memᴰ·not-nil}
-use lib.ListN.{length}
 use Rattle.fields.specs.declared.Offset.{Offset}
-use Rattle.fields.specs.declared.Verdict.the-variants.{Sound}
 use Rattle.base.specs.Block.{binsData}
-use Rattle.cells.specs.declared.Rule.the-variants.{Header}
 use Rattle.cells.specs.Tiled.{BinsTile}
 use Rattle.names.proofs.LawsOrder.{same-reflexive}
-use Rattle.records.specs.Keys.{keyFault}
 use Rattle.records.specs.Lists.{children}
-use Rattle.records.proofs.LawsKey.{key-facts, name-codes}
 use Rattle.tree.specs.declared.Hive.{Hive}
 use Rattle.tree.specs.Tree.{nameAt, keysIn, levels, hiveOf, keysOf}
 use Rattle.tree.specs.WellFormed.{CleanAndWellFormed, TreeStands, key}
@@ -24,7 +19,8 @@ use Rattle.lookup.specs.Paths.{isPath}
 use Rattle.lookup.specs.Answers.{findAnswer}
 use Rattle.lookup.specs.Reach.{Holds, here, below, Named, itself, child, joinedBy}
 use Rattle.lookup.proofs.Finds.{key-good}
-use Rattle.lookup.proofs.Splits.{PartName, PartNames, no-names, names-on, parts-joined, path-joined}
+use Rattle.lookup.proofs.Held.{part-name, held-few}
+use Rattle.lookup.proofs.Splits.{PartNames, no-names, names-on, parts-joined, path-joined}
 use Rattle.lookup.proofs.Exact.{find-exactly}
 
 -- a key that is listed has names along its way
@@ -45,21 +41,10 @@ named-holds itself = here
 named-holds {d} (child {c = c} i r) = below i (same-reflexive (nameAt d (c .at))) (named-holds r)
 
 module _ (d : List ℕ) (hive : Hive) (tiles : BinsTile d 0) where
-  -- a key's name may be a part of a path
-  part-name : (o : Offset) → keyFault Header d [] o ≡ Sound → PartName (nameAt d o)
-  part-name o s =
-      let f = key-facts Header d [] o s in
-      rw (name-codes Header d [] o s) (record { some = f .some; most = f .few; plain = f .no-backslash })
-
   part-names : (n : ℕ) {o e : Offset} {xs : List (List ℕ)} → TreeStands d hive n o → Named d o xs e → PartNames xs
   part-names n t itself = no-names
   part-names (suc n) (key s a ch tree) (child {c = c} i r) =
-      names-on (part-name (c .at) (key-good d hive tiles n (c .at) (tree c i))) (part-names n (tree c i) r)
-
-  -- and there are fewer of them than levels
-  few-names : (n : ℕ) {o e : Offset} {xs : List (List ℕ)} → TreeStands d hive n o → Named d o xs e → length xs < n
-  few-names (suc n) t itself = omega arith
-  few-names (suc n) (key s a ch tree) (child {c = c} i r) = let f = few-names n (tree c i) r in omega arith
+      names-on (part-name d (c .at) (key-good d hive tiles n (c .at) (tree c i))) (part-names n (tree c i) r)
 
 -- found again: by the names along its way, joined by backslashes
 pub record FoundAgain (h : List ℕ) (k : Offset) : Type 0 where
@@ -76,12 +61,12 @@ module _ (h : List ℕ) (w : CleanAndWellFormed h) where
 
     pub named-path : isPath (joinedBy xs) ≡ true
     named-path =
-        let f = few-names (binsData h) (hiveOf h) (w .formed .tiled) levels (w .formed .tree) named in
+        let f = held-few (binsData h) (hiveOf h) (w .formed .tiled) levels xs (w .formed .tree) (named-holds named) in
         path-joined xs good-names (omega arith)
 
     pub named-found : findAnswer h (joinedBy xs) ≡ At k
     named-found =
-        find-exactly h w (joinedBy xs) named-path k .1
+        find-exactly h w (joinedBy xs) k .1
         (rw (parts-joined xs good-names) (named-holds named))
 
   -- the theorem
