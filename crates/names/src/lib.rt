@@ -1,6 +1,6 @@
 // Names: the codes of a stored name, upper case, order and hash. Names are read in place and never copied.
 ghost use mathlib.Core.Path.{_≡_};
-ghost use Prim.Native.Nat.{_<_};
+ghost use Prim.Native.Nat.{_*_, _%_, _<_};
 ghost use lib.ListN.{length, getD};
 ghost use Rattle.names.specs.Codes.{codes, charactersIn, hasCode, backslash};
 ghost use Rattle.names.specs.Upper_case.{upper};
@@ -118,11 +118,18 @@ pub fn has_backslash(s: &[u8], narrow: bool) -> bool
     false
 }
 
-// "H = 37H + code, wrapping at 32 bits": the product is whole in 64 bits, and its remainder is the wrapped one.
+// A product modulo 2^32: whole in 64 bits, of which the remainder is taken.
+fn product(a: u32, b: u32) -> u32
+    ensures { λ r. ⌜ r ≡ (a * b) % 4294967296 ⌝ }
+{
+    (a as u64 * b as u64 % 4294967296) as u32
+}
+
+// "H = 37H + code, wrapping at 32 bits": the product, then the sum.
 fn mix(h: u32, code: u16) -> u32
     ensures { λ r. ⌜ r ≡ mixed h code ⌝ }
 {
-    ((37 * h as u64 + code as u64) % 4294967296) as u32
+    ((product(37, h) as u64 + code as u64) % 4294967296) as u32
 }
 
 // "The hash starts at 0; for each upper-cased code, H = 37H + code, wrapping at 32 bits."
