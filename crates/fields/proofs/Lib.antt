@@ -2,4 +2,5 @@ pub mod Below
 pub mod Bools
 pub mod Firsts
 pub mod Loops
+pub mod Numbers
 pub mod Same_bytes

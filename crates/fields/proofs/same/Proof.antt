@@ -1,10 +1,10 @@
 use borrow.Author.Needs.{needs}
 use native.Mathlib.Omega.{arith}
-use Prim.Native.Nat.{_≤_, _-_}
+use Prim.Native.Nat.{ℕ, _≤_, _-_}
 use mathlib.Core.Path.{_≡_, refl, sym, _∙_}
 use lib.ListN.{length, drop}
 use Rattle.fields.specs.Bytes.{sameBytes}
-use Rattle.fields.proofs.Same_bytes.{step, differs, ends, unequal}
+use Rattle.fields.proofs.Same_bytes.{step, differs, ends, unequal, eight}
 use Rattle.fields.proofs.same.Statement.{statement}
 use Rattle.fields.proofs.same.Tie as tie
 
@@ -21,16 +21,19 @@ returns c = sym (unequal _ _ (c .if1 .taken))
 loop-holds : tie.Need-loop-holds Inv-loop μ-loop
 loop-holds c = (omega arith, refl)
 
-shared-slice-read-if2 : tie.Need-shared-slice-read-if2 Inv-loop μ-loop
-shared-slice-read-if2 c = search needs
+sub-if2 : tie.Need-sub-if2 Inv-loop μ-loop
+sub-if2 c = search needs
 
-shared-slice-read-if2-2 : tie.Need-shared-slice-read-if2-2 Inv-loop μ-loop
-shared-slice-read-if2-2 c = search needs
+u64-at-requires : tie.Need-u64-at-requires Inv-loop μ-loop
+u64-at-requires c κs = omega arith
+
+u64-at-requires-2 : tie.Need-u64-at-requires-2 Inv-loop μ-loop
+u64-at-requires-2 c κs = omega arith
 
 returns-2 : tie.Need-returns-2 Inv-loop μ-loop
 returns-2 c =
-    let l = c .before .before .before .before .loop in
-    sym (l .inv .1 ∙ differs _ _ (l .i) (omega arith) (omega arith) (c .if2 .taken))
+    let l = c .before .before .before .before .before in
+    sym (l .loop .inv .1 ∙ eight _ _ (λ (i : ℕ). l .before .before .before .shared-slice-known .given i .fits) (λ (i : ℕ). l .before .before .shared-slice-known2 .given i .fits) (l .loop .i) (omega arith) (omega arith) .apart (λ e. c .if3 .taken (c .before .before .u64-at .ensures ∙ e ∙ sym (c .before .u64-at2 .ensures))))
 
 add-i : tie.Need-add-i Inv-loop μ-loop
 add-i c = search needs
@@ -40,11 +43,33 @@ loop-less c = search needs
 
 loop-again : tie.Need-loop-again Inv-loop μ-loop
 loop-again c =
-    let l = c .before .before .before .before .loop in
-    (omega arith, l .inv .1 ∙ step _ _ (l .i) (omega arith) (omega arith) (c .if2 .left))
+    let l = c .before .before .before .before .before in
+    (omega arith, l .loop .inv .1 ∙ eight _ _ (λ (i : ℕ). l .before .before .before .shared-slice-known .given i .fits) (λ (i : ℕ). l .before .before .shared-slice-known2 .given i .fits) (l .loop .i) (omega arith) (omega arith) .alike (sym (c .before .before .u64-at .ensures) ∙ c .if3 .left ∙ c .before .u64-at2 .ensures))
+
+shared-slice-read-if4 : tie.Need-shared-slice-read-if4 Inv-loop μ-loop
+shared-slice-read-if4 c = search needs
+
+shared-slice-read-if4-2 : tie.Need-shared-slice-read-if4-2 Inv-loop μ-loop
+shared-slice-read-if4-2 c = search needs
 
 returns-3 : tie.Need-returns-3 Inv-loop μ-loop
 returns-3 c =
+    let l = c .before .before .before .before .before .loop in
+    sym (l .inv .1 ∙ differs _ _ (l .i) (omega arith) (omega arith) (c .if4 .taken))
+
+add-i-2 : tie.Need-add-i-2 Inv-loop μ-loop
+add-i-2 c = search needs
+
+loop-less-2 : tie.Need-loop-less-2 Inv-loop μ-loop
+loop-less-2 c = search needs
+
+loop-again-2 : tie.Need-loop-again-2 Inv-loop μ-loop
+loop-again-2 c =
+    let l = c .before .before .before .before .before .loop in
+    (omega arith, l .inv .1 ∙ step _ _ (l .i) (omega arith) (omega arith) (c .if4 .left))
+
+returns-4 : tie.Need-returns-4 Inv-loop μ-loop
+returns-4 c =
     let l = c .before .loop in
     sym (l .inv .1 ∙ ends _ _ (l .i) (omega arith) (omega arith))
 
@@ -56,10 +81,17 @@ same-spec =
     μ-loop
     returns
     loop-holds
-    shared-slice-read-if2
-    shared-slice-read-if2-2
+    sub-if2
+    u64-at-requires
+    u64-at-requires-2
     returns-2
     add-i
     loop-less
     loop-again
-    returns-3)
+    shared-slice-read-if4
+    shared-slice-read-if4-2
+    returns-3
+    add-i-2
+    loop-less-2
+    loop-again-2
+    returns-4)
