@@ -38,6 +38,13 @@ struct HivePage {
     from: u64,
     to: u64,
 }
+#[repr(C)]
+struct HiveMark {
+    answer: HiveAnswer,
+    state: u64,
+    page: u64,
+    to: u64,
+}
 unsafe extern "C" {
     fn hive_check(h: *const u8, n: usize, m: *mut u8, k: usize) -> HiveReport;
     fn hive_find_key(h: *const u8, n: usize, p: *const u16, k: usize) -> HiveAnswer;
@@ -45,6 +52,9 @@ unsafe extern "C" {
     fn hive_recover_page(h: *mut u8, n: usize, l: *const u8, k: usize, page: usize) -> HiveRecovery;
     fn hive_recover_close(h: *mut u8, n: usize, l: *const u8, k: usize) -> HiveRecovery;
     fn hive_recover_next(l: *const u8, k: usize, from: usize) -> HivePage;
+    fn hive_recover_start(h: *const u8, n: usize, l: *const u8, k: usize) -> HiveRecovery;
+    fn hive_recover_all(h: *mut u8, n: usize, l: *const u8, k: usize) -> HiveRecovery;
+    fn hive_recover_mark(l: *const u8, k: usize, from: usize) -> HiveMark;
 }
 
 fn answer<T>(a: HiveAnswer, x: T) -> Result<T, Flaw> {
@@ -67,6 +77,7 @@ enum Kind {
     Copy,
     Repair,
     Sample,
+    All,
 }
 
 // The pages that a sample of a repair asks for: 100 of 64 MiB, evenly spread.
@@ -78,6 +89,7 @@ enum Outcome {
     Find(Result<u32, Flaw>),
     Copy(Result<usize, Flaw>),
     Repair(Result<usize, Flaw>),
+    All(Result<(usize, usize), Flaw>),
 }
 
 const LARGE: [u16; 5] = [76, 97, 114, 103, 101];
@@ -110,6 +122,18 @@ fn rattle(i: &mut Input) -> Outcome {
                 }
                 Outcome::Repair(answer(hive_recover_close(h, n, l, k).answer, done))
             }
+            Kind::All => {
+                let (mut done, mut places) = (0, 0);
+                hive_recover_start(h, n, l, k);
+                hive_recover_all(h, n, l, k);
+                let mut p = hive_recover_mark(l, k, 0);
+                while p.state == 2 {
+                    done += 1;
+                    places ^= p.to as usize;
+                    p = hive_recover_mark(l, k, p.page as usize + 1);
+                }
+                Outcome::All(answer(hive_recover_close(h, n, l, k).answer, (done, places)))
+            }
             Kind::Sample => {
                 for from in 0..100 {
                     let p = hive_recover_next(l, k, from * STEP);
@@ -135,6 +159,18 @@ fn rust<S: Style>(i: &mut Input) -> Outcome {
             }
             Outcome::Repair(check::close::<S>(&mut i.hive, &i.log).map(|_| done))
         }
+        Kind::All => {
+            let (mut done, mut places) = (0, 0);
+            black_box(check::start::<S>(&i.hive, &i.log).is_ok());
+            check::all::<S>(&mut i.hive, &i.log).unwrap();
+            let mut at = check::mark::<S>(&i.log, 0).unwrap();
+            while let Some((p, to)) = at {
+                done += 1;
+                places ^= to;
+                at = check::mark::<S>(&i.log, p + 1).unwrap();
+            }
+            Outcome::All(check::close::<S>(&mut i.hive, &i.log).map(|_| (done, places)))
+        }
         Kind::Sample => {
             for from in 0..100 {
                 let p = check::next::<S>(&i.log, from * STEP).unwrap();
@@ -156,9 +192,9 @@ fn measured(side: &str, i: &mut Input) -> Outcome {
     }
 }
 
-const ROWS: [&str; 15] = [
+const ROWS: [&str; 18] = [
     "check-1", "check-4", "check-16", "check-64", "check-wide", "last-100", "absent-100", "last-5000", "absent-5000", "last-60000", "absent-60000",
-    "copy", "repair-1000", "repair-1000-of-131072", "repair-100000",
+    "copy", "repair-1000", "repair-1000-of-131072", "repair-100000", "all-1000", "all-1000-of-131072", "all-100000",
 ];
 
 fn input(row: &str, folder: &str) -> Input {
@@ -167,6 +203,7 @@ fn input(row: &str, folder: &str) -> Input {
         Some(("check", n)) => (Kind::Check, format!("mixed-{n}")),
         Some(("last" | "absent", n)) => (Kind::Find, format!("wide-{n}")),
         Some(("repair", n)) => (Kind::Repair, format!("torn-{n}")),
+        Some(("all", n)) => (Kind::All, format!("torn-{n}")),
         Some(("sample", n)) => (Kind::Sample, format!("torn-{n}")),
         _ => (Kind::Copy, "large".into()),
     };

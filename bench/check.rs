@@ -572,7 +572,7 @@ pub fn copy<S: Style>(h: &[u8], path: &[u16], name: &[u16], out: &mut [u8]) -> R
 }
 
 // The tests that every call of recovery makes; the number of logged pages, or None for a clean hive.
-fn start<S: Style>(h: &[u8], l: &[u8]) -> Res<Option<usize>> {
+pub fn start<S: Style>(h: &[u8], l: &[u8]) -> Res<Option<usize>> {
     if h.len() < 4096 {
         return Err(Flaw(1, 0));
     }
@@ -580,16 +580,7 @@ fn start<S: Style>(h: &[u8], l: &[u8]) -> Res<Option<usize>> {
     if sound && S::u32_at(h, 4) == S::u32_at(h, 8) {
         return Ok(None);
     }
-    if l.len() < 512 || usable::<S>(&l[..512], &[1, 2]).is_err() || S::u32_at(l, 4) != S::u32_at(l, 8) {
-        return Err(Flaw(21, 0));
-    }
-    let n = S::u32_at(l, 40) as usize;
-    if l.len() < 516 + n / 4096 {
-        return Err(Flaw(22, 0));
-    }
-    if &l[512..516] != b"DIRT" {
-        return Err(Flaw(23, 0));
-    }
+    let n = head::<S>(l)?;
     let pages = S::ones(&l[516..516 + n / 4096], n / 512);
     if pages > 0 && l.len() < first_page(n) + 512 * pages {
         return Err(Flaw(22, 0));
@@ -601,6 +592,21 @@ fn start<S: Style>(h: &[u8], l: &[u8]) -> Res<Option<usize>> {
     let zero = l[516] & 1 == 0 || &l[first_page(n) + 20..first_page(n) + 28] == stamp;
     let agree = if sound { &h[12..20] == stamp } else { &h[4116..4124] == stamp && zero };
     if agree { Ok(Some(pages)) } else { Err(Flaw(25, 0)) }
+}
+
+// The log's tests before its bits are counted; its bins size.
+fn head<S: Style>(l: &[u8]) -> Res<usize> {
+    if l.len() < 512 || usable::<S>(&l[..512], &[1, 2]).is_err() || S::u32_at(l, 4) != S::u32_at(l, 8) {
+        return Err(Flaw(21, 0));
+    }
+    let n = S::u32_at(l, 40) as usize;
+    if l.len() < 516 + n / 4096 {
+        return Err(Flaw(22, 0));
+    }
+    if &l[512..516] != b"DIRT" {
+        return Err(Flaw(23, 0));
+    }
+    Ok(n)
 }
 
 fn first_page(bins: usize) -> usize {
@@ -652,4 +658,28 @@ pub fn close<S: Style>(h: &mut [u8], l: &[u8]) -> Res<bool> {
     let x = stored(S::xor(&h[..512]));
     h[508..512].copy_from_slice(&x.to_le_bytes());
     Ok(true)
+}
+
+// Every logged page after one round of tests.
+pub fn all<S: Style>(h: &mut [u8], l: &[u8]) -> Res<bool> {
+    if start::<S>(h, l)?.is_none() {
+        return Ok(false);
+    }
+    let n = S::u32_at(l, 40) as usize;
+    let map = &l[516..516 + n / 4096];
+    let mut from = first_page(n);
+    for p in 0..n / 512 {
+        if map[p / 8] >> (p % 8) & 1 == 1 {
+            S::copy(&l[from..from + 512], &mut h[4096 + 512 * p..4096 + 512 * p + 512]);
+            from += 512;
+        }
+    }
+    Ok(true)
+}
+
+// The next marked page and where it goes; no bit is counted.
+pub fn mark<S: Style>(l: &[u8], from: usize) -> Res<Option<(usize, usize)>> {
+    let n = head::<S>(l)?;
+    let map = &l[516..516 + n / 4096];
+    Ok((from..n / 512).find(|p| map[p / 8] >> (p % 8) & 1 == 1).map(|p| (p, 4096 + 512 * p)))
 }

@@ -8,9 +8,9 @@
 
 enum { SECTOR = 512 };
 
-static HivePage page_from(const Hive *h, size_t from)
+static HiveMark mark_from(const Hive *h, size_t from)
 {
-    return hive_recover_next(h->logged.at, h->logged.length, from);
+    return hive_recover_mark(h->logged.at, h->logged.length, from);
 }
 
 static HiveRecovery start(const Hive *h)
@@ -24,17 +24,9 @@ static HiveRecovery close_in_memory(const Hive *h)
 }
 
 /* Every page of the log, in memory. */
-static HiveAnswer install_all(const Hive *h, uint64_t pages)
+static HiveAnswer install_all(const Hive *h)
 {
-    HiveAnswer a = {0, 0, HIVE_NO_KEY, 0};
-    uint64_t done = 0;
-    work_starts("installing page", pages);
-    for (HivePage p = page_from(h, 0); p.state == HIVE_THERE && a.number == 0; p = page_from(h, p.page + 1)) {
-        a = hive_recover_page(h->bytes.at, h->bytes.length, h->logged.at, h->logged.length, p.page).answer;
-        work_did(++done);
-    }
-    work_ends();
-    return a;
+    return hive_recover_all(h->bytes.at, h->bytes.length, h->logged.at, h->logged.length).answer;
 }
 
 /* The repair in memory alone, for those who only read. */
@@ -43,17 +35,17 @@ int recover(const Hive *h)
     HiveRecovery s = start(h);
     if (s.state == HIVE_CLEAN)
         return GOOD;
-    HiveAnswer a = s.state == HIVE_DONE ? install_all(h, s.pages) : s.answer;
+    HiveAnswer a = s.state == HIVE_DONE ? install_all(h) : s.answer;
     if (a.number == 0)
         a = close_in_memory(h).answer;
     return a.number == 0 ? GOOD : refusal(h, a, NULL);
 }
 
 /* What will come out is known before the first write: all pages in, closed, checked; then open again, for no page is stored after a closing call. */
-static int rehearse(const Hive *h, uint64_t pages, HiveReport *out)
+static int rehearse(const Hive *h, HiveReport *out)
 {
     uint8_t first[SECTOR];
-    HiveAnswer a = install_all(h, pages);
+    HiveAnswer a = install_all(h);
     memcpy(first, h->bytes.at, SECTOR);
     if (a.number == 0)
         a = close_in_memory(h).answer;
@@ -69,7 +61,7 @@ static int store_pages(int fd, const Hive *h, uint64_t pages)
     int status = GOOD;
     uint64_t done = 0;
     work_starts("storing page", pages);
-    for (HivePage p = page_from(h, 0); p.state == HIVE_THERE && status == GOOD; p = page_from(h, p.page + 1)) {
+    for (HiveMark p = mark_from(h, 0); p.state == HIVE_THERE && status == GOOD; p = mark_from(h, p.page + 1)) {
         status = store(fd, h->file, h->bytes.at + p.to, SECTOR, p.to);
         work_did(++done);
     }
@@ -133,7 +125,7 @@ static int run(int fd, const Order *o, const Hive *h)
     if (s.state == HIVE_CLEAN)
         return clean(fd, h);
     HiveReport r;
-    int status = rehearse(h, s.pages, &r);
+    int status = rehearse(h, &r);
     if (status != GOOD)
         return status;
     bool sound = r.answer.number == 0, write = fd >= 0 && (sound || o->anyway);

@@ -192,6 +192,21 @@ HIVE_ASSERT(offsetof(HivePage, from) == 32);
 HIVE_ASSERT(offsetof(HivePage, to) == 40);
 HIVE_ASSERT(sizeof(HivePage) == 48);
 
+/* A page that a log marks. state: HIVE_REFUSED, HIVE_NO_MORE or HIVE_THERE. page: its number. to: where its 512 bytes go in the
+ * hive, a place in the file.
+ */
+typedef struct {
+    HiveAnswer answer;
+    uint64_t state;
+    uint64_t page;
+    uint64_t to;
+} HiveMark;
+HIVE_ASSERT(offsetof(HiveMark, answer) == 0);
+HIVE_ASSERT(offsetof(HiveMark, state) == 16);
+HIVE_ASSERT(offsetof(HiveMark, page) == 24);
+HIVE_ASSERT(offsetof(HiveMark, to) == 32);
+HIVE_ASSERT(sizeof(HiveMark) == 40);
+
 /* The version of this interface: 1. Structs and functions of one version never change. */
 uint32_t hive_abi(void);
 
@@ -245,9 +260,10 @@ HiveValue hive_value_at(const uint8_t *hive, size_t hive_len, uint32_t value);
 /* Whether an old-format log (file type 1 or 2) repairs this hive. A hive that needs no repair answers HIVE_CLEAN, whatever
  * the log. Refuses 1, 21, 22, 23, 22, 24, 25, in this order.
  *
- * A repair: start; for each page of hive_recover_next call hive_recover_page and store those 512 bytes in the file; wait until
- * they are on the disk; hive_recover_close; store the first 512 bytes; wait again. After a power failure, or in doubt, do all
- * of it again with the file as it is: the outcome is the same file, byte for byte.
+ * A repair: start; hive_recover_all; for each page of hive_recover_mark store its 512 bytes in the file; wait until they are on
+ * the disk; hive_recover_close; store the first 512 bytes; wait again. After a power failure, or in doubt, do all of it again
+ * with the file as it is: the outcome is the same file, byte for byte. One page at a time does as well, by hive_recover_page for
+ * each page of hive_recover_next, but each of these calls makes all tests anew.
  *
  * In all calls of the repair the hive is private memory, never a shared mapping of the file: hive_recover_close writes the first
  * sector in two steps, and the file must see them as one.
@@ -270,6 +286,17 @@ HiveRecovery hive_recover_close(uint8_t *hive, size_t hive_len, const uint8_t *l
  * page + 1 until HIVE_NO_MORE.
  */
 HivePage hive_recover_next(const uint8_t *log, size_t log_len, size_t from);
+
+/* Installs every page that the log holds in the hive in memory, after one round of tests: what hive_recover_page does for each
+ * page in turn. HIVE_DONE where it did. Refuses as hive_recover_start does. A refusal, and HIVE_CLEAN, leave the hive as it was.
+ */
+HiveRecovery hive_recover_all(uint8_t *hive, size_t hive_len, const uint8_t *log, size_t log_len);
+
+/* The least page that the log marks, at or after a number: the pages that hive_recover_all has installed, one after the other.
+ * Unlike hive_recover_next it counts nothing and does not say where the page lies in the log. Refuses 21, 22 for the bitmap,
+ * 23, in this order. Start with 0, and go on with page + 1 until HIVE_NO_MORE.
+ */
+HiveMark hive_recover_mark(const uint8_t *log, size_t log_len, size_t from);
 
 #ifdef __cplusplus
 }

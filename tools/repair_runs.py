@@ -2,6 +2,7 @@
 """Writes crates/repair_runs/stdin and stdout: the orders of the repairs that the program runs, and the lines that
 it must write. The lines come from a model of recovery of this script's own, written from document 01 and not from
 the Rattle code. Run it at the top of the repository."""
+import random
 import struct
 
 SECTOR = 512
@@ -57,7 +58,7 @@ def pattern(seed):
     """A page that is told from others by its first bytes and its last."""
     page = bytearray(SECTOR)
     page[:32] = bytes((seed * 31 + i * 7) % 251 for i in range(32))
-    page[-1] = seed + 1
+    page[-2:] = struct.pack(">H", seed + 1)
     return page
 
 
@@ -108,8 +109,8 @@ def marked(log):
     return [p for p in range(bins // SECTOR) if bitmap[p // 8] >> (p % 8) & 1]
 
 
-def log_number(log):
-    """The first of 21, 22, 23, 22 that holds against the log, or 0."""
+def head_number(log):
+    """The first of 21, 22 for the bitmap, 23 that holds against the log, or 0."""
     if len(log) < SECTOR or not usable(log, (1, 2)) or word(log, 4) != word(log, 8):
         return 21
     end = 516 + word(log, 40) // 4096
@@ -117,6 +118,15 @@ def log_number(log):
         return 22
     if bytes(log[512:516]) != b"DIRT":
         return 23
+    return 0
+
+
+def log_number(log):
+    """The first of 21, 22, 23, 22 that holds against the log, or 0."""
+    number = head_number(log)
+    if number:
+        return number
+    end = 516 + word(log, 40) // 4096
     pages = marked(log)
     if pages and len(log) < (end + 511) // 512 * 512 + SECTOR * len(pages):
         return 22
@@ -162,12 +172,17 @@ def refused(number):
 
 class Case:
     def __init__(self, name, hive, log):
-        say(name)
-        self.mem, self.disk, self.log = bytearray(hive), bytearray(hive), bytearray(log)
-        order(1, len(hive))
-        self.fill(3, hive)
+        self.log = bytearray(log)
+        self.renew(name, hive)
         order(2, len(log))
         self.fill(4, log)
+
+    def renew(self, name, hive):
+        """Another hive with the same log."""
+        say(name)
+        self.mem, self.disk = bytearray(hive), bytearray(hive)
+        order(1, len(hive))
+        self.fill(3, hive)
 
     @staticmethod
     def fill(kind, data):
@@ -223,6 +238,29 @@ class Case:
         else:
             lines.append("no more")
 
+    def all(self):
+        order(13)
+        t = tests(self.mem, self.log)
+        if t == "clean":
+            lines.append("clean")
+        elif not isinstance(t, list):
+            lines.append(refused(t))
+        else:
+            for p in t:
+                self.mem[4096 + SECTOR * p: 4096 + SECTOR * (p + 1)] = logged(self.log, p)
+            lines.append("done")
+
+    def mark(self, start):
+        """The next mark: no page has to be there for it."""
+        order(14, start) if start < 1 << 32 else order(15, (1 << 64) - 1 - start)
+        number = head_number(self.log)
+        later = [] if number else [p for p in marked(self.log) if start <= p]
+        if number:
+            lines.append(refused(number))
+        else:
+            lines.append("page %d to %d" % (later[0], 4096 + SECTOR * later[0]) if later else "no more")
+        return later[0] if later else None
+
     def land(self, p):
         order(9, p)
         at = 4096 + SECTOR * p
@@ -249,6 +287,18 @@ class Case:
         for p in reversed(marked(self.log)):
             self.page(p)
             self.land(p)
+        self.close()
+        self.land_first()
+        self.show()
+
+    def at_once(self):
+        """The same by one call, its pages stored as the marks tell."""
+        self.start()
+        self.all()
+        p = self.mark(0)
+        while p is not None:
+            self.land(p)
+            p = self.mark(p + 1)
         self.close()
         self.land_first()
         self.show()
@@ -324,6 +374,8 @@ def refusals():
         case.page(0)
         case.close()
         case.next(0)
+        case.all()
+        case.mark(0)
         case.show()
 
     refuse("1: the hive under 4096 bytes, and its log is none", torn[:4095], b"")
@@ -374,6 +426,8 @@ def clean():
     case.page(4294967295)
     case.close()
     case.next(0)
+    case.all()
+    case.mark(0)
     case.show()
     case = Case("clean: the hive ends before its bins do", hive_file(base_block(0), STAMP)[:4096], log_file([0], STAMP))
     case.start()
@@ -385,10 +439,52 @@ def clean():
     case.after()
 
 
+def at_once():
+    """A repair by page calls, and the same by one call."""
+    generator = random.Random(3)
+    large = 1 << 20
+    some = sorted(generator.sample(range(large // SECTOR), 1000))
+    for name, bins, pages in (
+        ("no page", 8192, []), ("the first page", 8192, [0]), ("the last page", 8192, [15]), ("all pages", 8192, range(16)),
+        ("pages 63, 64, 65, 127 and 128", 17 * 4096, [63, 64, 65, 127, 128]), ("1,000 pages of 2,048", large, some),
+    ):
+        hive, log = hive_file(TORN, STAMP, bins), log_file(list(pages), STAMP, bins)
+        case = Case("%s, one by one" % name, hive, log)
+        case.whole()
+        case.renew("%s, at once" % name, hive)
+        case.at_once()
+    case = Case("at once after half a repair, and again", hive_file(TORN, STAMP), log_file([0, 6, 15], STAMP))
+    case.page(6)
+    case.land(6)
+    case.fail()
+    case.all()
+    case.at_once()
+    case.all()
+    case.after()
+    case = Case("marks from every page on", hive_file(TORN, STAMP), log_file([0, 3, 8, 14], STAMP))
+    for start in list(range(18)) + [4294967295, (1 << 64) - 2, (1 << 64) - 1]:
+        case.mark(start)
+
+
+def counts():
+    """The set bits before each page of small bitmaps, past their end too, counted bit by bit."""
+    generator = random.Random(17)
+    for size in range(18):
+        for name, bitmap in (
+            ("ones", bytes([255] * size)), ("zeros", bytes(size)), ("alternating", bytes([0x55] * size)), ("random", generator.randbytes(size)),
+        ):
+            Case("%d bytes, %s" % (size, name), b"", bitmap)
+            order(16, 8 * size + 10)
+            bits = [bitmap[p // 8] >> (p % 8) & 1 if p < 8 * size else 0 for p in range(8 * size + 9)]
+            lines.append("".join(" %d" % sum(bits[:p]) for p in range(8 * size + 10)))
+
+
 repairs()
 cuts()
 refusals()
 checksums()
 clean()
+at_once()
+counts()
 open("crates/repair_runs/stdin", "wb").write(bytes(orders))
 open("crates/repair_runs/stdout", "w").write("\n".join(lines) + "\n")

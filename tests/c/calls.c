@@ -158,6 +158,8 @@ static void t_nothing(void)
     EXPECT(is(hive_recover_page(NULL, 0, NULL, 0, 0).answer, 1, 0));
     EXPECT(is(hive_recover_close(NULL, 0, NULL, 0).answer, 1, 0));
     EXPECT(is(hive_recover_next(NULL, 0, 0).answer, 21, 0));
+    EXPECT(is(hive_recover_all(NULL, 0, NULL, 0).answer, 1, 0));
+    EXPECT(is(hive_recover_mark(NULL, 0, 0).answer, 21, 0));
     Made m = sample();
     size_t n = made_length(&m);
     EXPECT(is(hive_check(m.file, n, NULL, 0).answer, 8, 0));
@@ -165,6 +167,7 @@ static void t_nothing(void)
     EXPECT(is(hive_value_info(m.file, n, NULL, 0, NULL, 0).answer, 18, 0));
     EXPECT(hive_recover_start(m.file, n, NULL, 0).state == 1);
     EXPECT(hive_recover_page(m.file, n, NULL, 0, 3).state == 1 && hive_recover_close(m.file, n, NULL, 0).state == 1);
+    EXPECT(hive_recover_all(m.file, n, NULL, 0).state == 1);
 }
 
 /* All calls on one file, taken for hive and log, path and name. */
@@ -184,6 +187,8 @@ static void all_calls(const uint8_t *bytes, size_t length)
     }
     EXPECT(hive_recover_start(h, length, l, length).answer.key == NO_KEY);
     EXPECT(hive_recover_next(l, length, 0).answer.key == NO_KEY);
+    EXPECT(hive_recover_mark(l, length, 0).answer.key == NO_KEY);
+    EXPECT(hive_recover_all(h, length, l, length).answer.key == NO_KEY);
     for (size_t page = 0; page < 3; page++)
         EXPECT(hive_recover_page(h, length, l, length, page * 0x7fffffffffffffffu).answer.key == NO_KEY);
     EXPECT(hive_recover_close(h, length, l, length).answer.key == NO_KEY);
@@ -513,6 +518,35 @@ static void t_repair(void)
     EXPECT(memcmp(h, m.file, n) == 0 && is(checked(h, n), 0, 0));
 }
 
+/* The same by one call, also after half a repair, and its pages one after the other. */
+static void t_repair_at_once(void)
+{
+    Made m = sample();
+    size_t n = made_length(&m);
+    Log log = made_log(&m, PAGES, COUNT);
+    const uint8_t *file = spoilt(&m, PAGES, COUNT);
+    const uint8_t *l = lend(1, log.at, log.length);
+    for (size_t half = 0; half < 2; half++) {
+        uint8_t *h = lend(0, file, n);
+        if (half == 1)
+            EXPECT(hive_recover_page(h, n, l, log.length, PAGES[2]).state == 2);
+        HiveRecovery r = hive_recover_all(h, n, l, log.length);
+        EXPECT(r.state == 2 && r.pages == 0 && is(r.answer, 0, 0));
+        EXPECT(memcmp(h, file, 4096) == 0 && memcmp(h + 4096, m.file + 4096, n - 4096) == 0);
+        EXPECT(hive_recover_close(h, n, l, log.length).state == 2 && memcmp(h, m.file, n) == 0);
+        EXPECT(hive_recover_all(h, n, l, log.length).state == 1 && memcmp(h, m.file, n) == 0);
+    }
+    HiveMark p = hive_recover_mark(l, log.length, 0);
+    for (size_t i = 0; i < COUNT; i++) {
+        EXPECT(p.state == 2 && p.page == PAGES[i] && p.to == 4096 + 512 * PAGES[i] && is(p.answer, 0, 0));
+        p = hive_recover_mark(l, log.length, p.page + 1);
+    }
+    EXPECT(p.state == 1 && p.page == 0 && p.to == 0 && is(p.answer, 0, 0));
+    EXPECT(hive_recover_mark(l, log.length, 128).state == 1 && hive_recover_mark(l, log.length, (size_t)-1).state == 1);
+    for (size_t k = 0; k < log.length; k++)
+        EXPECT(is(hive_recover_mark(lend(1, log.at, k), k, 0).answer, k < 512 ? 21 : k < 516 + 16 ? 22 : 0, 0));
+}
+
 /* One change of the log at a time, and what the start says. */
 static void t_log_refusals(void)
 {
@@ -613,6 +647,7 @@ int main(void)
     test("members of keys", t_members);
     test("data of many sizes", t_sizes);
     test("a repair", t_repair);
+    test("a repair at once", t_repair_at_once);
     test("refusals of recovery", t_log_refusals);
     test("checksums of hives and logs", t_checksums);
     test("checksums of closing sectors", t_closing_checksums);

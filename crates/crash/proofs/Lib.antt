@@ -1,3 +1,4 @@
 pub mod Demand3
 pub mod Barrier
 pub mod Twice
+pub mod AtOnce

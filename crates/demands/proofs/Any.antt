@@ -20,12 +20,16 @@ use Rattle.tree.proofs.Maps.{map-untouched, map-zero, map-complete, map-beyond}
 use Rattle.lookup.proofs.Agree.{refused-untouched}
 use Rattle.lookup.proofs.Refusals.{find-refuses, info-refuses, view-refuses, copy-refuses}
 use Rattle.listing.proofs.Any.{subkey-refuses, value-refuses, info-refuses as at-refuses}
-use Rattle.old_log.specs.Layout.{mapSize, isLogged, logBins, loggedCount, dirt}
+use Rattle.bitmap.specs.declared.Next.{Next}
+use Rattle.bitmap.specs.declared.Next.the-variants as next
+use Rattle.old_log.specs.Layout.{mapSize, isLogged, logBins, loggedCount, nextLogged, dirt}
 use Rattle.old_log.specs.Tests.{isLogBase, pagesFit, headFault, logFault, stampsAgree, allIn}
 use Rattle.recovery.specs.declared.Started.{Started}
 use Rattle.recovery.specs.declared.Started.the-variants as started
 use Rattle.recovery.specs.declared.Stepped.the-variants as stepped
+use Rattle.recovery.specs.declared.NextMark.the-variants as mark
 use Rattle.recovery.specs.Calls.{hiveFault, testFault, started as startedBy, startAnswer, tested, pageAnswer, pageHive, closeAnswer, closeHive}
+use Rattle.recovery.specs.AtOnce.{allAnswer, allHive, markOf, markTested, markAnswer}
 use Rattle.demands.specs.First.{Demand1}
 
 listed : (f : Fault) → (1 ≤ numberOf f) × (numberOf f ≤ 27)
@@ -71,15 +75,17 @@ zero-unless : (t : Bool) (n : Fault) → Zero (unless t (flaw n nowhere))
 zero-unless true n f e = absurd (let z : _≡_ {A = ℕ} 0 1 = cc in omega arith)
 zero-unless false n f e = let z : flaw n nowhere ≡ f = cc in ap (λ (x : Flaw). x .place .0) (sym z)
 
-tests-zero : (h l : List ℕ) → Zero (testFault h l)
-unfolding testFault logFault headFault hiveFault
-tests-zero h l =
-    zero-next _ _
-    (zero-next _ _
-    (zero-next _ _ (zero-unless (leb 512 (length l)) named.LogBase)
+head-zero : (l : List ℕ) → Zero (headFault l)
+unfolding headFault
+head-zero l =
+    zero-next _ _ (zero-unless (leb 512 (length l)) named.LogBase)
     (zero-next _ _ (zero-unless (isLogBase (sector l)) named.LogBase)
-    (zero-next _ _ (zero-unless (leb (516 + mapSize l) (length l)) named.LogShort) (zero-unless (standsAt l 512 dirt) named.NoDirt))))
-    (zero-unless (pagesFit l) named.LogShort))
+    (zero-next _ _ (zero-unless (leb (516 + mapSize l) (length l)) named.LogShort) (zero-unless (standsAt l 512 dirt) named.NoDirt)))
+
+tests-zero : (h l : List ℕ) → Zero (testFault h l)
+unfolding testFault logFault hiveFault
+tests-zero h l =
+    zero-next _ _ (zero-next _ _ (head-zero l) (zero-unless (pagesFit l) named.LogShort))
     (zero-next _ _ (zero-unless (leb (4096 + logBins l) (length h)) named.HiveCut) (zero-unless (stampsAgree h l) named.Stamps))
 
 start-place : (h l : List ℕ) (r : Refusal) → startAnswer h l ≡ started.Refused r → r .place .0 ≡ 0
@@ -116,6 +122,20 @@ close-place : (h l : List ℕ) (r : Refusal) → closeAnswer h l ≡ stepped.Ref
 unfolding closeAnswer
 close-place h l r e = step-place h l (allIn h l) named.NotIn r e
 
+-- all pages at once have no refusal of their own
+all-place : (h l : List ℕ) (r : Refusal) → allAnswer h l ≡ stepped.Refused r → r .place .0 ≡ 0
+unfolding allAnswer
+all-place h l r e = step-place h l true named.NotDirty r e
+
+mark-place : (l : List ℕ) (from : ℕ) (r : Refusal) → markAnswer l from ≡ mark.Refused r → r .place .0 ≡ 0
+unfolding markAnswer
+mark-place l from r e = by (headFault l) refl (nextLogged l from) e
+  where
+    by : (v : Verdict) → headFault l ≡ v → (a : Next) → markTested v (markOf a) ≡ mark.Refused r → r .place .0 ≡ 0
+    by Sound p (next.At n) q = absurd (let z : _≡_ {A = ℕ} 0 1 = cc in omega arith)
+    by Sound p next.Nothing q = absurd (let z : _≡_ {A = ℕ} 0 1 = cc in omega arith)
+    by (Flawed f) p a q = let z : refusalOf f ≡ r = cc in ap (λ (x : Refusal). x .place .0) (sym z) ∙ head-zero l f p
+
 -- ---- what a refusal leaves
 
 page-stays : (h l : List ℕ) (p : ℕ) (r : Refusal) → pageAnswer h l p ≡ stepped.Refused r → pageHive h l p ≡ h
@@ -125,6 +145,10 @@ page-stays h l p r e = rw e
 close-stays : (h l : List ℕ) (r : Refusal) → closeAnswer h l ≡ stepped.Refused r → closeHive h l ≡ h
 unfolding closeHive
 close-stays h l r e = rw e
+
+all-stays : (h l : List ℕ) (r : Refusal) → allAnswer h l ≡ stepped.Refused r → allHive h l ≡ h
+unfolding allHive
+all-stays h l r e = rw e
 
 pub demand1 : Demand1
 demand1 =
@@ -141,9 +165,12 @@ demand1 =
       start-place = start-place;
       page-place = page-place;
       close-place = close-place;
+      all-place = all-place;
+      mark-place = mark-place;
       copy-stays = λ h us x out r e. refused-untouched h us x out e;
       page-stays = page-stays;
       close-stays = close-stays;
+      all-stays = all-stays;
       map-untouched = λ h m f e. map-untouched h m e;
       map-zero = λ h m f e p. map-zero h m e p;
       map-complete = λ h m t e. map-complete h m e;

@@ -8,6 +8,7 @@ use Rattle.lookup.proofs.Answered.{view-info-same}
 use Rattle.lookup.proofs.Agree.{view-is}
 use Rattle.recovery.proofs.Accepts.{accepted-exactly as log-exactly}
 use Rattle.recovery.proofs.Repair.{repaired}
+use Rattle.recovery.proofs.AtOnce.{at-once}
 use Rattle.base.specs.Block.{binsData}
 use Rattle.tree.specs.Tree.{levels, hiveOf}
 use Rattle.demands.specs.Second.{Demand2}
@@ -38,4 +39,5 @@ demand2 =
       no-value = λ h w us o e x f. info-none h w us o e x f;
       log-accepted = λ h l. log-exactly h l;
       repairs = λ h l n e ps c. repaired h l n e ps c;
+      at-once = λ h l n e. at-once h l n e;
     }

@@ -22,4 +22,6 @@ unique =
       page = λ h l n a a′ b b′ p q. (one (p .0) (q .0), one (p .1) (q .1));
       close = λ h l a a′ b b′ p q. (one (p .0) (q .0), one (p .1) (q .1));
       next-page = λ l from r r′ p q. one p q;
+      all-pages = λ h l a a′ b b′ p q. (one (p .0) (q .0), one (p .1) (q .1));
+      next-mark = λ l from r r′ p q. one p q;
     }

@@ -2,7 +2,7 @@
 --
 -- Every public call's contract is an equation, for all lists of bytes and with no condition on them: what it answers is `checkAnswer h m`, `findAnswer h us`,
 -- `infoAnswer h us x`, `viewAnswer h us x`, `copyAnswer h us x n`, `subkeyAnswer h o n`, `valueAnswer h o n`, `infoAt h v`, `startAnswer h l`, `pageAnswer h l p`,
--- `closeAnswer h l` and `nextAnswer l from`. These are total functions, so there is an answer. What is left to say is what a refusal is.
+-- `closeAnswer h l`, `nextAnswer l from`, `allAnswer h l` and `markAnswer l from`. These are total functions, so there is an answer. What is left to say is what a refusal is.
 use Prim.Native.Nat.{ℕ, _/_, _≤_}
 use mathlib.Core.Path.{_≡_}
 use mathlib.Core.List.{List}
@@ -32,7 +32,9 @@ use Rattle.listing.specs.declared.Member.the-variants as member
 use Rattle.listing.specs.Members.{subkeyAnswer, valueAnswer, infoAnswer as infoAt}
 use Rattle.recovery.specs.declared.Started.the-variants as started
 use Rattle.recovery.specs.declared.Stepped.the-variants as stepped
+use Rattle.recovery.specs.declared.NextMark.the-variants as mark
 use Rattle.recovery.specs.Calls.{startAnswer, pageAnswer, pageHive, closeAnswer, closeHive}
+use Rattle.recovery.specs.AtOnce.{allAnswer, allHive, markAnswer}
 
 pub record Demand1 : Type 0 where
   -- "A refusal is a listed number": the table has 1 to 27
@@ -49,10 +51,13 @@ pub record Demand1 : Type 0 where
   pub start-place : (h l : List ℕ) (r : Refusal) → startAnswer h l ≡ started.Refused r → r .place .0 ≡ 0
   pub page-place : (h l : List ℕ) (p : ℕ) (r : Refusal) → pageAnswer h l p ≡ stepped.Refused r → r .place .0 ≡ 0
   pub close-place : (h l : List ℕ) (r : Refusal) → closeAnswer h l ≡ stepped.Refused r → r .place .0 ≡ 0
+  pub all-place : (h l : List ℕ) (r : Refusal) → allAnswer h l ≡ stepped.Refused r → r .place .0 ≡ 0
+  pub mark-place : (l : List ℕ) (from : ℕ) (r : Refusal) → markAnswer l from ≡ mark.Refused r → r .place .0 ≡ 0
   -- "it changes no byte of hive or output"
   pub copy-stays : (h us x out : List ℕ) (r : Refusal) → copyAnswer h us x (length out) ≡ copied.Refused r → copyOut h us x out ≡ out
   pub page-stays : (h l : List ℕ) (p : ℕ) (r : Refusal) → pageAnswer h l p ≡ stepped.Refused r → pageHive h l p ≡ h
   pub close-stays : (h l : List ℕ) (r : Refusal) → closeAnswer h l ≡ stepped.Refused r → closeHive h l ≡ h
+  pub all-stays : (h l : List ℕ) (r : Refusal) → allAnswer h l ≡ stepped.Refused r → allHive h l ≡ h
   -- "and the work map is then as listed": 1 to 8 leave it untouched; 9 and 10 leave its first bins size / 64 bytes zero; later ones leave it complete,
   -- and the bytes beyond stay
   pub map-untouched : (h m : List ℕ) (f : Flaw) → frontFault h (length m) ≡ Flawed f → mapLeft h m ≡ m

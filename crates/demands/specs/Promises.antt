@@ -18,7 +18,9 @@ use Rattle.listing.specs.Members.{subkeyAnswer, valueAnswer, infoAnswer as info
 use Rattle.recovery.specs.declared.Started.{Started}
 use Rattle.recovery.specs.declared.Stepped.{Stepped}
 use Rattle.recovery.specs.declared.NextPage.{NextPage}
+use Rattle.recovery.specs.declared.NextMark.{NextMark}
 use Rattle.recovery.specs.Calls.{startAnswer, pageAnswer, pageHive, closeAnswer, closeHive, nextAnswer}
+use Rattle.recovery.specs.AtOnce.{allAnswer, allHive, markAnswer}
 
 -- a promise that no two outcomes satisfy
 abbrev pub Determines : {A B : Type 0} → (A → B → Type 0) → Type 0
@@ -40,6 +42,9 @@ Pages h l p r after = (r ≡ pageAnswer h l p) × (after ≡ pageHive h l p)
 abbrev pub Closes : List ℕ → List ℕ → Stepped → List ℕ → Type 0
 Closes h l r after = (r ≡ closeAnswer h l) × (after ≡ closeHive h l)
 
+abbrev pub AllPages : List ℕ → List ℕ → Stepped → List ℕ → Type 0
+AllPages h l r after = (r ≡ allAnswer h l) × (after ≡ allHive h l)
+
 pub record Unique : Type 0 where
   pub survey : (h m : List ℕ) → Determines (Surveys h m)
   pub check : (h m : List ℕ) → Determines (Checks h m)
@@ -55,3 +60,5 @@ pub record Unique : Type 0 where
   pub page : (h l : List ℕ) (p : ℕ) → Determines (Pages h l p)
   pub close : (h l : List ℕ) → Determines (Closes h l)
   pub next-page : (l : List ℕ) (from : ℕ) (r r′ : NextPage) → r ≡ nextAnswer l from → r′ ≡ nextAnswer l from → r ≡ r′
+  pub all-pages : (h l : List ℕ) → Determines (AllPages h l)
+  pub next-mark : (l : List ℕ) (from : ℕ) (r r′ : NextMark) → r ≡ markAnswer l from → r′ ≡ markAnswer l from → r ≡ r′

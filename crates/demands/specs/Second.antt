@@ -32,9 +32,10 @@ use Rattle.lookup.specs.Reach.{Holds, FirstNamed}
 use Rattle.lookup.proofs.Listed.{FoundAgain}
 use Rattle.old_log.specs.Layout.{loggedCount}
 use Rattle.recovery.specs.declared.Started.the-variants as started
-use Rattle.recovery.specs.Calls.{startAnswer}
+use Rattle.recovery.specs.Calls.{startAnswer, closeHive}
 use Rattle.recovery.specs.Accepted.{Accepted}
-use Rattle.recovery.specs.Finished.{Covers, Repaired}
+use Rattle.recovery.specs.Finished.{Covers, Repaired, finished}
+use Rattle.recovery.specs.AtOnce.{allHive}
 
 -- the data that the record of the value at an offset names
 abbrev pub dataFor : List ℕ → Offset → ValueData
@@ -94,3 +95,5 @@ pub record Demand2 : Type 0 where
   pub log-accepted : (h l : List ℕ) → (startAnswer h l ≡ started.Pages (loggedCount l)) ↔ Accepted h l
   -- "Recovery from an old-format log puts each logged page in its place and then rewrites the first sector, and touches nothing else."
   pub repairs : (h l : List ℕ) (n : ℕ) → startAnswer h l ≡ started.Pages n → (ps : List ℕ) → Covers l ps → Repaired h l ps
+  -- and so does one call for all pages, with the closing call
+  pub at-once : (h l : List ℕ) (n : ℕ) → startAnswer h l ≡ started.Pages n → closeHive (allHive h l) l ≡ finished h l

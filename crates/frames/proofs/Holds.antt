@@ -14,8 +14,8 @@ use Rattle.recovery.specs.declared.Started.{Started}
 use Rattle.recovery.specs.declared.Started.the-variants.{Clean, Pages, Refused}
 use Rattle.recovery.specs.Calls.{startAnswer}
 use Rattle.recovery.proofs.Ended.{end-length}
-use Rattle.frames.specs.Frames.{repairedHive}
-use Rattle.frames.proofs.Rounds.{repaired-by}
+use Rattle.recovery.specs.Finished.{finished}
+use Rattle.frames.specs.Frames.{repairedAs, repairedHive}
 
 -- the part that is lent is what is held
 pub lent : (n e : ℕ) (b : List ℕ) → e ≡ min n (length b) → take (e - 0) b ≡ take n b
@@ -43,6 +43,11 @@ back n e b x q s = go (decLe n (length b))
         let l = length-take-le (e - 0) b (omega arith) in
         let z : drop (e - 0) b ≡ [] = drop-of-length-le b {i = e - 0} (omega arith) in
         ap (λ (y : List ℕ). take n (x ++ y)) z ∙ ap (take n) (append-nil x) ∙ take-all n x (omega arith)
+
+-- a whole repair, by the start's answer
+pub repaired-by : (h l : List ℕ) (a : Started) → startAnswer h l ≡ a → repairedHive h l ≡ repairedAs a (finished h l) h
+unfolding repairedHive
+repaired-by h l a e = ap (λ (x : Started). repairedAs x (finished h l) h) e
 
 -- a repair keeps the length, so a repaired part is held whole
 repaired-length : (h l : List ℕ) → length (repairedHive h l) ≡ length h

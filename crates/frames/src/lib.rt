@@ -4,7 +4,6 @@ pub mod say;
 use fields::Offset;
 use fields::Refusal;
 use lookup::KeyFound;
-use recovery::NextPage;
 use recovery::Started;
 use tree::Checked;
 use tree::Report;
@@ -16,11 +15,7 @@ ghost use Rattle.cells.specs.Survey.{mapLeft};
 ghost use Rattle.names.specs.Codes.{codes};
 ghost use Rattle.tree.specs.Tree.{checkAnswer};
 ghost use Rattle.lookup.specs.Answers.{findAnswer};
-ghost use Rattle.fields.specs.declared.Verdict.the-variants.{Sound};
-ghost use Rattle.old_log.specs.Layout.{pageCount};
-ghost use Rattle.old_log.specs.Tests.{logFault};
 ghost use Rattle.recovery.specs.Calls.{startAnswer};
-ghost use Rattle.recovery.specs.Finished.{asked, afterPages};
 ghost use Rattle.frames.specs.Frames.{framed, frameOf, checkedLine, repairedLine, repairedHive, foundLine, someHive, heldIn, logLine, logHeld, pathLine, unitsLeft, lineOf, heldAfter, mapAfter, unitsAfter};
 
 // "payload up to 20,480 bytes"
@@ -100,34 +95,6 @@ pub fn hive_line(hive: &[u8], map: &mut [u8]) -> Line
     }
 }
 
-// Every logged page, rising: at most as many turns as the log's bins have pages.
-fn install_pages(hive: &mut [u8], log: &[u8])
-    requires { ⌜ logFault (now log) ≡ Sound ⌝ }
-    ensures { λ _. ⌜ now (hive .exit) ≡ afterPages (now (hive .entry)) (now (log .entry)) (asked (pageCount (now (log .entry))) (now (log .entry)) 0) ⌝ }
-{
-    let mut left = old_log::bins_size(log) / 512;
-    let mut from: usize = 0;
-    while 0 < left {
-        match recovery::next_page(log, from) {
-            NextPage::NoMore => {
-                return;
-            }
-            NextPage::Refused(_) => {
-                return;
-            }
-            NextPage::At {
-                page,
-                from: _,
-                to: _,
-            } => {
-                recovery::page(hive, log, page);
-                from = page + 1;
-            }
-        }
-        left -= 1;
-    }
-}
-
 // "Log: repairs the last hive frame's bytes, pages rising": a refusal changes nothing.
 fn log_line(hive: &mut [u8], log: &[u8]) -> Line
     ensures { λ r. ⌜ r ≡ repairedLine (startAnswer (now (hive .entry)) (now (log .entry))) ⌝ }
@@ -137,7 +104,7 @@ fn log_line(hive: &mut [u8], log: &[u8]) -> Line
         Started::Clean => Line::Clean,
         Started::Refused(r) => Line::Refused(r),
         Started::Pages(n) => {
-            install_pages(hive, log);
+            recovery::all_pages(hive, log);
             recovery::close(hive, log);
             Line::Repaired(n)
         }

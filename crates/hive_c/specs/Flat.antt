@@ -22,6 +22,8 @@ use Rattle.recovery.specs.declared.Stepped.{Stepped}
 use Rattle.recovery.specs.declared.Stepped.the-variants as step
 use Rattle.recovery.specs.declared.NextPage.{NextPage}
 use Rattle.recovery.specs.declared.NextPage.the-variants as page
+use Rattle.recovery.specs.declared.NextMark.{NextMark}
+use Rattle.recovery.specs.declared.NextMark.the-variants as mark
 use Rattle.hive_c.specs.declared.HiveAnswer.{HiveAnswer}
 use Rattle.hive_c.specs.declared.HiveReport.{HiveReport}
 use Rattle.hive_c.specs.declared.HiveValue.{HiveValue}
@@ -29,6 +31,7 @@ use Rattle.hive_c.specs.declared.HiveCopy.{HiveCopy}
 use Rattle.hive_c.specs.declared.HiveMember.{HiveMember}
 use Rattle.hive_c.specs.declared.HiveRecovery.{HiveRecovery}
 use Rattle.hive_c.specs.declared.HivePage.{HivePage}
+use Rattle.hive_c.specs.declared.HiveMark.{HiveMark}
 
 -- the third field of a refusal is spoken for; until it is filled it says "no key"
 abbrev pub noKey : ℕ
@@ -111,3 +114,11 @@ abbrev pub pageIn : NextPage → HivePage
 pageIn (page.Refused f) = pageWith (refused f) 0 0 0 0
 pageIn page.NoMore = pageWith (granted 0) 1 0 0 0
 pageIn (page.At n from to) = pageWith (granted 0) 2 n (from .0) (to .0)
+
+abbrev pub markWith : HiveAnswer → ℕ → ℕ → ℕ → HiveMark
+markWith a s n to = record { answer = a; state = s; page = n; to = to }
+
+abbrev pub markIn : NextMark → HiveMark
+markIn (mark.Refused f) = markWith (refused f) 0 0 0
+markIn mark.NoMore = markWith (granted 0) 1 0 0
+markIn (mark.At n to) = markWith (granted 0) 2 n (to .0)

@@ -23,6 +23,7 @@ use lookup::Copied;
 use lookup::Info;
 use lookup::KeyFound;
 use lookup::ValueFound;
+use recovery::NextMark;
 use recovery::NextPage;
 use recovery::Started;
 use recovery::Stepped;
@@ -35,7 +36,8 @@ ghost use Rattle.tree.specs.Tree.{checkAnswer};
 ghost use Rattle.lookup.specs.Answers.{findAnswer, infoAnswer, viewAnswer, copyAnswer, copyOut};
 ghost use Rattle.listing.specs.Members.{subkeyAnswer, valueAnswer, infoAnswer as infoAt};
 ghost use Rattle.recovery.specs.Calls.{startAnswer, pageAnswer, pageHive, closeAnswer, closeHive, nextAnswer};
-ghost use Rattle.hive_c.specs.Flat.{granted as grantedOf, refused as refusedOf, reportIn, keyIn, formOf, valueIn, copyIn, narrowIn, memberIn, startIn, stepIn, pageIn};
+ghost use Rattle.recovery.specs.AtOnce.{allAnswer, allHive, markAnswer};
+ghost use Rattle.hive_c.specs.Flat.{granted as grantedOf, refused as refusedOf, reportIn, keyIn, formOf, valueIn, copyIn, narrowIn, memberIn, startIn, stepIn, pageIn, markIn};
 
 // The states: of an answer that goes on or ends, and of a step of the repair.
 const REFUSED: u64 = 0;
@@ -130,6 +132,16 @@ pub struct HivePage {
     pub state: u64,
     pub page: u64,
     pub from: u64,
+    pub to: u64,
+}
+
+// A page that a log marks. state: HIVE_REFUSED, HIVE_NO_MORE or HIVE_THERE. page: its number. to: where its 512 bytes go in the
+// hive, a place in the file.
+#[repr(C)]
+pub struct HiveMark {
+    pub answer: HiveAnswer,
+    pub state: u64,
+    pub page: u64,
     pub to: u64,
 }
 
@@ -403,9 +415,10 @@ fn started(s: Started) -> HiveRecovery
 // Whether an old-format log (file type 1 or 2) repairs this hive. A hive that needs no repair answers HIVE_CLEAN, whatever
 // the log. Refuses 1, 21, 22, 23, 22, 24, 25, in this order.
 //
-// A repair: start; for each page of hive_recover_next call hive_recover_page and store those 512 bytes in the file; wait until
-// they are on the disk; hive_recover_close; store the first 512 bytes; wait again. After a power failure, or in doubt, do all
-// of it again with the file as it is: the outcome is the same file, byte for byte.
+// A repair: start; hive_recover_all; for each page of hive_recover_mark store its 512 bytes in the file; wait until they are on
+// the disk; hive_recover_close; store the first 512 bytes; wait again. After a power failure, or in doubt, do all of it again
+// with the file as it is: the outcome is the same file, byte for byte. One page at a time does as well, by hive_recover_page for
+// each page of hive_recover_next, but each of these calls makes all tests anew.
 //
 // In all calls of the repair the hive is private memory, never a shared mapping of the file: hive_recover_close writes the first
 // sector in two steps, and the file must see them as one.
@@ -495,4 +508,49 @@ pub extern "C" fn hive_recover_next(log: &[u8], from: usize) -> HivePage
     ensures { λ r. ⌜ r ≡ pageIn (nextAnswer (now (log .entry)) from) ⌝ }
 {
     next(recovery::next_page(log, from))
+}
+
+// Installs every page that the log holds in the hive in memory, after one round of tests: what hive_recover_page does for each
+// page in turn. HIVE_DONE where it did. Refuses as hive_recover_start does. A refusal, and HIVE_CLEAN, leave the hive as it was.
+#[no_mangle]
+pub extern "C" fn hive_recover_all(hive: &mut [u8], log: &[u8]) -> HiveRecovery
+    ensures { λ r. ⌜ r ≡ stepIn (allAnswer (now (hive .entry)) (now (log .entry))) ⌝ }
+    ensures { λ _. ⌜ now (hive .exit) ≡ allHive (now (hive .entry)) (now (log .entry)) ⌝ }
+{
+    stepped(recovery::all_pages(hive, log))
+}
+
+fn marked(m: NextMark) -> HiveMark
+    ensures { λ r. ⌜ r ≡ markIn m ⌝ }
+{
+    match m {
+        NextMark::At { page, to } => HiveMark {
+            answer: granted(0),
+            state: THERE,
+            page: page as u64,
+            to: to.0 as u64,
+        },
+        NextMark::NoMore => HiveMark {
+            answer: granted(0),
+            state: NO_MORE,
+            page: 0,
+            to: 0,
+        },
+        NextMark::Refused(f) => HiveMark {
+            answer: refused(f),
+            state: REFUSED,
+            page: 0,
+            to: 0,
+        },
+    }
+}
+
+// The least page that the log marks, at or after a number: the pages that hive_recover_all has installed, one after the other.
+// Unlike hive_recover_next it counts nothing and does not say where the page lies in the log. Refuses 21, 22 for the bitmap,
+// 23, in this order. Start with 0, and go on with page + 1 until HIVE_NO_MORE.
+#[no_mangle]
+pub extern "C" fn hive_recover_mark(log: &[u8], from: usize) -> HiveMark
+    ensures { λ r. ⌜ r ≡ markIn (markAnswer (now (log .entry)) from) ⌝ }
+{
+    marked(recovery::next_mark(log, from))
 }

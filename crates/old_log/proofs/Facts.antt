@@ -62,6 +62,10 @@ module _ (l : List ℕ) where
   unfolding bitmap
   map-length e = simp (length-take, length-drop) (omega (arith, head-facts e .map-fits))
 
+  -- a marked page lies in the bins data
+  pub marked-below : headFault l ≡ Sound → (p : ℕ) → isLogged l p ≡ true → p < pageCount l
+  marked-below e p m = omega (arith, marked-inside (bitmap l) p m, map-length e, head-facts e .size .pages)
+
   -- the number of set bits, and what a log with some has room for
   pub count-le : loggedCount l ≤ pageCount l
   count-le = before-le (bitmap l) (pageCount l)
@@ -80,8 +84,7 @@ module _ (l : List ℕ) where
 
     -- a logged page lies in the bins data
     pub logged-below : (p : ℕ) → isLogged l p ≡ true → p < pageCount l
-    logged-below p m =
-        omega (arith, marked-inside (bitmap l) p m, map-length (head-of e), head-facts (head-of e) .size .pages)
+    logged-below p m = marked-below (head-of e) p m
 
     -- and its bytes in the log
     pub logged-fits : (p : ℕ) → isLogged l p ≡ true → loggedPlace l p + 512 ≤ length l

@@ -44,7 +44,8 @@ fn is_log_base(s: &[u8]) -> bool
     base::is_settled(s)
 }
 
-fn head_flaw(log: &[u8]) -> Verdict
+// 21; 22 for the bitmap; 23.
+pub fn head_flaw(log: &[u8]) -> Verdict
     ensures { λ r. ⌜ r ≡ headFault (now (log .entry)) ⌝ }
 {
     if log.len() < 512 {
@@ -62,7 +63,7 @@ fn head_flaw(log: &[u8]) -> Verdict
     Verdict::Sound
 }
 
-fn map_of(log: &[u8]) -> &[u8]
+pub fn map_of(log: &[u8]) -> &[u8]
     requires { ⌜ headFault (now log) ≡ Sound ⌝ }
     ensures { λ r. ⌜ now r ≡ bitmapOf (now (log .entry)) ⌝ }
 {
@@ -71,7 +72,7 @@ fn map_of(log: &[u8]) -> &[u8]
 }
 
 // The next multiple of 512 at or after the bitmap's end.
-fn pages_at(log: &[u8]) -> usize
+pub fn pages_at(log: &[u8]) -> usize
     requires { ⌜ headFault (now log) ≡ Sound ⌝ }
     ensures { λ r. ⌜ r ≡ pagesAt (now (log .entry)) ⌝ }
 {
@@ -125,7 +126,7 @@ pub fn is_logged(log: &[u8], page: usize) -> bool
 }
 
 pub fn next_logged(log: &[u8], from: usize) -> Next
-    requires { ⌜ logFault (now log) ≡ Sound ⌝ }
+    requires { ⌜ headFault (now log) ≡ Sound ⌝ }
     ensures { λ r. ⌜ r ≡ nextLogged (now (log .entry)) from ⌝ }
 {
     bitmap::next_marked(map_of(log), from)

@@ -8,7 +8,10 @@ use Rattle.sectors.specs.Closing.{closingSector}
 use Rattle.old_log.specs.Layout.{logged}
 use Rattle.recovery.specs.declared.Started.{Started}
 use Rattle.recovery.specs.declared.Stepped.{Stepped}
+use Rattle.recovery.specs.declared.Stepped.the-variants.{Done}
 use Rattle.recovery.specs.Calls.{startAnswer, tested, changed, installed, pageAnswer, pageHive, closed, closeAnswer, closeHive}
+use Rattle.recovery.specs.Finished.{afterPages}
+use Rattle.recovery.specs.AtOnce.{loggedPages, allAnswer, allHive}
 
 module _ (h l : List ℕ) (a : Started) (e : startAnswer h l ≡ a) where
   pub page-answer : (p : ℕ) → pageAnswer h l p ≡ tested a (installed l p)
@@ -26,3 +29,11 @@ module _ (h l : List ℕ) (a : Started) (e : startAnswer h l ≡ a) where
   pub close-hive : closeHive h l ≡ changed (tested a (closed h l)) (stored h 0 (closingSector (sector l))) h
   unfolding closeHive
   close-hive = ap (λ (x : Stepped). changed x (stored h 0 (closingSector (sector l))) h) close-answer
+
+  pub all-answer : allAnswer h l ≡ tested a Done
+  unfolding allAnswer
+  all-answer = ap (λ (x : Started). tested x Done) e
+
+  pub all-hive : allHive h l ≡ changed (tested a Done) (afterPages h l (loggedPages l)) h
+  unfolding allHive
+  all-hive = ap (λ (x : Stepped). changed x (afterPages h l (loggedPages l)) h) all-answer

@@ -6,3 +6,4 @@ pub mod Repair
 pub mod Ended
 pub mod Small
 pub mod Asked
+pub mod AtOnce

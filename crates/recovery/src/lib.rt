@@ -1,4 +1,4 @@
-// Recovery from an old log: start, one page, close; and which page comes next. No call keeps any state.
+// Recovery from an old log: start, one page or all of them, close; and which page comes next. No call keeps any state.
 use bitmap::Next;
 use fields::Fault;
 use fields::Flaw;
@@ -8,14 +8,19 @@ use fields::Refusal;
 use fields::Verdict;
 use old_log::Tested;
 ghost use mathlib.Core.Path.{_≡_};
+ghost use mathlib.Core.Bool.{cond};
+ghost use Prim.Native.Nat.{_+_, _≤_};
+ghost use lib.ListN.{length};
 ghost use Rattle.fields.specs.declared.Verdict.the-variants.{Sound};
 ghost use Rattle.fields.specs.Faults.{flaw, nowhere, refusalOf};
 ghost use Rattle.base.specs.Block.{sector};
 ghost use Rattle.sectors.specs.Sector.{stored, pagePlace};
 ghost use Rattle.sectors.specs.Closing.{closingSector};
-ghost use Rattle.old_log.specs.Layout.{loggedCount, logged, nextLogged};
-ghost use Rattle.old_log.specs.Tests.{logFault};
+ghost use Rattle.old_log.specs.Layout.{logBins, isLogged, loggedCount, loggedPlace, logged, nextLogged};
+ghost use Rattle.old_log.specs.Tests.{headFault, logFault};
 ghost use Rattle.recovery.specs.Calls.{hiveFault, testFault, started, startAnswer, installed, closed, changed, pageAnswer, pageHive, closeAnswer, closeHive, nextOf, nextAnswer};
+ghost use Rattle.recovery.specs.Finished.{afterPages};
+ghost use Rattle.recovery.specs.AtOnce.{loggedPages, allAnswer, allHive, markOf, markAnswer};
 
 pub enum Started {
     // The hive needs no repair.
@@ -36,6 +41,13 @@ pub enum Stepped {
 pub enum NextPage {
     // A logged page, where its bytes lie in the log, and where they go in the hive.
     At { page: usize, from: Place, to: Place },
+    NoMore,
+    Refused(Refusal),
+}
+
+pub enum NextMark {
+    // A logged page, and where its bytes go in the hive.
+    At { page: usize, to: Place },
     NoMore,
     Refused(Refusal),
 }
@@ -163,5 +175,74 @@ pub fn next_page(log: &[u8], from: usize) -> NextPage
     match old_log::log_test(log) {
         Tested::Flawed(f) => NextPage::Refused(fields::refused(f)),
         Tested::Logged(_) => next_of(log, from),
+    }
+}
+
+// ---- a repair in one pass
+
+// Puts a page in where it is logged. The caller knows where it lies in the log.
+fn put_in(hive: &mut [u8], log: &[u8], page: usize, from: usize)
+    requires { ⌜ logFault (now log) ≡ Sound ⌝ }
+    requires { ⌜ 4096 + logBins (now log) ≤ length (now hive) ⌝ }
+    requires { ⌜ from ≡ loggedPlace (now log) page ⌝ }
+    ensures { λ _. ⌜ now (hive .exit) ≡ cond (isLogged (now (log .entry)) page) (stored (now (hive .entry)) (pagePlace page) (logged (now (log .entry)) page)) (now (hive .entry)) ⌝ }
+{
+    if old_log::is_logged(log, page) {
+        let to = sectors::page_place(page);
+        sectors::store(hive, to, log, Place(from));
+    }
+}
+
+// Every logged page, rising: one pass over the bitmap, which keeps the place of the next logged page as it goes.
+fn put_all(hive: &mut [u8], log: &[u8])
+    requires { ⌜ startAnswer (now hive) (now log) ≡ Started.Pages (loggedCount (now log)) ⌝ }
+    ensures { λ _. ⌜ now (hive .exit) ≡ afterPages (now (hive .entry)) (now (log .entry)) (loggedPages (now (log .entry))) ⌝ }
+{
+    let map = old_log::map_of(log);
+    let n = old_log::bins_size(log) / 512;
+    let mut from = old_log::pages_at(log);
+    let mut page: usize = 0;
+    while page < n {
+        put_in(hive, log, page, from);
+        from += 512 * bitmap::bit_of(map, page);
+        page += 1;
+    }
+}
+
+// Installs every logged page after one round of tests: what page calls do in a row.
+pub fn all_pages(hive: &mut [u8], log: &[u8]) -> Stepped
+    ensures { λ r. ⌜ r ≡ allAnswer (now (hive .entry)) (now (log .entry)) ⌝ }
+    ensures { λ _. ⌜ now (hive .exit) ≡ allHive (now (hive .entry)) (now (log .entry)) ⌝ }
+{
+    match start(hive, log) {
+        Started::Clean => Stepped::Clean,
+        Started::Refused(r) => Stepped::Refused(r),
+        Started::Pages(_) => {
+            put_all(hive, log);
+            Stepped::Done
+        }
+    }
+}
+
+fn mark_of(log: &[u8], from: usize) -> NextMark
+    requires { ⌜ headFault (now log) ≡ Sound ⌝ }
+    ensures { λ r. ⌜ r ≡ markOf (nextLogged (now (log .entry)) from) ⌝ }
+{
+    match old_log::next_logged(log, from) {
+        Next::Nothing => NextMark::NoMore,
+        Next::At(page) => NextMark::At {
+            page,
+            to: sectors::page_place(page),
+        },
+    }
+}
+
+// The least logged page at or after `from`, for a host that stores what `all_pages` made: no bit is counted.
+pub fn next_mark(log: &[u8], from: usize) -> NextMark
+    ensures { λ r. ⌜ r ≡ markAnswer (now (log .entry)) from ⌝ }
+{
+    match old_log::head_flaw(log) {
+        Verdict::Flawed(f) => NextMark::Refused(fields::refused(f)),
+        Verdict::Sound => mark_of(log, from),
     }
 }

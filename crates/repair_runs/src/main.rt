@@ -14,6 +14,10 @@
 //   10 the first sector of memory lands on the disk
 //   11 the power fails, and the disk is read into memory
 //   12 writes what the disk holds, as one number
+//   13 all pages
+//   14 the next mark from n on
+//   15 the next mark from 2^64 - 1 - n on
+//   16 writes the set bits before each of the pages 0 to n - 1, the log's bytes taken for a bitmap
 mod say;
 
 // How long hive and log are.
@@ -143,7 +147,11 @@ fn repair(mem: &mut [u8], disk: &mut [u8], log: &[u8], kind: u8, n: usize) {
         9 => land_page(disk, mem, n),
         10 => land(disk, mem, 0),
         11 => put_part(mem, disk, 0),
-        _ => say::disk(disk),
+        12 => say::disk(disk),
+        13 => say::stepped(recovery::all_pages(mem, log)),
+        14 => say::mark(recovery::next_mark(log, n)),
+        15 => say::mark(recovery::next_mark(log, 18446744073709551615 - n)),
+        _ => say::before(log, n),
     }
 }
 
@@ -185,7 +193,13 @@ enum Went {
     Ended,
 }
 
-fn turn(mem: &mut [u8], disk: &mut [u8], log: &mut [u8], buf: &mut [u8], l: Lengths) -> Went {
+fn turn(
+    mem: &mut [u8; 1052672],
+    disk: &mut [u8; 1052672],
+    log: &mut [u8; 524288],
+    buf: &mut [u8; 4096],
+    l: Lengths,
+) -> Went {
     let mut head = [0u8; 5];
     let got = io::read_full(0, &mut head);
     if got < 5 {
@@ -196,7 +210,12 @@ fn turn(mem: &mut [u8], disk: &mut [u8], log: &mut [u8], buf: &mut [u8], l: Leng
 }
 
 // Nothing says that the input ends, so the turns are counted down from a number that no run uses up.
-fn run(mem: &mut [u8], disk: &mut [u8], log: &mut [u8], buf: &mut [u8]) {
+fn run(
+    mem: &mut [u8; 1052672],
+    disk: &mut [u8; 1052672],
+    log: &mut [u8; 524288],
+    buf: &mut [u8; 4096],
+) {
     let mut l = Lengths { hive: 0, log: 0 };
     let mut left = u64::MAX;
     while 0 < left {
@@ -213,9 +232,9 @@ fn run(mem: &mut [u8], disk: &mut [u8], log: &mut [u8], buf: &mut [u8]) {
 }
 
 fn main() {
-    let mut mem = [0u8; 20480];
-    let mut disk = [0u8; 20480];
-    let mut log = [0u8; 4096];
+    let mut mem = [0u8; 1052672];
+    let mut disk = [0u8; 1052672];
+    let mut log = [0u8; 524288];
     let mut buf = [0u8; 4096];
     run(&mut mem, &mut disk, &mut log, &mut buf);
 }

@@ -1,5 +1,6 @@
 // What is written of each answer.
 use fields::Refusal;
+use recovery::NextMark;
 use recovery::NextPage;
 use recovery::Started;
 use recovery::Stepped;
@@ -65,6 +66,36 @@ pub fn next(a: NextPage) {
             refusal(r);
         }
     }
+}
+
+pub fn mark(a: NextMark) {
+    match a {
+        NextMark::NoMore => {
+            io::write_all(1, b"no more\n");
+        }
+        NextMark::At { page, to } => {
+            number(b"page ", page);
+            number(b" to ", to.0);
+            end();
+        }
+        NextMark::Refused(r) => {
+            refusal(r);
+        }
+    }
+}
+
+fn next_number(n: usize) {
+    number(b" ", n);
+}
+
+// A line of numbers: the set bits before each of the pages 0 to n - 1.
+pub fn before(map: &[u8], n: usize) {
+    let mut page: usize = 0;
+    while page < n {
+        next_number(bitmap::bits_before(map, page));
+        page += 1;
+    }
+    end();
 }
 
 fn mix(sum: u32, b: u8) -> u32 {

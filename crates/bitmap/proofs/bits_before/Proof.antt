@@ -1,44 +1,62 @@
+use Rattle.bitmap.proofs.Laws.{before-le}
 use Rattle.bitmap.specs.Bits.{bitsBefore}
 use native.Mathlib.Omega.{arith}
-use native.Mathlib.Nat.{le-antisymm}
-use native.Mathlib.Numerals.{add-one}
-use Prim.Native.Nat.{_+_, _≤_, _-_}
-use mathlib.Core.Path.{_≡_, refl, ap, ap₂, _∙_}
+use Prim.Native.Nat.{ℕ, _+_, _*_, _/_}
+use mathlib.Core.Path.{_≡_, ap, _∙_}
 use borrow.Author.Needs.{needs}
 use Rattle.bitmap.proofs.bits_before.Statement.{statement}
 use Rattle.bitmap.proofs.bits_before.Tie as tie
 
-abbrev Inv-loop : tie.InvT-loop
-Inv-loop map page n₀ i₀ n i = (i ≤ page) × (n ≤ i) × (n ≡ bitsBefore map i)
+bytes-before-requires : tie.Need-bytes-before-requires
+bytes-before-requires c κs = search needs
 
-abbrev μ-loop : tie.MeasureT-loop
-μ-loop map page n₀ i₀ n i = page - i
+mul-words : tie.Need-mul-words
+mul-words c = search needs
 
-loop-holds : tie.Need-loop-holds Inv-loop μ-loop
-unfolding bitsBefore
-loop-holds c = (search needs, search needs, refl)
+ones-of-words-requires : tie.Need-ones-of-words-requires
+ones-of-words-requires c κs = (omega arith, (omega arith, omega arith))
 
-bit-of-requires : tie.Need-bit-of-requires Inv-loop μ-loop
-bit-of-requires c κs = search needs
+ones-of-bytes-requires : tie.Need-ones-of-bytes-requires
+ones-of-bytes-requires c κs = (omega arith, (omega arith, omega arith))
 
-add-n : tie.Need-add-n Inv-loop μ-loop
-add-n c = omega arith
+-- the bytes wholly before the page
+whole : (c : tie.After-ones-of-bytes)
+    → c .before .ones-of-words .result + c .ones-of-bytes .result
+    ≡ bitsBefore (c .before .before .before .before .args .map .now) (8 * (c .before .before .before .before .args .page / 8))
+whole c =
+    ap (λ (n : ℕ). n + c .ones-of-bytes .result) (c .before .ones-of-words .ensures) ∙ c .ones-of-bytes .ensures
+    ∙ c .before .before .bytes-before .ensures .2
 
-add-i : tie.Need-add-i Inv-loop μ-loop
-add-i c = omega arith
+add-result : tie.Need-add-result
+add-result c =
+    let s = c .before .before .before .before in
+    omega (arith, whole c, before-le (s .args .map .now) (8 * (s .args .page / 8)))
 
-loop-less : tie.Need-loop-less Inv-loop μ-loop
-loop-less c = omega arith
+ones-in-byte-requires : tie.Need-ones-in-byte-requires
+ones-in-byte-requires c κs = search needs
 
-loop-again : tie.Need-loop-again Inv-loop μ-loop
-unfolding bitsBefore
-loop-again c = (omega arith, omega arith, rw add-one (ap₂ _+_ (c .before .before .loop .inv .2) (c .bit-of .ensures)))
+counted : (c : tie.After-ones-in-byte)
+    → c .before .before .ones-of-words .result + c .before .ones-of-bytes .result + c .ones-in-byte .result
+    ≡ bitsBefore (c .before .before .before .before .before .args .map .now) (c .before .before .before .before .before .args .page)
+counted c = ap (λ (n : ℕ). n + c .ones-in-byte .result) (whole (c .before)) ∙ c .ones-in-byte .ensures
 
-returns : tie.Need-returns Inv-loop μ-loop
-returns c =
-    c .before .loop .inv .2 ∙ ap (bitsBefore (c .before .before .before .args .map .now)) (le-antisymm (c .before .loop .inv .0) (c .loop-test .left))
+add-result-2 : tie.Need-add-result-2
+add-result-2 c =
+    let s = c .before .before .before .before .before in
+    omega (arith, counted c, before-le (s .args .map .now) (s .args .page))
+
+returns : tie.Need-returns
+returns c = counted c
 
 pub bits-before-spec : {M : Type 1} → statement M
 bits-before-spec =
     tie.close
-    (tie.spec Inv-loop μ-loop loop-holds bit-of-requires add-n add-i loop-less loop-again returns)
+    (tie.spec
+    bytes-before-requires
+    mul-words
+    ones-of-words-requires
+    ones-of-bytes-requires
+    add-result
+    ones-in-byte-requires
+    add-result-2
+    returns)

@@ -1,10 +1,10 @@
 use mathlib.Core.Path.{_∙_, sym, ap}
 use Prim.Native.Nat.{ℕ}
 use mathlib.Core.List.{List}
-use Rattle.recovery.proofs.Within.{good}
+use Rattle.recovery.proofs.AtOnce.{at-once}
 use Rattle.recovery.specs.Calls.{closeHive}
 use Rattle.frames.specs.Frames.{repairedLine}
-use Rattle.frames.proofs.Rounds.{repaired-by, finishes}
+use Rattle.frames.proofs.Holds.{repaired-by}
 use borrow.Author.Needs.{needs}
 use Rattle.frames.proofs.log_line.Statement.{statement}
 use Rattle.frames.proofs.log_line.Tie as tie
@@ -21,8 +21,8 @@ enum-known-r c = search needs
 enum-known-n : tie.Need-enum-known-n
 enum-known-n c = search needs
 
-install-pages-requires : tie.Need-install-pages-requires
-install-pages-requires c κs = good (c .before .before .before .before .before .before .before .before .args .hive .now) (c .before .before .before .before .before .before .before .before .args .log .now) _ (sym (c .before .before .before .before .start .ensures) ∙ c .before .before .n .given .1) .log
+all-pages-requires : tie.Need-all-pages-requires
+all-pages-requires c κs = search needs
 
 close-requires : tie.Need-close-requires
 close-requires c κs = search needs
@@ -45,7 +45,7 @@ same-length-3 c = search needs
 returns-3 : tie.Need-returns-3
 returns-3 c = let e = sym (c .before .before .before .before .before .before .before .before .before .before .before .start .ensures) ∙ c .before .before .before .before .before .before .before .before .before .n .given .1 in
     let l = c .before .before .before .before .before .before .before .before .before .before .before .before .before .before .before .args .log .now in
-    (sym (ap repairedLine e), c .before .before .close .ensures .1 ∙ ap (λ (d : List ℕ). closeHive d l) (c .before .before .before .before .before .before .install-pages .ensures) ∙ finishes _ _ _ e ∙ sym (repaired-by _ _ _ e))
+    (sym (ap repairedLine e), c .before .before .close .ensures .1 ∙ ap (λ (d : List ℕ). closeHive d l) (c .before .before .before .before .before .before .all-pages .ensures .1) ∙ at-once _ _ _ e ∙ sym (repaired-by _ _ _ e))
 
 pub log-line-spec : {M : Type 1} → statement M
 log-line-spec =
@@ -55,7 +55,7 @@ log-line-spec =
     enum-told
     enum-known-r
     enum-known-n
-    install-pages-requires
+    all-pages-requires
     close-requires
     same-length
     returns

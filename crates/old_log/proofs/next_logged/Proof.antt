@@ -1,5 +1,5 @@
 use Prim.Native.Nat.{ℕ}
-use Rattle.old_log.proofs.Facts.{head-of, head-facts, map-length}
+use Rattle.old_log.proofs.Facts.{head-facts, map-length}
 use Rattle.bitmap.specs.Bits.{nextMarked}
 use lib.ListN.{length}
 use native.Mathlib.Omega.{arith}
@@ -9,14 +9,13 @@ use Rattle.old_log.proofs.next_logged.Statement.{statement}
 use Rattle.old_log.proofs.next_logged.Tie as tie
 
 map-of-requires : tie.Need-map-of-requires
-map-of-requires c κs = head-of (c .before .args .log .now) (c .before .pre)
+map-of-requires c κs = c .before .pre
 
 next-marked-requires : tie.Need-next-marked-requires
 next-marked-requires c κs =
     let s = c .before .before in
     let l = s .args .log .now in
-    let e = head-of l (s .pre) in
-    omega (arith, ap length (c .map-of .ensures), map-length l e, head-facts l e .size .limit)
+    omega (arith, ap length (c .map-of .ensures), map-length l (s .pre), head-facts l (s .pre) .size .limit)
 
 returns : tie.Need-returns
 returns c = c .next-marked .ensures ∙ ap (λ (m : List ℕ). nextMarked m (c .before .before .before .args .from)) (c .before .map-of .ensures)

@@ -18,7 +18,7 @@ marked c =
     next-least (bitmap (s .args .log .now)) (s .args .from) (c .before .n .given .0 .0) (sym (c .before .before .before .next-logged .ensures) ∙ c .before .n .given .1) .marked
 
 next-logged-requires : tie.Need-next-logged-requires
-next-logged-requires c κs = search needs
+next-logged-requires c κs = head-of (c .before .args .log .now) (c .before .pre)
 
 enum-told : tie.Need-enum-told
 enum-told c = search needs

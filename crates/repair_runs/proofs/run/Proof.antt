@@ -1,12 +1,9 @@
-use mathlib.Core.Path.{_≡_}
-use lib.ListN.{length}
 use borrow.Author.Needs.{needs}
 use Rattle.repair_runs.proofs.run.Statement.{statement}
 use Rattle.repair_runs.proofs.run.Tie as tie
 
 abbrev Inv-loop : tie.InvT-loop
-Inv-loop mem₀ disk₀ log₀ buf₀ l₀ left₀ mem disk log buf l left =
-    (length mem ≡ length mem₀) × (length disk ≡ length disk₀) × (length log ≡ length log₀) × (length buf ≡ length buf₀)
+Inv-loop mem₀ disk₀ log₀ buf₀ l₀ left₀ mem disk log buf l left = Unit {0}
 
 abbrev μ-loop : tie.MeasureT-loop
 μ-loop mem₀ disk₀ log₀ buf₀ l₀ left₀ mem disk log buf l left = left
@@ -19,18 +16,6 @@ turn-requires c κs = search needs
 
 enum-told : tie.Need-enum-told Inv-loop μ-loop
 enum-told c = search needs
-
-same-length : tie.Need-same-length Inv-loop μ-loop
-same-length c = search needs
-
-same-length-2 : tie.Need-same-length-2 Inv-loop μ-loop
-same-length-2 c = search needs
-
-same-length-3 : tie.Need-same-length-3 Inv-loop μ-loop
-same-length-3 c = search needs
-
-same-length-4 : tie.Need-same-length-4 Inv-loop μ-loop
-same-length-4 c = search needs
 
 returns : tie.Need-returns Inv-loop μ-loop
 returns c = search needs
@@ -47,18 +32,6 @@ loop-less c = search needs
 loop-again : tie.Need-loop-again Inv-loop μ-loop
 loop-again c = search needs
 
-same-length-5 : tie.Need-same-length-5 Inv-loop μ-loop
-same-length-5 c = search needs
-
-same-length-6 : tie.Need-same-length-6 Inv-loop μ-loop
-same-length-6 c = search needs
-
-same-length-7 : tie.Need-same-length-7 Inv-loop μ-loop
-same-length-7 c = search needs
-
-same-length-8 : tie.Need-same-length-8 Inv-loop μ-loop
-same-length-8 c = search needs
-
 returns-2 : tie.Need-returns-2 Inv-loop μ-loop
 returns-2 c = search needs
 
@@ -71,17 +44,9 @@ run-spec =
     loop-holds
     turn-requires
     enum-told
-    same-length
-    same-length-2
-    same-length-3
-    same-length-4
     returns
     enum-known-m
     sub-left
     loop-less
     loop-again
-    same-length-5
-    same-length-6
-    same-length-7
-    same-length-8
     returns-2)

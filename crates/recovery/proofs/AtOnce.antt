@@ -1,0 +1,58 @@
+-- All pages at once are page calls in a row, so they and a closing call give the finished file.
+use Prim.Native.Nat.{ℕ, zero, suc, _<_}
+use native.Mathlib.Decide.{ℕ-discrete}
+use native.Mathlib.Nat.{not-suc-le-zero}
+use native.Mathlib.Omega.{arith}
+use mathlib.Core.Path.{_≡_, refl, sym, ap, subst, _∙_}
+use mathlib.Core.Bool.{Bool, true, false, cond}
+use mathlib.Core.List.{List, [], _∷_, _++_, append-nil, List·Memᴰ, List·Memᴰ·head, Memᴰ·append-left, Memᴰ·append-right}
+use Rattle.sectors.specs.Sector.{stored, pagePlace}
+use Rattle.old_log.specs.Layout.{pageCount, isLogged, logged}
+use Rattle.old_log.proofs.Facts.{logged-below}
+use Rattle.recovery.specs.declared.Started.the-variants.{Pages}
+use Rattle.recovery.specs.Calls.{startAnswer, pageHive, closeHive}
+use Rattle.recovery.specs.Finished.{finished, afterPages, Covers}
+use Rattle.recovery.specs.AtOnce.{loggedBelow, loggedPages, allHive}
+use Rattle.recovery.proofs.ByStart.{all-hive}
+use Rattle.recovery.proofs.Within.{Within, within-self, good, page-stores}
+use Rattle.recovery.proofs.Repair.{pages-within, repaired}
+
+after-both : (l ps qs h : List ℕ) → afterPages h l (ps ++ qs) ≡ afterPages (afterPages h l ps) l qs
+unfolding afterPages
+after-both l [] qs h = refl
+after-both l (p ∷ ps) qs h = after-both l ps qs (pageHive h l p)
+
+-- a logged page below k is among those listed
+below-has : (l : List ℕ) (k p : ℕ) → p < k → isLogged l p ≡ true → List·Memᴰ p (loggedBelow k l)
+unfolding loggedBelow
+below-has l zero p g m = absurd (not-suc-le-zero g)
+below-has l (suc k) p g m = go (ℕ-discrete p k) (below-has l k p)
+  where
+    go : Dec (p ≡ k) → (p < k → isLogged l p ≡ true → List·Memᴰ p (loggedBelow k l)) → List·Memᴰ p (loggedBelow k l ++ cond (isLogged l k) (k ∷ []) [])
+    go (yes e) rest =
+        Memᴰ·append-right (loggedBelow k l)
+        (subst (λ (b : Bool). List·Memᴰ p (cond b (k ∷ []) [])) (sym m ∙ ap (isLogged l) e) (List·Memᴰ·head e))
+    go (no e) rest = Memᴰ·append-left (cond (isLogged l k) (k ∷ []) []) (rest (omega arith) m)
+
+module _ (h l : List ℕ) (n : ℕ) (ok : startAnswer h l ≡ Pages n) where
+  -- the hive once the pages below p are done
+  abbrev so-far : ℕ → List ℕ
+  so-far p = afterPages h l (loggedBelow p l)
+
+  pub so-far-within : (p : ℕ) → Within h l (so-far p)
+  so-far-within p = pages-within h l n ok (loggedBelow p l) h (within-self h l)
+
+  pub one-more : (p : ℕ) → so-far (suc p) ≡ cond (isLogged l p) (stored (so-far p) (pagePlace p) (logged l p)) (so-far p)
+  unfolding loggedBelow afterPages
+  one-more p = go (isLogged l p) refl
+    where
+      go : (b : Bool) → isLogged l p ≡ b
+          → afterPages h l (loggedBelow p l ++ cond b (p ∷ []) []) ≡ cond b (stored (so-far p) (pagePlace p) (logged l p)) (so-far p)
+      go true e = after-both l (loggedBelow p l) (p ∷ []) h ∙ page-stores h l n ok (so-far p) (so-far-within p) p e
+      go false e = ap (afterPages h l) (append-nil (loggedBelow p l))
+
+  pub all-covered : Covers l (loggedPages l)
+  all-covered p m = below-has l (pageCount l) p (logged-below l (good h l n ok .log) p m) m
+
+  pub at-once : closeHive (allHive h l) l ≡ finished h l
+  at-once = ap (λ (d : List ℕ). closeHive d l) (all-hive h l (Pages n) ok) ∙ repaired h l n ok (loggedPages l) all-covered .file

@@ -1,0 +1,73 @@
+use Rattle.recovery.proofs.ByStart.{all-answer, all-hive}
+use Rattle.recovery.proofs.Ways.{begun}
+use Rattle.recovery.specs.declared.Started.the-variants.{Clean, Pages, Refused}
+use mathlib.Core.Path.{sym, ap, _∙_}
+use borrow.Author.Needs.{needs}
+use Rattle.recovery.proofs.all_pages.Statement.{statement}
+use Rattle.recovery.proofs.all_pages.Tie as tie
+
+start-requires : tie.Need-start-requires
+start-requires c κs = search needs
+
+enum-told : tie.Need-enum-told
+enum-told c = search needs
+
+enum-known-r : tie.Need-enum-known-r
+enum-known-r c = search needs
+
+enum-told-2 : tie.Need-enum-told-2
+enum-told-2 c = search needs
+
+put-all-requires : tie.Need-put-all-requires
+put-all-requires c κs =
+    let s = c .before .before .before .before .before .before .before in
+    let g = c .before .enum-told2 .given in
+    let e = sym (c .before .before .before .start .ensures) ∙ g .1 in
+    e ∙ sym (ap Pages (begun (s .args .hive .now) (s .args .log .now) (g .0 .0) e .count))
+
+same-length : tie.Need-same-length
+same-length c = search needs
+
+returns : tie.Need-returns
+returns c =
+    let s = c .before .before .before .before .before .before in
+    let e = sym (c .before .before .start .ensures) ∙ c .enum-told .given .1 in
+    (sym (all-answer (s .args .hive .now) (s .args .log .now) Clean e), sym (all-hive (s .args .hive .now) (s .args .log .now) Clean e))
+
+same-length-2 : tie.Need-same-length-2
+same-length-2 c = search needs
+
+returns-2 : tie.Need-returns-2
+returns-2 c =
+    let s = c .before .before .before .before .before .before .before in
+    let g = c .before .r .given in
+    let e = sym (c .before .before .before .start .ensures) ∙ g .1 in
+    (sym (all-answer (s .args .hive .now) (s .args .log .now) (Refused (g .0 .0)) e), sym (all-hive (s .args .hive .now) (s .args .log .now) (Refused (g .0 .0)) e))
+
+same-length-3 : tie.Need-same-length-3
+same-length-3 c = search needs
+
+returns-3 : tie.Need-returns-3
+returns-3 c =
+    let s = c .before .before .before .before .before .before .before .before .before .before in
+    let h = s .args .hive .now in
+    let l = s .args .log .now in
+    let g = c .before .before .before .before .enum-told2 .given in
+    let e = sym (c .before .before .before .before .before .before .start .ensures) ∙ g .1 in
+    (sym (all-answer h l (Pages (g .0 .0)) e), c .before .before .put-all .ensures ∙ sym (all-hive h l (Pages (g .0 .0)) e))
+
+pub all-pages-spec : {M : Type 1} → statement M
+all-pages-spec =
+    tie.close
+    (tie.spec
+    start-requires
+    enum-told
+    enum-known-r
+    enum-told-2
+    put-all-requires
+    same-length
+    returns
+    same-length-2
+    returns-2
+    same-length-3
+    returns-3)

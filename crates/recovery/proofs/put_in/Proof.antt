@@ -1,0 +1,61 @@
+use Rattle.old_log.proofs.Facts.{head-of, head-facts, logged-below, logged-fits, logged-inside}
+use Rattle.old_log.specs.Layout.{logged}
+use Rattle.sectors.specs.Sector.{sectorAt, stored, pagePlace}
+use native.Mathlib.Omega.{arith}
+use Prim.Native.Nat.{ℕ}
+use mathlib.Core.Bool.{Bool, cond}
+use mathlib.Core.Path.{sym, ap, ap₂, _∙_}
+use borrow.Author.Needs.{needs}
+use Rattle.recovery.proofs.put_in.Statement.{statement}
+use Rattle.recovery.proofs.put_in.Tie as tie
+
+is-logged-requires : tie.Need-is-logged-requires
+is-logged-requires c κs = c .before .before .pre .0
+
+page-place-requires : tie.Need-page-place-requires
+page-place-requires c κs =
+    let s = c .before .before .before .before in
+    let l = s .args .log .now in
+    omega (arith, logged-below l (s .pre .0) (s .args .page) (sym (c .before .is-logged .ensures) ∙ c .if1 .taken), head-facts l (head-of l (s .pre .0)) .size .limit)
+
+store-requires : tie.Need-store-requires
+store-requires c κs =
+    let s = c .before .before .before .before .before .before in
+    let l = s .args .log .now in
+    let m = sym (c .before .before .before .is-logged .ensures) ∙ c .before .before .if1 .taken in (
+      omega (arith, c .before .page-place .ensures, logged-inside l (s .pre .0) (s .args .hive .now) (s .pre .1 .0) (s .args .page) m),
+      omega (arith, s .pre .1 .1, logged-fits l (s .pre .0) (s .args .page) m),
+    )
+
+same-length : tie.Need-same-length
+same-length c = search needs
+
+returns : tie.Need-returns
+unfolding logged
+returns c =
+    let s = c .before .before .before .before .before .before .before .before .before in
+    let h = s .args .hive .now in
+    let l = s .args .log .now in
+    let p = s .args .page in
+    let m = sym (c .before .before .before .before .before .before .is-logged .ensures) ∙ c .before .before .before .before .before .if1 .taken in
+    c .before .before .store .ensures
+    ∙ ap₂ (λ (a b : ℕ). stored h a (sectorAt l b)) (c .before .before .before .before .page-place .ensures) (s .pre .1 .1)
+    ∙ sym (ap (λ (b : Bool). cond b (stored h (pagePlace p) (logged l p)) h) m)
+
+returns-2 : tie.Need-returns-2
+returns-2 c =
+    let s = c .before .before .before .before in
+    let h = s .args .hive .now in
+    let p = s .args .page in
+    sym (ap (λ (b : Bool). cond b (stored h (pagePlace p) (logged (s .args .log .now) p)) h) (sym (c .before .is-logged .ensures) ∙ c .if1 .left))
+
+pub put-in-spec : {M : Type 1} → statement M
+put-in-spec =
+    tie.close
+    (tie.spec
+    is-logged-requires
+    page-place-requires
+    store-requires
+    same-length
+    returns
+    returns-2)
