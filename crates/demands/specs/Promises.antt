@@ -1,6 +1,6 @@
 -- "Every public call's promise determines its answer and each byte of hive, map and output after it, for all inputs; show that no second outcome could
 -- satisfy it." An outcome of each call is its answer and what it was lent to write; its promise is the call's contract.
-use Prim.Native.Nat.{ℕ}
+use Prim.Native.Nat.{ℕ, _+_}
 use mathlib.Core.Path.{_≡_}
 use mathlib.Core.List.{List}
 use lib.ListN.{length}
@@ -12,7 +12,7 @@ use Rattle.tree.specs.Tree.{checkAnswer}
 use Rattle.lookup.specs.declared.KeyFound.{KeyFound}
 use Rattle.lookup.specs.declared.ValueFound.{ValueFound}
 use Rattle.lookup.specs.declared.Copied.{Copied}
-use Rattle.lookup.specs.Answers.{findAnswer, infoAnswer, viewAnswer, viewBytes, copyAnswer, copyOut}
+use Rattle.lookup.specs.Answers.{findAnswer, infoAnswer, viewAnswer, viewStart, viewBytes, copyAnswer, copyOut}
 use Rattle.listing.specs.declared.Member.{Member}
 use Rattle.listing.specs.Members.{subkeyAnswer, valueAnswer, infoAnswer as infoAt}
 use Rattle.recovery.specs.declared.Started.{Started}
@@ -36,6 +36,10 @@ Checks h m r after = (r ≡ checkAnswer h m) × (after ≡ mapLeft h m)
 abbrev pub Copies : List ℕ → List ℕ → List ℕ → List ℕ → Copied → List ℕ → Type 0
 Copies h us x out r after = (r ≡ copyAnswer h us x (length out)) × (after ≡ copyOut h us x out)
 
+-- a view is a part of the lent hive: its bytes, and where in memory it starts; hive is where the hive starts, a block and an offset in it
+abbrev pub Views : List ℕ → List ℕ → List ℕ → ℕ × ℕ → List ℕ → ℕ × ℕ → Type 0
+Views h us x hive s part = (s ≡ viewBytes h us x) × (part ≡ (hive .0, viewStart h us x + hive .1))
+
 abbrev pub Pages : List ℕ → List ℕ → ℕ → Stepped → List ℕ → Type 0
 Pages h l p r after = (r ≡ pageAnswer h l p) × (after ≡ pageHive h l p)
 
@@ -51,7 +55,7 @@ pub record Unique : Type 0 where
   pub find-key : (h us : List ℕ) (r r′ : KeyFound) → r ≡ findAnswer h us → r′ ≡ findAnswer h us → r ≡ r′
   pub value-info : (h us x : List ℕ) (r r′ : ValueFound) → r ≡ infoAnswer h us x → r′ ≡ infoAnswer h us x → r ≡ r′
   pub view-info : (h us x : List ℕ) (r r′ : ValueFound) → r ≡ viewAnswer h us x → r′ ≡ viewAnswer h us x → r ≡ r′
-  pub value-view : (h us x s s′ : List ℕ) → s ≡ viewBytes h us x → s′ ≡ viewBytes h us x → s ≡ s′
+  pub value-view : (h us x : List ℕ) (hive : ℕ × ℕ) → Determines (Views h us x hive)
   pub value-copy : (h us x out : List ℕ) → Determines (Copies h us x out)
   pub nth-subkey : (h : List ℕ) (o : Offset) (n : ℕ) (r r′ : Member) → r ≡ subkeyAnswer h o n → r′ ≡ subkeyAnswer h o n → r ≡ r′
   pub nth-value : (h : List ℕ) (o : Offset) (n : ℕ) (r r′ : Member) → r ≡ valueAnswer h o n → r′ ≡ valueAnswer h o n → r ≡ r′
