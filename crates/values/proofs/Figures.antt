@@ -1,4 +1,4 @@
--- Figures of document 01, proved by computation.
+-- Both sides of the bounds on a value's data, by computation. The figures that the paper has run are in crates/hive_runs.
 use Prim.Native.Nat.{ℕ, _+_}
 use mathlib.Core.Path.{_≡_, refl}
 use mathlib.Core.Bool.{true, false}
