@@ -61,7 +61,7 @@ counts-same p q r = rw (p, q, r)
 
 module _ (d : List ℕ) where
   -- cells that are counted tile their bin, by as many steps as are enough
-  tile-by : (k at end u f u' f' : ℕ) → end - at ≤ k → at ≤ end → rowOf (tiling d at end) u f ≡ Counted u' f' → CellsTile d end at
+  pub tile-by : (k at end u f u' f' : ℕ) → end - at ≤ k → at ≤ end → rowOf (tiling d at end) u f ≡ Counted u' f' → CellsTile d end at
   unfolding rowOf
   tile-by zero at end u f u' f' p q e = let s : end ≡ at = omega arith in subst (λ (x : ℕ). CellsTile d end x) s cells-end
   tile-by (suc k) at end u f u' f' p q e =
@@ -105,7 +105,7 @@ module _ (d : List ℕ) where
   cells-order (cell-on lt g t) = omega arith
 
   -- a header that is good, and one that is not
-  header-of : (at : ℕ) → (binSize d at ≡ 0 → ⊥) → at < length d → Header d at (binSize d at)
+  pub header-of : (at : ℕ) → (binSize d at ≡ 0 → ⊥) → at < length d → Header d at (binSize d at)
   unfolding binSize
   header-of at ne lt =
       by (standsAt d at (104 ∷ 98 ∷ 105 ∷ 110 ∷ [])) refl (eqb (u32At d (at + 4)) at) refl (eqb (s % 4096) 0) refl (leb s (length d - at)) refl ne

@@ -4,3 +4,4 @@ pub mod Survey
 pub mod Named
 pub mod Tiled
 pub mod Counts
+pub mod Refused

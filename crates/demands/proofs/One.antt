@@ -8,7 +8,6 @@ one p q = p ∙ sym q
 pub unique : Unique
 unique =
     record {
-      survey = λ h m a a′ b b′ p q. (one (p .0) (q .0), one (p .1) (q .1));
       check = λ h m a a′ b b′ p q. (one (p .0) (q .0), one (p .1) (q .1));
       find-key = λ h us r r′ p q. one p q;
       value-info = λ h us x r r′ p q. one p q;

@@ -1,68 +1,71 @@
--- Demand 1. "Any bytes get an answer. Whatever is given as hive, log, path or name: every entry point tests its own input."
+-- Demand 1. "Any bytes given as hive, log, path or name get an answer, and every entry point tests its own input."
 --
 -- Every public call's contract is an equation, for all lists of bytes and with no condition on them: what it answers is `checkAnswer h m`, `findAnswer h us`,
 -- `infoAnswer h us x`, `viewAnswer h us x`, `copyAnswer h us x n`, `subkeyAnswer h o n`, `valueAnswer h o n`, `infoAt h v`, `startAnswer h l`, `pageAnswer h l p`,
 -- `closeAnswer h l`, `nextAnswer l from`, `allAnswer h l` and `markAnswer l from`. These are total functions, so there is an answer. What is left to say is what a refusal is.
-use Prim.Native.Nat.{ℕ, _/_, _≤_}
+use Prim.Native.Nat.{ℕ, _≤_}
 use mathlib.Core.Path.{_≡_}
 use mathlib.Core.List.{List}
-use lib.ListN.{length, drop}
+use lib.ListN.{length, take, drop, replicate}
 use Rattle.fields.specs.declared.Fault.{Fault}
 use Rattle.fields.specs.declared.Flaw.{Flaw}
 use Rattle.fields.specs.declared.Offset.{Offset}
 use Rattle.fields.specs.declared.Refusal.{Refusal}
-use Rattle.fields.specs.declared.Verdict.the-variants.{Sound, Flawed}
-use Rattle.fields.specs.Faults.{numberOf, refusalOf}
+use Rattle.fields.specs.Faults.{numberOf}
 use Rattle.base.specs.Block.{binsData}
-use Rattle.cells.specs.declared.Tally.{Tally}
-use Rattle.cells.specs.declared.Surveyed.the-variants.{Tiled, Refused as Untiled}
-use Rattle.cells.specs.Map.{zeros}
-use Rattle.cells.specs.Survey.{frontFault, surveyAnswer, mapLeft}
-use Rattle.cells.specs.Tiling.{layout, surveyOf}
+use Rattle.cells.specs.declared.Surveyed.the-variants.{Refused as Untiled}
+use Rattle.cells.specs.Survey.{surveyAnswer, mapLeft}
 use Rattle.cells.specs.Tiled.{Mapped}
+use Rattle.cells.specs.Refused.{OfSurvey}
 use Rattle.tree.specs.declared.Checked.the-variants as checked
+use Rattle.tree.specs.declared.Report.{Report}
 use Rattle.tree.specs.Tree.{checkAnswer}
-use Rattle.tree.specs.Told.{Told}
+use Rattle.tree.specs.Told.{Because, Told, mapBytes}
 use Rattle.lookup.specs.declared.Copied.the-variants as copied
 use Rattle.lookup.specs.declared.KeyFound.the-variants as key
 use Rattle.lookup.specs.declared.ValueFound.the-variants as value
 use Rattle.lookup.specs.Answers.{findAnswer, infoAnswer, viewAnswer, copyAnswer, copyOut}
-use Rattle.lookup.proofs.Refusals.{OfKey, OfValue, OfView, OfCopy}
+use Rattle.lookup.specs.Refused.{OfKey, OfValue, OfView, OfCopy}
 use Rattle.listing.specs.declared.Member.the-variants as member
 use Rattle.listing.specs.Members.{subkeyAnswer, valueAnswer, infoAnswer as infoAt}
+use Rattle.listing.specs.Refused.{OfSubkey, OfNth, OfInfo}
+use Rattle.recovery.specs.declared.NextPage.the-variants as next
 use Rattle.recovery.specs.declared.Started.the-variants as started
 use Rattle.recovery.specs.declared.Stepped.the-variants as stepped
 use Rattle.recovery.specs.declared.NextMark.the-variants as mark
-use Rattle.recovery.specs.Calls.{startAnswer, pageAnswer, pageHive, closeAnswer, closeHive}
+use Rattle.recovery.specs.Calls.{startAnswer, pageAnswer, pageHive, closeAnswer, closeHive, nextAnswer}
+use Rattle.recovery.specs.Refused.{OfHead, OfLog, OfStart, OfPage, OfClose}
 use Rattle.recovery.specs.AtOnce.{allAnswer, allHive, markAnswer}
 
 pub record Demand1 : Type 0 where
-  -- "A refusal is a listed number": the table has 1 to 27
+  -- "A refusal is a number from the listed set": the table has 1 to 27
   pub listed : (f : Fault) → (1 ≤ numberOf f) × (numberOf f ≤ 27)
-  -- "with a place": the check's and lookup's are as the table says; recovery's is 0
-  pub check-place : (h m : List ℕ) (r : Refusal) → checkAnswer h m ≡ checked.Refused r → (f : Flaw) × (r ≡ refusalOf f) × Told (binsData h) f
-  pub find-place : (h us : List ℕ) (r : Refusal) → findAnswer h us ≡ key.Refused r → OfKey r
-  pub info-place : (h us x : List ℕ) (r : Refusal) → infoAnswer h us x ≡ value.Refused r → OfValue r
-  pub view-place : (h us x : List ℕ) (r : Refusal) → viewAnswer h us x ≡ value.Refused r → OfView r
-  pub copy-place : (h us x : List ℕ) (n : ℕ) (r : Refusal) → copyAnswer h us x n ≡ copied.Refused r → OfCopy r
-  pub subkey-place : (h : List ℕ) (o : Offset) (n : ℕ) (r : Refusal) → subkeyAnswer h o n ≡ member.Refused r → OfKey r
-  pub nth-place : (h : List ℕ) (o : Offset) (n : ℕ) (r : Refusal) → valueAnswer h o n ≡ member.Refused r → OfKey r
-  pub at-place : (h : List ℕ) (v : Offset) (r : Refusal) → infoAt h v ≡ value.Refused r → OfKey r
-  pub start-place : (h l : List ℕ) (r : Refusal) → startAnswer h l ≡ started.Refused r → r .place .0 ≡ 0
-  pub page-place : (h l : List ℕ) (p : ℕ) (r : Refusal) → pageAnswer h l p ≡ stepped.Refused r → r .place .0 ≡ 0
-  pub close-place : (h l : List ℕ) (r : Refusal) → closeAnswer h l ≡ stepped.Refused r → r .place .0 ≡ 0
-  pub all-place : (h l : List ℕ) (r : Refusal) → allAnswer h l ≡ stepped.Refused r → r .place .0 ≡ 0
-  pub mark-place : (l : List ℕ) (from : ℕ) (r : Refusal) → markAnswer l from ≡ mark.Refused r → r .place .0 ≡ 0
-  -- "it changes no byte of hive or output"
+  -- "with a place": as the table says, each with the reason that its row gives
+  pub survey-place : (h : List ℕ) (room : ℕ) (f : Flaw) → surveyAnswer h room ≡ Untiled f → OfSurvey h room f
+  pub check-place : (h m : List ℕ) (r : Refusal) → checkAnswer h m ≡ checked.Refused r → Because (Told h (length m)) r
+  pub find-place : (h us : List ℕ) (r : Refusal) → findAnswer h us ≡ key.Refused r → Because (OfKey h us) r
+  pub info-place : (h us x : List ℕ) (r : Refusal) → infoAnswer h us x ≡ value.Refused r → Because (OfValue h us x) r
+  pub view-place : (h us x : List ℕ) (r : Refusal) → viewAnswer h us x ≡ value.Refused r → Because (OfView h us x) r
+  pub copy-place : (h us x : List ℕ) (n : ℕ) (r : Refusal) → copyAnswer h us x n ≡ copied.Refused r → Because (OfCopy h us x n) r
+  pub subkey-place : (h : List ℕ) (o : Offset) (n : ℕ) (r : Refusal) → subkeyAnswer h o n ≡ member.Refused r → Because (OfSubkey h o) r
+  pub nth-place : (h : List ℕ) (o : Offset) (n : ℕ) (r : Refusal) → valueAnswer h o n ≡ member.Refused r → Because (OfNth h o) r
+  pub at-place : (h : List ℕ) (v : Offset) (r : Refusal) → infoAt h v ≡ value.Refused r → Because (OfInfo h v) r
+  pub start-place : (h l : List ℕ) (r : Refusal) → startAnswer h l ≡ started.Refused r → Because (OfStart h l) r
+  pub page-place : (h l : List ℕ) (p : ℕ) (r : Refusal) → pageAnswer h l p ≡ stepped.Refused r → Because (OfPage h l p) r
+  pub close-place : (h l : List ℕ) (r : Refusal) → closeAnswer h l ≡ stepped.Refused r → Because (OfClose h l) r
+  pub next-place : (l : List ℕ) (from : ℕ) (r : Refusal) → nextAnswer l from ≡ next.Refused r → Because (OfLog l) r
+  pub all-place : (h l : List ℕ) (r : Refusal) → allAnswer h l ≡ stepped.Refused r → Because (OfStart h l) r
+  pub mark-place : (l : List ℕ) (from : ℕ) (r : Refusal) → markAnswer l from ≡ mark.Refused r → Because (OfHead l) r
+  -- "It changes no byte of hive or output"
   pub copy-stays : (h us x out : List ℕ) (r : Refusal) → copyAnswer h us x (length out) ≡ copied.Refused r → copyOut h us x out ≡ out
   pub page-stays : (h l : List ℕ) (p : ℕ) (r : Refusal) → pageAnswer h l p ≡ stepped.Refused r → pageHive h l p ≡ h
   pub close-stays : (h l : List ℕ) (r : Refusal) → closeAnswer h l ≡ stepped.Refused r → closeHive h l ≡ h
   pub all-stays : (h l : List ℕ) (r : Refusal) → allAnswer h l ≡ stepped.Refused r → allHive h l ≡ h
-  -- "and the work map is then as listed": 1 to 8 leave it untouched; 9 and 10 leave its first bins size / 64 bytes zero; later ones leave it complete,
-  -- and the bytes beyond stay
-  pub map-untouched : (h m : List ℕ) (f : Flaw) → frontFault h (length m) ≡ Flawed f → mapLeft h m ≡ m
-  pub map-zero : (h m : List ℕ) (f : Flaw) → frontFault h (length m) ≡ Sound → surveyOf (layout (binsData h) 0) 0 0 0 ≡ Untiled f
-      → mapLeft h m ≡ zeros (length (binsData h) / 64) m
-  pub map-complete : (h m : List ℕ) (t : Tally) → surveyAnswer h (length m) ≡ Tiled t → Mapped (binsData h) (mapLeft h m)
-  pub map-beyond : (h m : List ℕ) (t : Tally) → surveyAnswer h (length m) ≡ Tiled t
-      → drop (length (binsData h) / 64) (mapLeft h m) ≡ drop (length (binsData h) / 64) m
+  -- "the work map afterwards is the one the list states": "Refusals 1 to 8 leave the map untouched; 9 and 10 leave its first bins size / 64 bytes zero; later
+  -- ones leave it complete", as does the check that accepts; and "bytes beyond bins size / 64 stay"
+  pub map-untouched : (h m : List ℕ) (r : Refusal) → checkAnswer h m ≡ checked.Refused r → numberOf (r .fault) ≤ 8 → mapLeft h m ≡ m
+  pub map-zero : (h m : List ℕ) (r : Refusal) → checkAnswer h m ≡ checked.Refused r → 9 ≤ numberOf (r .fault) → numberOf (r .fault) ≤ 10
+      → take (mapBytes h) (mapLeft h m) ≡ replicate (mapBytes h) 0
+  pub map-complete : (h m : List ℕ) (r : Refusal) → checkAnswer h m ≡ checked.Refused r → 11 ≤ numberOf (r .fault) → Mapped (binsData h) (mapLeft h m)
+  pub map-accepted : (h m : List ℕ) (x : Report) → checkAnswer h m ≡ checked.Accepted x → Mapped (binsData h) (mapLeft h m)
+  pub map-beyond : (h m : List ℕ) → drop (mapBytes h) (mapLeft h m) ≡ drop (mapBytes h) m

@@ -5,8 +5,7 @@ use mathlib.Core.Path.{_≡_}
 use mathlib.Core.List.{List}
 use lib.ListN.{length}
 use Rattle.fields.specs.declared.Offset.{Offset}
-use Rattle.cells.specs.declared.Surveyed.{Surveyed}
-use Rattle.cells.specs.Survey.{surveyAnswer, mapLeft}
+use Rattle.cells.specs.Survey.{mapLeft}
 use Rattle.tree.specs.declared.Checked.{Checked}
 use Rattle.tree.specs.Tree.{checkAnswer}
 use Rattle.lookup.specs.declared.KeyFound.{KeyFound}
@@ -27,9 +26,6 @@ abbrev pub Determines : {A B : Type 0} → (A → B → Type 0) → Type 0
 Determines {A} {B} promise = (a a′ : A) (b b′ : B) → promise a b → promise a′ b′ → (a ≡ a′) × (b ≡ b′)
 
 -- the promises: an answer and what is written
-abbrev pub Surveys : List ℕ → List ℕ → Surveyed → List ℕ → Type 0
-Surveys h m r after = (r ≡ surveyAnswer h (length m)) × (after ≡ mapLeft h m)
-
 abbrev pub Checks : List ℕ → List ℕ → Checked → List ℕ → Type 0
 Checks h m r after = (r ≡ checkAnswer h m) × (after ≡ mapLeft h m)
 
@@ -50,7 +46,6 @@ abbrev pub AllPages : List ℕ → List ℕ → Stepped → List ℕ → Type 0
 AllPages h l r after = (r ≡ allAnswer h l) × (after ≡ allHive h l)
 
 pub record Unique : Type 0 where
-  pub survey : (h m : List ℕ) → Determines (Surveys h m)
   pub check : (h m : List ℕ) → Determines (Checks h m)
   pub find-key : (h us : List ℕ) (r r′ : KeyFound) → r ≡ findAnswer h us → r′ ≡ findAnswer h us → r ≡ r′
   pub value-info : (h us x : List ℕ) (r r′ : ValueFound) → r ≡ infoAnswer h us x → r′ ≡ infoAnswer h us x → r ≡ r′

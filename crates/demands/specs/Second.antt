@@ -28,8 +28,7 @@ use Rattle.lookup.specs.declared.KeyFound.the-variants as found
 use Rattle.lookup.specs.Paths.{isPath, partsOf}
 use Rattle.lookup.specs.declared.ValueFound.the-variants as valued
 use Rattle.lookup.specs.Answers.{findAnswer, infoOf, infoAnswer, viewAnswer, viewBytes, copyAnswer, copyOut}
-use Rattle.lookup.specs.Reach.{Holds, FirstNamed}
-use Rattle.lookup.proofs.Listed.{FoundAgain}
+use Rattle.lookup.specs.Reach.{Holds, FirstNamed, FoundAgain}
 use Rattle.old_log.specs.Layout.{loggedCount}
 use Rattle.recovery.specs.declared.Started.the-variants as started
 use Rattle.recovery.specs.Calls.{startAnswer, closeHive}

@@ -1,38 +1,50 @@
--- On any bytes: a name that is answered lies in the hive, and a refusal is one of lookup's.
+-- On any bytes: a name that is answered lies in the hive, and every refusal says why.
 use Prim.Native.Nat.{ℕ, _+_, _-_, _≤_}
 use native.Mathlib.Omega.{arith}
-use mathlib.Core.Path.{_≡_, refl, subst}
+use mathlib.Core.Path.{_≡_, refl, sym, subst}
 use mathlib.Core.Bool.{Bool, true, false, cond}
-use mathlib.Core.List.{List, [], _∷_}
+use mathlib.Core.List.{List, [], _∷_, _++_, List·Memᴰ, List·Memᴰ·head, List·Memᴰ·tail, Memᴰ·append-left, Memᴰ·append-right}
 use lib.Dec.{eqb, leb}
 use lib.ListN.{length, getD, length-take, length-drop}
+use borrow.Author.Tests.{eqb-false, leb-false}
+use Rattle.fields.specs.declared.Flaw.{Flaw}
 use Rattle.fields.specs.declared.Offset.{Offset}
 use Rattle.fields.specs.declared.Refusal.{Refusal}
 use Rattle.fields.specs.declared.Verdict.{Verdict}
 use Rattle.fields.specs.declared.Verdict.the-variants.{Sound, Flawed}
 use Rattle.fields.specs.Faults.{nowhere, refusalOf, _next_}
+use Rattle.fields.proofs.Every.{Every, every-next}
 use Rattle.base.specs.Block.{sector, binsOf, minorOf, binsData, baseFault}
 use Rattle.base.proofs.Laws.{base-facts}
+use Rattle.base.proofs.Refusals.{base-refuses}
 use Rattle.cells.specs.declared.Rule.the-variants.{Header}
 use Rattle.cells.specs.Named.{dataAt}
-use Rattle.records.specs.declared.Key.{Key}
+use Rattle.cells.proofs.Refusals.{Ruled, by-header}
+use Rattle.records.specs.declared.Child.{Child}
 use Rattle.records.specs.declared.Name.{Name}
 use Rattle.records.specs.Keys.{keyFault, keyOf}
-use Rattle.records.specs.Lists.{leafFault, headFault, leafChildren, leavesOf}
+use Rattle.records.specs.Lists.{leafFault, headFault, leafChildren, leavesOf, childrenIn, children}
 use Rattle.records.specs.Places.{noChild}
 use Rattle.records.proofs.LawsKey.{name-room}
 use Rattle.values.specs.Records.{valueFault, dataIn, valueOf}
 use Rattle.values.specs.Lists.{valuesOf, valueListFault, wholeValueFault}
+use Rattle.values.specs.Refused.{a-key, Fit, one-of, Lists, its-list, its-leaf, its-child}
 use Rattle.values.proofs.LawsValues.{name-inside}
+use Rattle.values.proofs.Refusals.{key-fit, key-unfit, list-fit, list-unfit, leaf-unfit, value-fit, value-unfit, value-list-unfit, value-named, data-unfit}
+use Rattle.tree.specs.Told.{Because}
+use Rattle.tree.proofs.Elements.{at-in}
 use Rattle.lookup.specs.declared.Look.{Look}
 use Rattle.lookup.specs.declared.Look.the-variants.{Found, Missing, Faulty}
 use Rattle.lookup.specs.declared.ValueFound.the-variants as value
+use Rattle.lookup.specs.Search.{onSound}
 use Rattle.lookup.specs.Answers.{infoOf, infoWhere}
-use Rattle.lookup.proofs.Refusals.{OfKey, Every, Each, every-next, each-sound, only-key, base-every, key-only, leaf-only, head-only, value-only, list-only, data-only}
+use Rattle.lookup.proofs.Descents.{sound-found}
+use Rattle.lookup.proofs.Refusals.{Each, each-found, each-missing, each-cond, each-sound, in-children}
 use Rattle.listing.specs.declared.Entry.{Entry}
 use Rattle.listing.specs.declared.Member.{Member}
 use Rattle.listing.specs.declared.Member.the-variants.{At, Refused}
 use Rattle.listing.specs.Members.{entryOf, memberWhere, memberOf, inHive, nthIn, nthBelow, childLook, subkeyIn, subkeyAnswer, nthOf, valueLook, valueIn, valueAnswer, infoAnswer}
+use Rattle.listing.specs.Refused.{of-base, of-record, of-named, OfSubkey, OfNth, OfInfo}
 
 -- ---- a name that is answered lies in the hive, so a host may read it there
 
@@ -77,85 +89,144 @@ module _ (h : List ℕ) where
         let w = where-at (valueFault Header (binsData h) [] (m .0)) _ (m .1) in
         name-lies (b .0) (m .0) (valueOf (binsData h) minor (m .0) .name) e (name-inside Header (binsData h) [] minor (m .0) (w .0)) (w .1)
 
--- ---- refusals: 1 to 7, 11 and 12
+-- ---- refusals
 
--- a look that has no fault of its own
-found-each : (o : Offset) → Each OfKey (Found o)
-found-each o f e = absurd (let z : _≡_ {A = ℕ} 0 1 = cc in omega arith)
+-- member n of some leaves is one of their keys
+nth-in : (d : List ℕ) (ls : List Offset) (n : ℕ) {o : Offset} → nthIn d ls n ≡ Found o → (c : Child) × List·Memᴰ c (childrenIn d ls) × (o ≡ c .at)
+unfolding nthIn childrenIn
+nth-in d [] n e = absurd (let z : _≡_ {A = ℕ} 0 1 = cc in omega arith)
+nth-in d (l ∷ ls) n {o} e =
+    by (nth-in d ls (n - length cs)) (leb (length cs) n) refl (sound-found (leafFault Header d [] l) _ e .1)
+  where
+    cs : List Child
+    cs = leafChildren (dataAt d l)
 
-missing-each : Each OfKey Missing
-missing-each f e = absurd (let z : _≡_ {A = ℕ} 0 1 = cc in omega arith)
+    by : (nthIn d ls (n - length cs) ≡ Found o → (c : Child) × List·Memᴰ c (childrenIn d ls) × (o ≡ c .at)) → (t : Bool) → leb (length cs) n ≡ t
+        → cond t (nthIn d ls (n - length cs)) (Found (getD cs n noChild .at)) ≡ Found o → (c : Child) × List·Memᴰ c (cs ++ childrenIn d ls) × (o ≡ c .at)
+    by rest true p q = let r = rest q in (r .0, Memᴰ·append-right cs (r .1), r .2)
+    by rest false p q =
+        (getD cs n noChild, Memᴰ·append-left (childrenIn d ls) (at-in cs n noChild (leb-false _ _ p)), let z : getD cs n noChild .at ≡ o = cc in sym z)
 
-cond-each : (t : Bool) (a b : Look) → Each OfKey a → Each OfKey b → Each OfKey (cond t a b)
-cond-each true a b p q = p
-cond-each false a b p q = q
+module _ (h : List ℕ) (k : Offset) where
+  ruled : Ruled Header (binsData h) []
+  ruled = by-header (binsData h) []
 
-module _ (d : List ℕ) where
-  nth-each : (ls : List Offset) (n : ℕ) → Each OfKey (nthIn d ls n)
-  unfolding nthIn
-  nth-each [] n = missing-each
-  nth-each (l ∷ ls) n =
-      let cs = leafChildren (dataAt d l) in
-      each-sound OfKey (leafFault Header d [] l) _ (only-key _ (leaf-only d l))
-      (cond-each (leb (length cs) n) (nthIn d ls (n - length cs)) _ (nth-each ls (n - length cs)) (found-each (getD cs n noChild .at)))
-
-  below-each : (k : Key) (n : ℕ) → Each OfKey (nthBelow d k n)
-  unfolding nthBelow
-  below-each k n =
-      cond-each (eqb (k .subkeys) 0) Missing _ missing-each
-      (each-sound OfKey (headFault Header d [] (k .list)) _ (only-key _ (head-only d (k .list))) (nth-each (leavesOf d (k .list)) n))
-
-  child-each : (o : Offset) (n : ℕ) → Each OfKey (childLook d o n)
+  -- a key that has a subkey is one, and the subkey is listed
+  child-fit : (n : ℕ) {o : Offset} → childLook (binsData h) k n ≡ Found o → Fit Header (binsData h) a-key k
   unfolding childLook
-  child-each o n = each-sound OfKey (keyFault Header d [] o) _ (only-key _ (key-only d o)) (below-each (keyOf d o) n)
+  child-fit n e = key-fit Header (binsData h) [] ruled k (sound-found (keyFault Header (binsData h) [] k) _ e .0)
 
-  value-each : (o : Offset) (n : ℕ) → Each OfKey (valueLook d o n)
+  child-found : (n : ℕ) {o : Offset} → childLook (binsData h) k n ≡ Found o → (c : Child) × List·Memᴰ c (children (binsData h) k) × (o ≡ c .at)
+  unfolding childLook nthBelow
+  child-found n {o} e = by (eqb (keyOf (binsData h) k .subkeys) 0) refl (sound-found (keyFault Header (binsData h) [] k) _ e .1)
+    where
+      by : (t : Bool) → eqb (keyOf (binsData h) k .subkeys) 0 ≡ t
+          → cond t Missing (onSound (headFault Header (binsData h) [] (keyOf (binsData h) k .list)) (nthIn (binsData h) (leavesOf (binsData h) (keyOf (binsData h) k .list)) n)) ≡ Found o
+          → (c : Child) × List·Memᴰ c (children (binsData h) k) × (o ≡ c .at)
+      by true z q = absurd (let y : _≡_ {A = ℕ} 0 1 = cc in omega arith)
+      by false z q =
+          let d = binsData h in
+          let r = nth-in d (leavesOf d (keyOf d k .list)) n (sound-found (headFault Header d [] (keyOf d k .list)) _ q .1) in
+          (r .0, in-children d k z (r .1), r .2)
+
+  -- the faults on the way: the leaves of a key's list, one after the other
+  nth-each : (P : Flaw → Type 0) (ls : List Offset) → ((l : Offset) → List·Memᴰ l ls → Every P (leafFault Header (binsData h) [] l)) → (n : ℕ)
+      → Each P (nthIn (binsData h) ls n)
+  unfolding nthIn
+  nth-each P [] p n = each-missing P
+  nth-each P (l ∷ ls) p n =
+      let cs = leafChildren (dataAt (binsData h) l) in
+      each-sound P (leafFault Header (binsData h) [] l) _ (p l (List·Memᴰ·head refl))
+      (λ s. each-cond P (leb (length cs) n) (nthIn (binsData h) ls (n - length cs)) _ (λ t. nth-each P ls (λ o i. p o (List·Memᴰ·tail i)) (n - length cs))
+      (λ t. each-found P (getD cs n noChild .at)))
+
+  child-each : (n : ℕ) → Each (OfSubkey h k) (childLook (binsData h) k n)
+  unfolding childLook nthBelow
+  child-each n =
+      let d = binsData h in
+      let P = OfSubkey h k in
+      let o = keyOf d k .list in
+      each-sound P (keyFault Header d [] k) _ (λ f e. of-record (key-unfit Header d [] ruled k f e))
+      (λ s. let g = key-fit Header d [] ruled k s in
+      each-cond P (eqb (keyOf d k .subkeys) 0) Missing _ (λ z. each-missing P)
+      (λ z. each-sound P (headFault Header d [] o) _ (λ f e. of-named g (one-of (its-list (eqb-false _ _ z)) (list-unfit Header d [] ruled o f e)))
+      (λ t. nth-each P (leavesOf d o)
+      (λ l i f e. of-named g (one-of (its-leaf (eqb-false _ _ z) (list-fit Header d [] ruled o t) i) (leaf-unfit Header d [] ruled l f e))) n)))
+
+  -- the same of its values
+  value-found : (n : ℕ) {v : Offset} → valueLook (binsData h) k n ≡ Found v
+      → Fit Header (binsData h) a-key k × (valueListFault Header (binsData h) [] (keyOf (binsData h) k) ≡ Sound) × List·Memᴰ v (valuesOf (binsData h) (keyOf (binsData h) k))
   unfolding valueLook nthOf
-  value-each o n =
-      let vs = valuesOf d (keyOf d o) in
-      each-sound OfKey (keyFault Header d [] o) _ (only-key _ (key-only d o))
-      (each-sound OfKey (valueListFault Header d [] (keyOf d o)) _ (only-key _ (list-only d (keyOf d o)))
-      (cond-each (leb (length vs) n) Missing _ missing-each (found-each (getD vs n nowhere))))
+  value-found n {v} e =
+      let s = sound-found (keyFault Header (binsData h) [] k) _ e in
+      let t = sound-found (valueListFault Header (binsData h) [] (keyOf (binsData h) k)) _ (s .1) in
+      (key-fit Header (binsData h) [] ruled k (s .0), t .0, by (leb (length vs) n) refl (t .1))
+    where
+      vs : List Offset
+      vs = valuesOf (binsData h) (keyOf (binsData h) k)
 
-where-refuses : (v : Verdict) (x : Entry) → Every OfKey v → (f : Refusal) → memberWhere v x ≡ Refused f → OfKey f
-where-refuses Sound x p f q = absurd (let z : _≡_ {A = ℕ} 0 1 = cc in omega arith)
-where-refuses (Flawed g) x p f q = let z : refusalOf g ≡ f = cc in subst OfKey z (p g refl)
+      by : (t : Bool) → leb (length vs) n ≡ t → cond t Missing (Found (getD vs n nowhere)) ≡ Found v → List·Memᴰ v vs
+      by true p q = absurd (let z : _≡_ {A = ℕ} 0 1 = cc in omega arith)
+      by false p q = let z : getD vs n nowhere ≡ v = cc in subst (λ (o : Offset). List·Memᴰ o vs) z (at-in vs n nowhere (leb-false _ _ p))
 
-member-refuses : (l : Look) (go : Offset → Member) → Each OfKey l → ((o : Offset) (f : Refusal) → go o ≡ Refused f → OfKey f)
-    → (f : Refusal) → memberOf l go ≡ Refused f → OfKey f
-member-refuses (Found o) go p r f q = r o f q
-member-refuses Missing go p r f q = absurd (let z : _≡_ {A = ℕ} 0 1 = cc in omega arith)
-member-refuses (Faulty g) go p r f q = let z : refusalOf g ≡ f = cc in subst OfKey z (p g refl)
+  value-each : (n : ℕ) → Each (OfNth h k) (valueLook (binsData h) k n)
+  unfolding valueLook nthOf
+  value-each n =
+      let d = binsData h in
+      let P = OfNth h k in
+      let vs = valuesOf d (keyOf d k) in
+      each-sound P (keyFault Header d [] k) _ (λ f e. of-record (key-unfit Header d [] ruled k f e))
+      (λ s. each-sound P (valueListFault Header d [] (keyOf d k)) _ (λ f e. of-named (key-fit Header d [] ruled k s) (value-list-unfit Header d [] ruled k f e))
+      (λ t. each-cond P (leb (length vs) n) Missing _ (λ z. each-missing P) (λ z. each-found P (getD vs n nowhere))))
 
-hive-refuses : (v : Verdict) (a : Member) → Every OfKey v → (f : Refusal) → (a ≡ Refused f → OfKey f) → inHive v a ≡ Refused f → OfKey f
-hive-refuses Sound a p f r q = r q
-hive-refuses (Flawed g) a p f r q = let z : refusalOf g ≡ f = cc in subst OfKey z (p g refl)
+-- from the tests to the answers
+where-refuses : (P : Flaw → Type 0) (v : Verdict) (x : Entry) → Every P v → (r : Refusal) → memberWhere v x ≡ Refused r → Because P r
+where-refuses P Sound x p r q = absurd (let z : _≡_ {A = ℕ} 0 1 = cc in omega arith)
+where-refuses P (Flawed g) x p r q = (g, let z : refusalOf g ≡ r = cc in sym z, p g refl)
+
+member-refuses : (P : Flaw → Type 0) (l : Look) (go : Offset → Member) → Each P l → ((o : Offset) → l ≡ Found o → (r : Refusal) → go o ≡ Refused r → Because P r)
+    → (r : Refusal) → memberOf l go ≡ Refused r → Because P r
+member-refuses P (Found o) go p s r q = s o refl r q
+member-refuses P Missing go p s r q = absurd (let z : _≡_ {A = ℕ} 0 1 = cc in omega arith)
+member-refuses P (Faulty g) go p s r q = (g, let z : refusalOf g ≡ r = cc in sym z, p g refl)
+
+hive-refuses : (P : Flaw → Type 0) (v : Verdict) (a : Member) → Every P v → (r : Refusal) → (a ≡ Refused r → Because P r) → inHive v a ≡ Refused r → Because P r
+hive-refuses P Sound a p r s q = s q
+hive-refuses P (Flawed g) a p r s q = (g, let z : refusalOf g ≡ r = cc in sym z, p g refl)
 
 module _ (h : List ℕ) (o : Offset) where
-  module _ (n : ℕ) {f : Refusal} where
-    pub subkey-refuses : subkeyAnswer h o n ≡ Refused f → OfKey f
+  module _ (n : ℕ) {r : Refusal} where
+    pub subkey-refuses : subkeyAnswer h o n ≡ Refused r → Because (OfSubkey h o) r
     unfolding subkeyAnswer subkeyIn
     subkey-refuses =
-        hive-refuses (baseFault h) _ (base-every h) f
-        (member-refuses (childLook (binsData h) o n) _ (child-each (binsData h) o n)
-        (λ c. where-refuses (keyFault Header (binsData h) [] c) _ (only-key _ (key-only (binsData h) c))) f)
+        hive-refuses (OfSubkey h o) (baseFault h) _ (λ f e. of-base (base-refuses h f e)) r
+        (member-refuses (OfSubkey h o) (childLook (binsData h) o n) _ (child-each h o n)
+        (λ c e. let x = child-found h o n e in
+        where-refuses (OfSubkey h o) (keyFault Header (binsData h) [] c) _
+        (λ f q. of-named (child-fit h o n e)
+        (one-of (subst (λ (y : Offset). Lists Header (binsData h) o a-key y) (sym (x .2)) (its-child (x .1))) (key-unfit Header (binsData h) [] (ruled h o) c f q)))) r)
 
-    pub value-refuses : valueAnswer h o n ≡ Refused f → OfKey f
+    pub value-refuses : valueAnswer h o n ≡ Refused r → Because (OfNth h o) r
     unfolding valueAnswer valueIn
     value-refuses =
-        hive-refuses (baseFault h) _ (base-every h) f
-        (member-refuses (valueLook (binsData h) o n) _ (value-each (binsData h) o n)
-        (λ v. where-refuses (valueFault Header (binsData h) [] v) _ (only-key _ (value-only (binsData h) v))) f)
+        hive-refuses (OfNth h o) (baseFault h) _ (λ f e. of-base (base-refuses h f e)) r
+        (member-refuses (OfNth h o) (valueLook (binsData h) o n) _ (value-each h o n)
+        (λ v e. let x = value-found h o n e in
+        where-refuses (OfNth h o) (valueFault Header (binsData h) [] v) _
+        (λ f q. of-named (x .0)
+        (one-of (value-named Header (binsData h) [] (ruled h o) o v (x .1) (x .2)) (value-unfit Header (binsData h) [] (ruled h o) v f q)))) r)
 
-  info-of : (v : Verdict) {f : Refusal} → Every OfKey v → infoWhere v (infoOf (valueOf (binsData h) (minorOf (sector h)) o)) ≡ value.Refused f → OfKey f
+  info-of : (v : Verdict) {r : Refusal} → Every (OfInfo h o) v → infoWhere v (infoOf (valueOf (binsData h) (minorOf (sector h)) o)) ≡ value.Refused r
+      → Because (OfInfo h o) r
   info-of Sound p q = absurd (let z : _≡_ {A = ℕ} 0 1 = cc in omega arith)
-  info-of (Flawed g) {f} p q = let z : refusalOf g ≡ f = cc in subst OfKey z (p g refl)
+  info-of (Flawed g) {r} p q = (g, let z : refusalOf g ≡ r = cc in sym z, p g refl)
 
-  pub info-refuses : {f : Refusal} → infoAnswer h o ≡ value.Refused f → OfKey f
+  pub info-refuses : {r : Refusal} → infoAnswer h o ≡ value.Refused r → Because (OfInfo h o) r
   unfolding infoAnswer wholeValueFault
   info-refuses =
       let d = binsData h in
       let x = dataIn d (minorOf (sector h)) o in
       info-of (baseFault h next wholeValueFault Header d [] (minorOf (sector h)) o)
-      (every-next OfKey (baseFault h) _ (base-every h)
-      (every-next OfKey (valueFault Header d [] o) _ (only-key _ (value-only d o)) (only-key _ (data-only d x))))
+      (every-next (OfInfo h o) (baseFault h) _ (λ f e. of-base (base-refuses h f e))
+      (λ a. every-next (OfInfo h o) (valueFault Header d [] o) _ (λ f e. of-record (value-unfit Header d [] (ruled h o) o f e))
+      (λ b f e. of-named (value-fit Header d [] (ruled h o) o b) (data-unfit Header d [] (ruled h o) x f e))))

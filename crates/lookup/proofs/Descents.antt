@@ -3,7 +3,7 @@ use Prim.Native.Nat.{ℕ, _+_, _-_, _<_, _≤_}
 use native.Mathlib.Omega.{arith}
 use mathlib.Core.Path.{_≡_, refl, sym, ap, _∙_, subst}
 use mathlib.Core.Bool.{Bool, true, false, cond}
-use mathlib.Core.List.{List, [], _∷_}
+use mathlib.Core.List.{List, [], _∷_, List·Memᴰ, List·Memᴰ·head, List·Memᴰ·tail}
 use lib.Dec.{eqb}
 use lib.ListN.{length, take, drop}
 use Rattle.fields.specs.declared.Flaw.{Flaw}
@@ -31,14 +31,15 @@ use Rattle.lookup.proofs.Parts.{behind, part-first, Next, next-cut, nex
 -- ---- what is found
 
 -- a search that finds has found it at one of its things
-pub first-at : {A : Type 0} (each : A → Look) (xs : List A) {o : Offset} → firstOf each xs ≡ Found o → (x : A) × (each x ≡ Found o)
+pub first-at : {A : Type 0} (each : A → Look) (xs : List A) {o : Offset} → firstOf each xs ≡ Found o → (x : A) × (each x ≡ Found o) × List·Memᴰ x xs
 unfolding firstOf orElse
 first-at each [] e = absurd (let z : _≡_ {A = ℕ} 0 1 = cc in omega arith)
 first-at {A} each (x ∷ xs) {o} e = by (first-at each xs) (each x) refl e
   where
-    by : (firstOf each xs ≡ Found o → (y : A) × (each y ≡ Found o)) → (w : Look) → each x ≡ w → orElse w (firstOf each xs) ≡ Found o → (y : A) × (each y ≡ Found o)
-    by rest (Found p) q e = (x, q ∙ e)
-    by rest Missing q e = rest e
+    by : (firstOf each xs ≡ Found o → (y : A) × (each y ≡ Found o) × List·Memᴰ y xs) → (w : Look) → each x ≡ w → orElse w (firstOf each xs) ≡ Found o
+        → (y : A) × (each y ≡ Found o) × List·Memᴰ y (x ∷ xs)
+    by rest (Found p) q e = (x, q ∙ e, List·Memᴰ·head refl)
+    by rest Missing q e = let r = rest e in (r .0, r .1, List·Memᴰ·tail (r .2))
     by rest (Faulty f) q e = absurd (let z : _≡_ {A = ℕ} 0 1 = cc in omega arith)
 
 pub sound-found : (v : Verdict) (l : Look) {o : Offset} → onSound v l ≡ Found o → (v ≡ Sound) × (l ≡ Found o)

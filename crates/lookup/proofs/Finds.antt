@@ -74,7 +74,7 @@ module _ (d x : List ℕ) where
       (search-append (leafChildren (dataAt d l)) (childrenIn d ls))
 
   -- what is found is a key of the list, of that name
-  named-in : (c : Child) {o : Offset} → keyNamed d x c ≡ Found o → (o ≡ c .at) × (compare (nameAt d (c .at)) x ≡ Same)
+  pub named-in : (c : Child) {o : Offset} → keyNamed d x c ≡ Found o → (o ≡ c .at) × (compare (nameAt d (c .at)) x ≡ Same)
   unfolding keyNamed
   named-in c {o} e = by (keyFault Header d [] (c .at)) (sameName (nameAt d (c .at)) x) refl e
     where

@@ -37,9 +37,9 @@ use Rattle.lookup.specs.declared.Look.the-variants.{Found}
 use Rattle.lookup.specs.declared.ValueFound.the-variants.{At as ValueAt, Refused as Unvalued}
 use Rattle.lookup.specs.Paths.{partsOf, isPath}
 use Rattle.lookup.specs.Answers.{keyLook, findAnswer, valueLook, infoOf, viewFault, infoAnswer, viewAnswer, viewBytes, copyAnswer, copyOut}
-use Rattle.lookup.specs.Reach.{Holds, here, below, FirstNamed, first, later}
+use Rattle.lookup.specs.Reach.{Holds, here, below, FirstNamed, first, later, FoundAgain}
 use Rattle.lookup.proofs.Exact.{find-malformed, find-exactly, find-none, find-refuses, found-look-is}
-use Rattle.lookup.proofs.Listed.{FoundAgain, listed-found}
+use Rattle.lookup.proofs.Listed.{listed-found}
 use Rattle.lookup.proofs.ValueFinds.{value-exactly, value-none, data-good}
 use Rattle.lookup.proofs.Value_searches.{value-below}
 use Rattle.lookup.proofs.Value_answers.{info-missing}

@@ -1,4 +1,4 @@
--- "Every key of the pre-order listing is found again by the path of its names: same cell."
+-- Every key of the pre-order listing is found again by the path of its names: the same cell.
 use Prim.Native.Nat.{ℕ, zero, suc}
 use native.Mathlib.Omega.{arith}
 use mathlib.Core.Path.{_≡_, sym, subst}
@@ -17,7 +17,7 @@ use Rattle.tree.proofs.Once.{in-joined}
 use Rattle.lookup.specs.declared.KeyFound.the-variants.{At}
 use Rattle.lookup.specs.Paths.{isPath}
 use Rattle.lookup.specs.Answers.{findAnswer}
-use Rattle.lookup.specs.Reach.{Holds, here, below, Named, itself, child, joinedBy}
+use Rattle.lookup.specs.Reach.{Holds, here, below, Named, itself, child, joinedBy, FoundAgain}
 use Rattle.lookup.proofs.Finds.{key-good}
 use Rattle.lookup.proofs.Held.{part-name, held-few}
 use Rattle.lookup.proofs.Splits.{PartNames, no-names, names-on, parts-joined, path-joined}
@@ -45,13 +45,6 @@ module _ (d : List ℕ) (hive : Hive) (tiles : BinsTile d 0) where
   part-names n t itself = no-names
   part-names (suc n) (key s a ch tree) (child {c = c} i r) =
       names-on (part-name d (c .at) (key-good d hive tiles n (c .at) (tree c i))) (part-names n (tree c i) r)
-
--- found again: by the names along its way, joined by backslashes
-pub record FoundAgain (h : List ℕ) (k : Offset) : Type 0 where
-  pub names : List (List ℕ)
-  pub along : Named (binsData h) (hiveOf h .root) names k
-  pub is-path : isPath (joinedBy names) ≡ true
-  pub found : findAnswer h (joinedBy names) ≡ At k
 
 module _ (h : List ℕ) (w : CleanAndWellFormed h) where
   -- the names of a key, joined by backslashes, are a path, and it finds that key

@@ -1,38 +1,42 @@
--- Which numbers a lookup gives back, and where: of the paper's table 1 to 7, 11, 12 and 16 to 20.
-use Prim.Native.Nat.{ℕ, _+_, _*_, _≤_}
+-- Every refusal of lookup and of the value calls says why.
+use Prim.Native.Nat.{ℕ}
 use native.Mathlib.Omega.{arith}
 use mathlib.Core.Path.{_≡_, refl, sym, ap, _∙_, subst}
 use mathlib.Core.Bool.{Bool, true, false, cond}
-use mathlib.Core.Logic.{_⊎_, ⊎-elim}
-use mathlib.Core.List.{List, [], _∷_}
+use mathlib.Core.Logic.{⊎-elim}
+use mathlib.Core.List.{List, [], _∷_, List·Memᴰ, List·Memᴰ·head, List·Memᴰ·tail, List·Memᴰ·cases-cons, List·Memᴰ·not-nil, Memᴰ·append-left, Memᴰ·append-right}
 use lib.Dec.{eqb, leb}
-use lib.ListN.{length}
-use Rattle.fields.specs.declared.Fault.{Fault}
-use Rattle.fields.specs.declared.Fault.the-variants.{HiveShort, NoRegf, Checksum, Version, BinsSize, BinsCut, Sequences, NoCell, Record, NoKey, NoValue, Segmented, OutputShort}
+use borrow.Author.Tests.{eqb-false, leb-false}
+use Rattle.fields.specs.declared.Fault.the-variants.{NoKey, NoValue, OutputShort}
 use Rattle.fields.specs.declared.Flaw.{Flaw}
 use Rattle.fields.specs.declared.Offset.{Offset}
 use Rattle.fields.specs.declared.Refusal.{Refusal}
 use Rattle.fields.specs.declared.Verdict.{Verdict}
 use Rattle.fields.specs.declared.Verdict.the-variants.{Sound, Flawed}
-use Rattle.fields.specs.Faults.{numberOf, flaw, nowhere, refusalOf, unless, _next_}
-use Rattle.base.specs.Block.{sector, minorOf, binsOf, isRegf, isSummed, isVersion, isBinsSize, isSettled, blockFault, binsData, baseFault}
+use Rattle.fields.specs.Faults.{flaw, nowhere, refusalOf, _next_}
+use Rattle.fields.proofs.Every.{Every, every-sound, every-flaw, every-unless, every-next}
+use Rattle.base.specs.Block.{sector, minorOf, binsData, baseFault}
+use Rattle.base.proofs.Refusals.{base-refuses}
 use Rattle.cells.specs.declared.Rule.the-variants.{Header}
 use Rattle.cells.specs.Named.{dataAt}
-use Rattle.names.specs.Comparison.{sameName}
+use Rattle.cells.proofs.Refusals.{Ruled, by-header}
+use Rattle.names.specs.declared.Order.the-variants.{Same}
+use Rattle.names.specs.Comparison.{compare, sameName}
 use Rattle.records.specs.declared.Child.{Child}
-use Rattle.records.specs.declared.Key.{Key}
-use Rattle.records.specs.Keys.{isKey, keyFault, keyOf, codesOf}
-use Rattle.records.specs.Lists.{isLeaf, isList, leafFault, headFault, leafChildren, leavesOf}
+use Rattle.records.specs.Keys.{keyFault, keyOf, codesOf}
+use Rattle.records.specs.Lists.{leafFault, headFault, leafChildren, leavesOf, childrenIn, leavesBelow, childrenBelow, children}
 use Rattle.values.specs.declared.ValueData.{ValueData}
 use Rattle.values.specs.declared.ValueData.the-variants.{Inline, OneCell, Segments}
-use Rattle.values.specs.Records.{isValue, valueFault, dataIn, valueOf}
-use Rattle.values.specs.Segments.{roomFault, isDb, dbFault, segmentList, segmentsFor, segmentsOf, segmentFault, segmentListFault, segmentsFault, dataFault}
+use Rattle.values.specs.Records.{valueFault, dataIn, valueOf}
+use Rattle.values.specs.Segments.{dataFault}
 use Rattle.values.specs.Lists.{valuesOf, valueListFault}
-use Rattle.values.proofs.Cell_tests.{Only, only-sound, only-next, only-over, only-test}
+use Rattle.values.specs.Refused.{a-key, Fit, one-of, its-list, its-leaf, its-child}
+use Rattle.values.proofs.Refusals.{key-fit, key-unfit, list-fit, list-unfit, leaf-unfit, value-fit, value-unfit, value-list-unfit, value-named, data-unfit}
 use Rattle.tree.specs.Tree.{nameAt, hiveOf}
+use Rattle.tree.specs.Told.{Because}
 use Rattle.lookup.specs.declared.Copied.the-variants.{Refused as Uncopied}
 use Rattle.lookup.specs.declared.Info.{Info}
-use Rattle.lookup.specs.declared.KeyFound.the-variants.{Refused}
+use Rattle.lookup.specs.declared.KeyFound.the-variants.{At, Refused}
 use Rattle.lookup.specs.declared.Look.{Look}
 use Rattle.lookup.specs.declared.Look.the-variants.{Found, Missing, Faulty}
 use Rattle.lookup.specs.declared.ValueFound.{ValueFound}
@@ -40,268 +44,226 @@ use Rattle.lookup.specs.declared.ValueFound.the-variants.{At as ValueAt,
 use Rattle.lookup.specs.Paths.{isPath, pathFault, partsOf}
 use Rattle.lookup.specs.Search.{onSound, orElse, onFound, firstOf, keyNamed, searchLeaf, searchLeaves, searchBelow, descend, lookupKey, valueNamed, lookupValue}
 use Rattle.lookup.specs.Answers.{openFault, keyLook, keyFound, findAnswer, onKey, valueLook, viewFault, infoWhere, valueFound, infoAnswer, viewAnswer, copiedTo, copyAnswer}
+use Rattle.lookup.specs.Refused.{OnWay, the-root, a-child, OfKey, of-base, no-path, of-root, of-lists, no-key, Finds, OfValue, of-key, of-values, of-data, no-value, OfView, as-value, segmented, OfCopy, as-info, too-short}
+use Rattle.lookup.proofs.Descents.{first-at, sound-found, below-tested}
+use Rattle.lookup.proofs.Finds.{named-in}
+use Rattle.lookup.proofs.Opens.{find-at}
+use Rattle.lookup.proofs.ValueFinds.{found-first}
+use Rattle.lookup.proofs.Value_searches.{value-facts}
 
--- a number with place 0
-pub record Placeless (low high : ℕ) (f : Refusal) : Type 0 where
-  pub least : low ≤ numberOf (f .fault)
-  pub most : numberOf (f .fault) ≤ high
-  pub place : f .place ≡ nowhere
-
--- of a key: 1 to 7 and 16, 17 with place 0; 11 and 12 at the offset or cell at fault
-pub data OfKey (f : Refusal) : Type 0 where
-  in-file : Placeless 1 7 f → OfKey f
-  in-cell : f .fault ≡ NoCell → OfKey f
-  in-record : f .fault ≡ Record → OfKey f
-  in-path : Placeless 16 17 f → OfKey f
-
--- of a value: these, 18 with place 0, and for a view 19 at the value
-pub data OfValue (f : Refusal) : Type 0 where
-  of-key : OfKey f → OfValue f
-  no-value : Placeless 18 18 f → OfValue f
-
-pub data OfView (f : Refusal) : Type 0 where
-  of-value : OfValue f → OfView f
-  segmented : (v : Offset) → f ≡ refusalOf (flaw Segmented v) → OfView f
-
--- of a copy: those of the value, and 20 with place 0
-pub data OfCopy (f : Refusal) : Type 0 where
-  copy-value : OfValue f → OfCopy f
-  too-short : Placeless 20 20 f → OfCopy f
-
--- all flaws of a verdict, and all faults of a look
-module _ (P : Refusal → Type 0) where
-  abbrev pub Every : Verdict → Type 0
-  Every v = (f : Flaw) → v ≡ Flawed f → P (refusalOf f)
-
+-- ---- all faults of a look
+module _ (P : Flaw → Type 0) where
   abbrev pub Each : Look → Type 0
-  Each l = (f : Flaw) → l ≡ Faulty f → P (refusalOf f)
+  Each l = (f : Flaw) → l ≡ Faulty f → P f
 
-  pub every-next : (a b : Verdict) → Every a → Every b → Every (a next b)
-  unfolding _next_
-  every-next Sound b p q = q
-  every-next (Flawed g) b p q = p
+  pub each-found : (o : Offset) → Each (Found o)
+  each-found o f e = absurd (let z : _≡_ {A = ℕ} 0 1 = cc in omega arith)
 
-  every-unless : (t : Bool) (f : Flaw) → P (refusalOf f) → Every (unless t f)
-  every-unless true f p g e = absurd (let z : _≡_ {A = ℕ} 0 1 = cc in omega arith)
-  every-unless false f p g e = let q : f ≡ g = cc in subst (λ (x : Flaw). P (refusalOf x)) q p
+  pub each-missing : Each Missing
+  each-missing f e = absurd (let z : _≡_ {A = ℕ} 0 1 = cc in omega arith)
 
-  pub each-sound : (v : Verdict) (l : Look) → Every v → Each l → Each (onSound v l)
-  each-sound Sound l p q f e = q f e
-  each-sound (Flawed g) l p q f e = p f (let z : g ≡ f = cc in ap Flawed z)
+  pub each-cond : (t : Bool) (a b : Look) → (t ≡ true → Each a) → (t ≡ false → Each b) → Each (cond t a b)
+  each-cond true a b p q = p refl
+  each-cond false a b p q = q refl
 
-  each-found : (l : Look) (go : Offset → Look) → Each l → ((o : Offset) → Each (go o)) → Each (onFound l go)
-  unfolding onFound
-  each-found (Found o) go p q f e = q o f e
-  each-found Missing go p q f e = absurd (let z : _≡_ {A = ℕ} 0 1 = cc in omega arith)
-  each-found (Faulty g) go p q f e = p f e
+  pub each-sound : (v : Verdict) (l : Look) → Every P v → (v ≡ Sound → Each l) → Each (onSound v l)
+  each-sound Sound l p q = q refl
+  each-sound (Flawed g) l p q = λ f e. p f (let z : g ≡ f = cc in ap Flawed z)
 
-  each-first : {A : Type 0} (each : A → Look) (xs : List A) → ((x : A) → Each (each x)) → Each (firstOf each xs)
+  each-first : {A : Type 0} (each : A → Look) (xs : List A) → ((x : A) → List·Memᴰ x xs → Each (each x)) → Each (firstOf each xs)
   unfolding firstOf orElse
-  each-first each [] p f e = absurd (let z : _≡_ {A = ℕ} 0 1 = cc in omega arith)
-  each-first each (x ∷ xs) p f e = by (each x) refl (each-first each xs p f) e
+  each-first each [] p = each-missing
+  each-first each (x ∷ xs) p = by (each x) refl (each-first each xs (λ y i. p y (List·Memᴰ·tail i)))
     where
-      by : (w : Look) → each x ≡ w → (firstOf each xs ≡ Faulty f → P (refusalOf f)) → orElse w (firstOf each xs) ≡ Faulty f → P (refusalOf f)
-      by (Found o) q rest e = absurd (let z : _≡_ {A = ℕ} 0 1 = cc in omega arith)
-      by Missing q rest e = rest e
-      by (Faulty g) q rest e = p x f (q ∙ e)
+      by : (w : Look) → each x ≡ w → Each (firstOf each xs) → Each (orElse w (firstOf each xs))
+      by (Found o) q rest = each-found o
+      by Missing q rest = rest
+      by (Faulty g) q rest = λ f e. p x (List·Memᴰ·head refl) f (q ∙ e)
 
-  each-cond : (t : Bool) (o : Offset) → Each (cond t (Found o) Missing)
-  each-cond true o f e = absurd (let z : _≡_ {A = ℕ} 0 1 = cc in omega arith)
-  each-cond false o f e = absurd (let z : _≡_ {A = ℕ} 0 1 = cc in omega arith)
+  each-on : (l : Look) (go : Offset → Look) → Each l → ((o : Offset) → l ≡ Found o → Each (go o)) → Each (onFound l go)
+  unfolding onFound
+  each-on (Found o) go p q = q o refl
+  each-on Missing go p q = each-missing
+  each-on (Faulty g) go p q = p
 
--- ---- the tests
-
--- 11 and 12 of a cell or record
-pub only-key : (v : Verdict) → Only v → Every OfKey v
-only-key v p f e = ⊎-elim (λ q. in-cell q) (λ q. in-record q) (p f e)
-
-in-base : (t : Bool) (f : Fault) → 1 ≤ numberOf f → numberOf f ≤ 7 → Every OfKey (unless t (flaw f nowhere))
-in-base t f p q = every-unless OfKey t (flaw f nowhere) (in-file (record { least = p; most = q; place = refl }))
-
-block-every : (s : List ℕ) → Every OfKey (blockFault s)
-unfolding blockFault
-block-every s =
-    every-next OfKey (unless (isRegf s) (flaw NoRegf nowhere)) _ (in-base (isRegf s) NoRegf (omega arith) (omega arith))
-    (every-next OfKey (unless (isSummed s) (flaw Checksum nowhere)) _ (in-base (isSummed s) Checksum (omega arith) (omega arith))
-    (every-next OfKey (unless (isVersion s 0) (flaw Version nowhere)) _ (in-base (isVersion s 0) Version (omega arith) (omega arith))
-    (in-base (isBinsSize (binsOf s)) BinsSize (omega arith) (omega arith))))
-
-pub base-every : (h : List ℕ) → Every OfKey (baseFault h)
-unfolding baseFault
-base-every h =
-    every-next OfKey (unless (leb 4096 (length h)) (flaw HiveShort nowhere)) _ (in-base (leb 4096 (length h)) HiveShort (omega arith) (omega arith))
-    (every-next OfKey (blockFault (sector h)) _ (block-every (sector h))
-    (every-next OfKey (unless (leb (4096 + binsOf (sector h)) (length h)) (flaw BinsCut nowhere)) _
-    (in-base (leb (4096 + binsOf (sector h)) (length h)) BinsCut (omega arith) (omega arith))
-    (in-base (isSettled (sector h)) Sequences (omega arith) (omega arith))))
-
-open-every : (h us : List ℕ) → Every OfKey (openFault h us)
-unfolding openFault pathFault
-open-every h us =
-    every-next OfKey (baseFault h) _ (base-every h)
-    (every-unless OfKey (isPath us) _ (in-path (record { least = omega arith; most = omega arith; place = refl })))
-
+-- ---- a leaf's keys are its key's
 module _ (d : List ℕ) where
-  pub key-only : (o : Offset) → Only (keyFault Header d [] o)
-  unfolding keyFault
-  key-only o = only-test isKey Header d [] o
+  in-leaves : (ls : List Offset) {l : Offset} {c : Child} → List·Memᴰ l ls → List·Memᴰ c (leafChildren (dataAt d l)) → List·Memᴰ c (childrenIn d ls)
+  unfolding childrenIn
+  in-leaves [] i j = absurd (List·Memᴰ·not-nil i)
+  in-leaves (b ∷ ls) {l} {c} i j =
+      ⊎-elim
+      (λ (e : l ≡ b). Memᴰ·append-left (childrenIn d ls) (subst (λ (o : Offset). List·Memᴰ c (leafChildren (dataAt d o))) e j))
+      (λ k. Memᴰ·append-right (leafChildren (dataAt d b)) (in-leaves ls k j))
+      (List·Memᴰ·cases-cons i)
 
-  pub leaf-only : (o : Offset) → Only (leafFault Header d [] o)
-  unfolding leafFault
-  leaf-only o = only-test isLeaf Header d [] o
+  below-are : (k : Offset) → eqb (keyOf d k .subkeys) 0 ≡ false → childrenIn d (leavesOf d (keyOf d k .list)) ≡ children d k
+  unfolding childrenBelow leavesBelow
+  below-are k z = rw z
 
-  pub head-only : (o : Offset) → Only (headFault Header d [] o)
-  unfolding headFault
-  head-only o = only-test isList Header d [] o
+  pub in-children : (k : Offset) → eqb (keyOf d k .subkeys) 0 ≡ false → {c : Child} → List·Memᴰ c (childrenIn d (leavesOf d (keyOf d k .list))) → List·Memᴰ c (children d k)
+  in-children k z {c} i = subst (λ (cs : List Child). List·Memᴰ c cs) (below-are k z) i
 
-  pub value-only : (o : Offset) → Only (valueFault Header d [] o)
-  unfolding valueFault
-  value-only o = only-test isValue Header d [] o
-
-  room-only : (o : Offset) (n : ℕ) → Only (roomFault Header d [] o n)
-  unfolding roomFault
-  room-only o n = only-test (λ r. leb n (length r)) Header d [] o
-
-  pub list-only : (k : Key) → Only (valueListFault Header d [] k)
-  unfolding valueListFault
-  list-only k = by (eqb (k .values) 0)
-    where
-      by : (t : Bool) → Only (cond t Sound (roomFault Header d [] (k .«value_list») (4 * k .values)))
-      by true = only-sound refl
-      by false = room-only (k .«value_list») (4 * k .values)
-
-  segments-only : (o : Offset) (n : ℕ) → Only (segmentsFault Header d [] o n)
-  unfolding segmentsFault segmentListFault dbFault segmentFault
-  segments-only o n =
-      only-next (segmentListFault Header d [] o n) _
-      (only-next (dbFault Header d [] o n) _ (only-test (λ r. isDb r n) Header d [] o) (room-only (segmentList d o) (4 * segmentsFor n)))
-      (only-over (segmentFault Header d []) (segmentsOf d o n) (λ s. room-only (s .at) (s .len)))
-
-  pub data-only : (x : ValueData) → Only (dataFault Header d [] x)
-  unfolding dataFault
-  data-only (Inline at len) = only-sound refl
-  data-only (OneCell o len) = by (eqb len 0)
-    where
-      by : (t : Bool) → Only (cond t Sound (roomFault Header d [] o len))
-      by true = only-sound refl
-      by false = room-only o len
-  data-only (Segments o len) = segments-only o len
-
-  -- ---- the searches
-
-  named-each : (x : List ℕ) (c : Child) → Each OfKey (keyNamed d x c)
-  unfolding keyNamed
-  named-each x c = each-sound OfKey (keyFault Header d [] (c .at)) _ (only-key _ (key-only (c .at))) (each-cond OfKey (sameName (nameAt d (c .at)) x) (c .at))
-
-  leaf-each : (x : List ℕ) (l : Offset) → Each OfKey (searchLeaf d x l)
-  unfolding searchLeaf
-  leaf-each x l =
-      each-sound OfKey (leafFault Header d [] l) _ (only-key _ (leaf-only l)) (each-first OfKey (keyNamed d x) (leafChildren (dataAt d l)) (named-each x))
-
-  below-each : (x : List ℕ) (k : Key) → Each OfKey (searchBelow d x k)
-  unfolding searchBelow
-  below-each x k = by (eqb (k .subkeys) 0)
-    where
-      by : (t : Bool) → Each OfKey (cond t Missing (onSound (headFault Header d [] (k .list)) (searchLeaves d x (leavesOf d (k .list)))))
-      by true = λ f e. absurd (let z : _≡_ {A = ℕ} 0 1 = cc in omega arith)
-      by false =
-          each-sound OfKey (headFault Header d [] (k .list)) _ (only-key _ (head-only (k .list)))
-          (each-first OfKey (searchLeaf d x) (leavesOf d (k .list)) (leaf-each x))
-
-  descend-each : (o : Offset) (xs : List (List ℕ)) → Each OfKey (descend d o xs)
-  unfolding descend
-  descend-each o [] = λ f e. absurd (let z : _≡_ {A = ℕ} 0 1 = cc in omega arith)
-  descend-each o (x ∷ xs) = each-found OfKey (searchBelow d x (keyOf d o)) _ (below-each x (keyOf d o)) (λ c. descend-each c xs)
-
-  value-each : (minor : ℕ) (x : List ℕ) (k : Key) → Each OfKey (lookupValue d minor x k)
-  unfolding lookupValue valueNamed
-  value-each minor x k =
-      each-sound OfKey (valueListFault Header d [] k) _ (only-key _ (list-only k))
-      (each-first OfKey (valueNamed d minor x) (valuesOf d k)
-      (λ v. each-sound OfKey (valueFault Header d [] v) _ (only-key _ (value-only v)) (each-cond OfKey (sameName (codesOf d (valueOf d minor v .name)) x) v)))
-
--- ---- the calls
+-- ---- the searches
 module _ (h us : List ℕ) where
-  look-each : Each OfKey (keyLook h us)
+  ruled : Ruled Header (binsData h) []
+  ruled = by-header (binsData h) []
+
+  below-each : {x : List ℕ} {xs : List (List ℕ)} (k : Offset) → OnWay h us (x ∷ xs) k → Each (OfKey h us) (searchBelow (binsData h) x (keyOf (binsData h) k))
+  unfolding searchBelow searchLeaf keyNamed
+  below-each {x} k w =
+      let d = binsData h in
+      let o = keyOf d k .list in
+      each-cond (OfKey h us) (eqb (keyOf d k .subkeys) 0) Missing _ (λ z. each-missing (OfKey h us))
+      (λ z. each-sound (OfKey h us) (headFault Header d [] o) _ (λ f e. of-lists w (one-of (its-list (eqb-false _ _ z)) (list-unfit Header d [] ruled o f e)))
+      (λ s. each-first (OfKey h us) (searchLeaf d x) (leavesOf d o)
+      (λ l i. each-sound (OfKey h us) (leafFault Header d [] l) _
+      (λ f e. of-lists w (one-of (its-leaf (eqb-false _ _ z) (list-fit Header d [] ruled o s) i) (leaf-unfit Header d [] ruled l f e)))
+      (λ t. each-first (OfKey h us) (keyNamed d x) (leafChildren (dataAt d l))
+      (λ c j. each-sound (OfKey h us) (keyFault Header d [] (c .at)) _
+      (λ f e. of-lists w (one-of (its-child (in-children d k z (in-leaves d (leavesOf d o) i j))) (key-unfit Header d [] ruled (c .at) f e)))
+      (λ u. each-cond (OfKey h us) (sameName (nameAt d (c .at)) x) (Found (c .at)) Missing (λ y. each-found (OfKey h us) (c .at)) (λ y. each-missing (OfKey h us))))))))
+
+  -- what is found below a key is one of its children, of that name
+  below-found : (x : List ℕ) (k : Offset) {o : Offset} → searchBelow (binsData h) x (keyOf (binsData h) k) ≡ Found o
+      → (c : Child) × List·Memᴰ c (children (binsData h) k) × (o ≡ c .at) × (compare (nameAt (binsData h) (c .at)) x ≡ Same)
+  unfolding searchBelow searchLeaf
+  below-found x k {o} e = by (eqb (keyOf (binsData h) k .subkeys) 0) refl e
+    where
+      by : (t : Bool) → eqb (keyOf (binsData h) k .subkeys) 0 ≡ t
+          → cond t Missing (onSound (headFault Header (binsData h) [] (keyOf (binsData h) k .list)) (searchLeaves (binsData h) x (leavesOf (binsData h) (keyOf (binsData h) k .list)))) ≡ Found o
+          → (c : Child) × List·Memᴰ c (children (binsData h) k) × (o ≡ c .at) × (compare (nameAt (binsData h) (c .at)) x ≡ Same)
+      by true z q = absurd (let y : _≡_ {A = ℕ} 0 1 = cc in omega arith)
+      by false z q =
+          let d = binsData h in
+          let ls = leavesOf d (keyOf d k .list) in
+          let l = first-at (searchLeaf d x) ls (sound-found (headFault Header d [] (keyOf d k .list)) _ q .1) in
+          let c = first-at (keyNamed d x) (leafChildren (dataAt d (l .0))) (sound-found (leafFault Header d [] (l .0)) _ (l .1) .1) in
+          let n = named-in d x (c .0) (c .1) in
+          (c .0, in-children d k z (in-leaves d ls (l .2) (c .2)), n .0, n .1)
+
+  descend-each : (k : Offset) (xs : List (List ℕ)) → OnWay h us xs k → Each (OfKey h us) (descend (binsData h) k xs)
+  unfolding descend
+  descend-each k [] w = each-found (OfKey h us) k
+  descend-each k (x ∷ xs) w =
+      each-on (OfKey h us) (searchBelow (binsData h) x (keyOf (binsData h) k)) _ (below-each k w)
+      (λ o e. let c = below-found x k e in
+      let g = key-fit Header (binsData h) [] ruled o (below-tested (binsData h) x (keyOf (binsData h) k) e) in
+      descend-each o xs (onto (c .0) o (sym (c .2)) (λ y. a-child w (c .1) (c .3) y) g))
+    where
+      onto : (c : Child) (o : Offset) → c .at ≡ o → (Fit Header (binsData h) a-key (c .at) → OnWay h us xs (c .at)) → Fit Header (binsData h) a-key o → OnWay h us xs o
+      onto c o e f g = subst (λ (y : Offset). OnWay h us xs y) e (f (subst (λ (y : Offset). Fit Header (binsData h) a-key y) (sym e) g))
+
+  open-each : Every (OfKey h us) (openFault h us)
+  unfolding openFault pathFault
+  open-each =
+      every-next (OfKey h us) (baseFault h) _ (λ f e. of-base (base-refuses h f e))
+      (λ s. every-unless (OfKey h us) (isPath us) _ (λ e. no-path e))
+
+  look-each : Each (OfKey h us) (keyLook h us)
   unfolding keyLook lookupKey
   look-each =
-      each-sound OfKey (openFault h us) _ (open-every h us)
-      (each-sound OfKey (keyFault Header (binsData h) [] (hiveOf h .root)) _ (only-key _ (key-only (binsData h) (hiveOf h .root)))
-      (descend-each (binsData h) (hiveOf h .root) (partsOf us)))
-
-  no-key : OfKey (refusalOf (flaw NoKey nowhere))
-  no-key = in-path (record { least = omega arith; most = omega arith; place = refl })
+      each-sound (OfKey h us) (openFault h us) _ open-each
+      (λ a. each-sound (OfKey h us) (keyFault Header (binsData h) [] (hiveOf h .root)) _ (λ f e. of-root (key-unfit Header (binsData h) [] ruled (hiveOf h .root) f e))
+      (λ b. descend-each (hiveOf h .root) (partsOf us) (the-root (key-fit Header (binsData h) [] ruled (hiveOf h .root) b))))
 
   -- find_key
-  pub find-refuses : {f : Refusal} → findAnswer h us ≡ Refused f → OfKey f
+  pub find-refuses : {r : Refusal} → findAnswer h us ≡ Refused r → Because (OfKey h us) r
   unfolding findAnswer
-  find-refuses {f} e = by (keyLook h us) refl e
+  find-refuses {r} e = by (keyLook h us) refl e
     where
-      by : (l : Look) → keyLook h us ≡ l → keyFound l ≡ Refused f → OfKey f
+      by : (l : Look) → keyLook h us ≡ l → keyFound l ≡ Refused r → Because (OfKey h us) r
       by (Found o) p q = absurd (let z : _≡_ {A = ℕ} 0 1 = cc in omega arith)
-      by Missing p q = let z : refusalOf (flaw NoKey nowhere) ≡ f = cc in subst OfKey z no-key
-      by (Faulty g) p q = let z : refusalOf g ≡ f = cc in subst OfKey z (look-each g p)
+      by Missing p q = (flaw NoKey nowhere, let z : refusalOf (flaw NoKey nowhere) ≡ r = cc in sym z, no-key p)
+      by (Faulty g) p q = (g, let z : refusalOf g ≡ r = cc in sym z, look-each g p)
 
+  -- ---- values
   module _ (x : List ℕ) where
-    value-look-each : Each OfKey (valueLook h us x)
+    value-each : (k : Offset) → findAnswer h us ≡ At k → Each (OfValue h us x) (lookupValue (binsData h) (minorOf (sector h)) x (keyOf (binsData h) k))
+    unfolding lookupValue valueNamed
+    value-each k w =
+        let d = binsData h in
+        let P = OfValue h us x in
+        each-sound P (valueListFault Header d [] (keyOf d k)) _ (λ f e. of-values w (value-list-unfit Header d [] ruled k f e))
+        (λ s. each-first P (valueNamed d (minorOf (sector h)) x) (valuesOf d (keyOf d k))
+        (λ v i. each-sound P (valueFault Header d [] v) _ (λ f e. of-values w (one-of (value-named Header d [] ruled k v s i) (value-unfit Header d [] ruled v f e)))
+        (λ t. each-cond P (sameName (codesOf d (valueOf d (minorOf (sector h)) v .name)) x) (Found v) Missing (λ y. each-found P v) (λ y. each-missing P))))
+
+    value-look-each : Each (OfValue h us x) (valueLook h us x)
     unfolding valueLook
-    value-look-each f e = by (keyLook h us) refl e
+    value-look-each = by (keyLook h us) refl
       where
-        by : (l : Look) → keyLook h us ≡ l → onKey l (λ o. lookupValue (binsData h) (minorOf (sector h)) x (keyOf (binsData h) o)) ≡ Faulty f → OfKey (refusalOf f)
-        by (Found o) p q = value-each (binsData h) (minorOf (sector h)) x (keyOf (binsData h) o) f q
-        by Missing p q = let z : flaw NoKey nowhere ≡ f = cc in subst (λ (g : Flaw). OfKey (refusalOf g)) z no-key
-        by (Faulty g) p q = look-each f (p ∙ q)
+        by : (l : Look) → keyLook h us ≡ l → Each (OfValue h us x) (onKey l (λ o. lookupValue (binsData h) (minorOf (sector h)) x (keyOf (binsData h) o)))
+        by (Found o) p = value-each o (find-at h us p)
+        by Missing p = λ f q. let z : flaw NoKey nowhere ≡ f = cc in subst (λ (g : Flaw). OfValue h us x g) z (of-key (no-key p))
+        by (Faulty g) p = λ f q. of-key (look-each f (p ∙ q))
 
-    found-refuses : (P : Refusal → Type 0) → ((f : Refusal) → OfValue f → P f) → (go : Offset → ValueFound)
-        → ((v : Offset) (f : Refusal) → go v ≡ Unvalued f → P f) → (f : Refusal) → valueFound (valueLook h us x) go ≡ Unvalued f → P f
-    found-refuses P up go each f e = by (valueLook h us x) refl e
+    -- the value that is found
+    finds : {v : Offset} → valueLook h us x ≡ Found v → Finds h us x v
+    unfolding valueLook lookupValue
+    finds {v} e = by (keyLook h us) refl e
       where
-        by : (l : Look) → valueLook h us x ≡ l → valueFound l go ≡ Unvalued f → P f
-        by (Found v) p q = each v f q
-        by Missing p q =
-            let z : refusalOf (flaw NoValue nowhere) ≡ f = cc in
-            subst P z (up _ (no-value (record { least = omega arith; most = omega arith; place = refl })))
-        by (Faulty g) p q = let z : refusalOf g ≡ f = cc in subst P z (up _ (of-key (value-look-each g p)))
+        by : (l : Look) → keyLook h us ≡ l → onKey l (λ o. lookupValue (binsData h) (minorOf (sector h)) x (keyOf (binsData h) o)) ≡ Found v → Finds h us x v
+        by (Found o) p q =
+            record {
+              key = o;
+              found = find-at h us p;
+              first-of = found-first (binsData h) (minorOf (sector h)) x (valuesOf (binsData h) (keyOf (binsData h) o)) (sound-found (valueListFault Header (binsData h) [] (keyOf (binsData h) o)) _ q .1);
+              fit = value-fit Header (binsData h) [] ruled v (value-facts h us x e .1);
+            }
+        by Missing p q = absurd (let z : _≡_ {A = ℕ} 0 1 = cc in omega arith)
+        by (Faulty g) p q = absurd (let z : _≡_ {A = ℕ} 0 1 = cc in omega arith)
 
-    where-refuses : (P : Refusal → Type 0) (v : Verdict) (i : Info) → Every P v → (f : Refusal) → infoWhere v i ≡ Unvalued f → P f
-    where-refuses P Sound i p f q = absurd (let z : _≡_ {A = ℕ} 0 1 = cc in omega arith)
-    where-refuses P (Flawed g) i p f q = let z : refusalOf g ≡ f = cc in subst P z (p g refl)
+    -- the answers, by the value that is found
+    found-refuses : (P : Flaw → Type 0) → ((f : Flaw) → OfValue h us x f → P f) → (go : Offset → ValueFound)
+        → ((v : Offset) → Finds h us x v → (r : Refusal) → go v ≡ Unvalued r → Because P r) → (r : Refusal) → valueFound (valueLook h us x) go ≡ Unvalued r → Because P r
+    found-refuses P up go each r e = by (valueLook h us x) refl e
+      where
+        by : (l : Look) → valueLook h us x ≡ l → valueFound l go ≡ Unvalued r → Because P r
+        by (Found v) p q = each v (finds p) r q
+        by Missing p q = (flaw NoValue nowhere, let z : refusalOf (flaw NoValue nowhere) ≡ r = cc in sym z, up (flaw NoValue nowhere) (no-value p))
+        by (Faulty g) p q = (g, let z : refusalOf g ≡ r = cc in sym z, up g (value-look-each g p))
+
+    where-refuses : (P : Flaw → Type 0) (v : Verdict) (i : Info) → Every P v → (r : Refusal) → infoWhere v i ≡ Unvalued r → Because P r
+    where-refuses P Sound i p r q = absurd (let z : _≡_ {A = ℕ} 0 1 = cc in omega arith)
+    where-refuses P (Flawed g) i p r q = (g, let z : refusalOf g ≡ r = cc in sym z, p g refl)
+
+    data-each : (v : Offset) → Finds h us x v → Every (OfValue h us x) (dataFault Header (binsData h) [] (dataIn (binsData h) (minorOf (sector h)) v))
+    data-each v w f e = of-data w (data-unfit Header (binsData h) [] ruled (dataIn (binsData h) (minorOf (sector h)) v) f e)
 
     -- value_info
-    pub info-refuses : {f : Refusal} → infoAnswer h us x ≡ Unvalued f → OfValue f
+    pub info-refuses : {r : Refusal} → infoAnswer h us x ≡ Unvalued r → Because (OfValue h us x) r
     unfolding infoAnswer
-    info-refuses {f} =
-        found-refuses OfValue (λ g p. p) _
-        (λ v. where-refuses OfValue (dataFault Header (binsData h) [] (dataIn (binsData h) (minorOf (sector h)) v)) _
-        (λ g q. of-key (only-key _ (data-only (binsData h) (dataIn (binsData h) (minorOf (sector h)) v)) g q))) f
+    info-refuses {r} =
+        found-refuses (OfValue h us x) (λ f p. p) _
+        (λ v w. where-refuses (OfValue h us x) (dataFault Header (binsData h) [] (dataIn (binsData h) (minorOf (sector h)) v)) _ (data-each v w)) r
 
-    view-every : (v : Offset) (y : ValueData) → Every OfView (viewFault v y)
+    view-each : (v : Offset) → Finds h us x v → (y : ValueData) → dataIn (binsData h) (minorOf (sector h)) v ≡ y → Every (OfView h us x) (viewFault v y)
     unfolding viewFault
-    view-every v (Inline at len) g e = absurd (let z : _≡_ {A = ℕ} 0 1 = cc in omega arith)
-    view-every v (OneCell o len) g e = absurd (let z : _≡_ {A = ℕ} 0 1 = cc in omega arith)
-    view-every v (Segments o len) g e = segmented v (let z : flaw Segmented v ≡ g = cc in ap refusalOf (sym z))
+    view-each v w (Inline at len) e = every-sound (OfView h us x)
+    view-each v w (OneCell o len) e = every-sound (OfView h us x)
+    view-each v w (Segments o len) e = every-flaw (OfView h us x) (segmented w e)
 
     -- view_info
-    pub view-refuses : {f : Refusal} → viewAnswer h us x ≡ Unvalued f → OfView f
+    pub view-refuses : {r : Refusal} → viewAnswer h us x ≡ Unvalued r → Because (OfView h us x) r
     unfolding viewAnswer
-    view-refuses {f} =
-        found-refuses OfView (λ g p. of-value p) _
-        (λ v. where-refuses OfView (viewFault v (dataIn (binsData h) (minorOf (sector h)) v) next dataFault Header (binsData h) [] (dataIn (binsData h) (minorOf (sector h)) v)) _
-        (every-next OfView (viewFault v (dataIn (binsData h) (minorOf (sector h)) v)) _ (view-every v (dataIn (binsData h) (minorOf (sector h)) v))
-        (λ g q. of-value (of-key (only-key _ (data-only (binsData h) (dataIn (binsData h) (minorOf (sector h)) v)) g q))))) f
+    view-refuses {r} =
+        found-refuses (OfView h us x) (λ f p. as-value p) _
+        (λ v w. let y = dataIn (binsData h) (minorOf (sector h)) v in
+        where-refuses (OfView h us x) (viewFault v y next dataFault Header (binsData h) [] y) _
+        (every-next (OfView h us x) (viewFault v y) _ (view-each v w y refl) (λ s f e. as-value (data-each v w f e)))) r
 
     -- value_copy
-    pub copy-refuses : (n : ℕ) {f : Refusal} → copyAnswer h us x n ≡ Uncopied f → OfCopy f
+    pub copy-refuses : (n : ℕ) {r : Refusal} → copyAnswer h us x n ≡ Uncopied r → Because (OfCopy h us x n) r
     unfolding copyAnswer
-    copy-refuses n {f} e = by (infoAnswer h us x) refl e
+    copy-refuses n {r} e = by (infoAnswer h us x) refl e
       where
-        by : (a : ValueFound) → infoAnswer h us x ≡ a → copiedTo n a ≡ Uncopied f → OfCopy f
-        by (Unvalued g) p q = let z : g ≡ f = cc in subst OfCopy z (copy-value (info-refuses p))
+        by : (a : ValueFound) → infoAnswer h us x ≡ a → copiedTo n a ≡ Uncopied r → Because (OfCopy h us x n) r
+        by (Unvalued g) p q = let z : g ≡ r = cc in let w = info-refuses (p ∙ ap Unvalued z) in (w .0, w .1, as-info (w .2))
         by (ValueAt i) p q = cut (leb (i .len) n) refl
           where
-            cut : (t : Bool) → leb (i .len) n ≡ t → OfCopy f
-            cut true r = absurd (let s = rw r at q in let z : _≡_ {A = ℕ} 0 1 = cc in omega arith)
-            cut false r =
-                let s = rw r at q in
-                let z : refusalOf (flaw OutputShort nowhere) ≡ f = cc in
-                subst OfCopy z (too-short (record { least = omega arith; most = omega arith; place = refl }))
+            cut : (t : Bool) → leb (i .len) n ≡ t → Because (OfCopy h us x n) r
+            cut true s = absurd (let y = rw s at q in let z : _≡_ {A = ℕ} 0 1 = cc in omega arith)
+            cut false s =
+                let y = rw s at q in
+                (flaw OutputShort nowhere, let z : refusalOf (flaw OutputShort nowhere) ≡ r = cc in sym z, too-short p (leb-false _ _ s))

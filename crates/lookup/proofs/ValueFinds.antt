@@ -7,7 +7,8 @@ use mathlib.Core.Logic.{_↔_}
 use mathlib.Core.List.{List, [], _∷_, List·Memᴰ, List·Memᴰ·head, List·Memᴰ·tail}
 use Rattle.fields.specs.declared.Offset.{Offset}
 use Rattle.fields.specs.declared.Flaw.{Flaw}
-use Rattle.fields.specs.declared.Verdict.the-variants.{Sound}
+use Rattle.fields.specs.declared.Verdict.{Verdict}
+use Rattle.fields.specs.declared.Verdict.the-variants.{Sound, Flawed}
 use Rattle.fields.proofs.Bools.{never}
 use Rattle.fields.proofs.Firsts.{both}
 use Rattle.cells.specs.declared.Rule.the-variants.{Header}
@@ -24,7 +25,7 @@ use Rattle.tree.specs.WellFormed.{ValuesStand}
 use Rattle.tree.proofs.Stands.{of-value, of-values}
 use Rattle.lookup.specs.declared.Look.{Look}
 use Rattle.lookup.specs.declared.Look.the-variants.{Found, Missing, Faulty}
-use Rattle.lookup.specs.Search.{orElse, firstOf, valueNamed, searchValues, lookupValue}
+use Rattle.lookup.specs.Search.{onSound, orElse, firstOf, valueNamed, searchValues, lookupValue}
 use Rattle.lookup.specs.Reach.{FirstNamed, first, later}
 
 module _ (d : List ℕ) (minor : ℕ) (x : List ℕ) where
@@ -47,21 +48,16 @@ module _ (d : List ℕ) (minor : ℕ) (x : List ℕ) where
           by true e = absurd (p (same-name _ _ e))
           by false e = e
 
-  found-first : (vs : List Offset) → ((v : Offset) → List·Memᴰ v vs → valueFault Header d [] v ≡ Sound) → {v : Offset}
-      → searchValues d minor x vs ≡ Found v → FirstNamed d minor x vs v
-  unfolding firstOf orElse
-  found-first [] ok e = absurd (let z : _≡_ {A = ℕ} 0 1 = cc in omega arith)
-  found-first (u ∷ vs) ok {v} e =
-      by (found-first vs (λ v i. ok v (List·Memᴰ·tail i))) (sameName (codesOf d (valueOf d minor u .name)) x) refl (rw (named-is u (ok u (List·Memᴰ·head refl))) at e)
+  pub found-first : (vs : List Offset) {v : Offset} → searchValues d minor x vs ≡ Found v → FirstNamed d minor x vs v
+  unfolding firstOf orElse valueNamed
+  found-first [] e = absurd (let z : _≡_ {A = ℕ} 0 1 = cc in omega arith)
+  found-first (u ∷ vs) {v} e = by (found-first vs) (valueFault Header d [] u) (sameName (codesOf d (valueOf d minor u .name)) x) refl e
     where
-      by : (searchValues d minor x vs ≡ Found v → FirstNamed d minor x vs v) → (t : Bool) → sameName (codesOf d (valueOf d minor u .name)) x ≡ t
-          → orElse (cond (sameName (codesOf d (valueOf d minor u .name)) x) (Found u) Missing) (searchValues d minor x vs) ≡ Found v
-          → FirstNamed d minor x (u ∷ vs) v
-      by rest true p q =
-          let r = rw p at q in
-          let s : u ≡ v = cc in
-          subst (λ (y : Offset). FirstNamed d minor x (u ∷ vs) y) s (first (same-name _ _ p))
-      by rest false p q = later (λ s. never _ (name-same _ _ s) p) (rest (rw p at q))
+      by : (searchValues d minor x vs ≡ Found v → FirstNamed d minor x vs v) → (w : Verdict) (t : Bool) → sameName (codesOf d (valueOf d minor u .name)) x ≡ t
+          → orElse (onSound w (cond t (Found u) Missing)) (searchValues d minor x vs) ≡ Found v → FirstNamed d minor x (u ∷ vs) v
+      by rest Sound true p q = let s : u ≡ v = cc in subst (λ (y : Offset). FirstNamed d minor x (u ∷ vs) y) s (first (same-name _ _ p))
+      by rest Sound false p q = later (λ s. never _ (name-same _ _ s) p) (rest q)
+      by rest (Flawed f) t p q = absurd (let z : _≡_ {A = ℕ} 0 1 = cc in omega arith)
 
   no-fault : (vs : List Offset) → ((v : Offset) → List·Memᴰ v vs → valueFault Header d [] v ≡ Sound) → {f : Flaw} → searchValues d minor x vs ≡ Faulty f → ⊥
   unfolding firstOf orElse
@@ -97,7 +93,7 @@ module _ (d : List ℕ) (tiles : BinsTile d 0) (minor : ℕ) (k : Key) (s : Valu
   -- the first value of that name is found
   pub value-exactly : (x : List ℕ) (v : Offset) → (lookupValue d minor x k ≡ Found v) ↔ FirstNamed d minor x (valuesOf d k) v
   value-exactly x v =
-      (λ e. found-first d minor x (valuesOf d k) value-good (sym (search-is x) ∙ e), λ f. search-is x ∙ first-found d minor x (valuesOf d k) value-good f)
+      (λ e. found-first d minor x (valuesOf d k) (sym (search-is x) ∙ e), λ f. search-is x ∙ first-found d minor x (valuesOf d k) value-good f)
 
   pub value-none : (x : List ℕ) → ((v : Offset) → FirstNamed d minor x (valuesOf d k) v → ⊥) → lookupValue d minor x k ≡ Missing
   value-none x f = by (lookupValue d minor x k) refl

@@ -2,3 +2,4 @@ pub mod Paths
 pub mod Search
 pub mod Answers
 pub mod Reach
+pub mod Refused

@@ -1,8 +1,10 @@
 -- What the tree holds, said without a search: a key under a path, and a value under a name. d is the bins data.
 use Prim.Native.Nat.{ℕ}
 use mathlib.Core.Path.{_≡_}
+use mathlib.Core.Bool.{true}
 use mathlib.Core.List.{List, [], _∷_, _++_, List·Memᴰ}
 use Rattle.fields.specs.declared.Offset.{Offset}
+use Rattle.base.specs.Block.{binsData}
 use Rattle.names.specs.declared.Order.the-variants.{Same}
 use Rattle.names.specs.Codes.{backslash}
 use Rattle.names.specs.Comparison.{compare}
@@ -10,7 +12,10 @@ use Rattle.records.specs.declared.Child.{Child}
 use Rattle.records.specs.Keys.{codesOf}
 use Rattle.records.specs.Lists.{children}
 use Rattle.values.specs.Records.{valueOf}
-use Rattle.tree.specs.Tree.{nameAt}
+use Rattle.tree.specs.Tree.{nameAt, hiveOf}
+use Rattle.lookup.specs.declared.KeyFound.the-variants.{At}
+use Rattle.lookup.specs.Paths.{isPath}
+use Rattle.lookup.specs.Answers.{findAnswer}
 
 -- the tree holds a key under a path of names, from a key on: each name compared as the paper says
 pub data Holds (d : List ℕ) : Offset → List (List ℕ) → Offset → Type 0 where
@@ -36,3 +41,10 @@ unfoldable pub joinedBy : List (List ℕ) → List ℕ
 joinedBy [] = []
 joinedBy (x ∷ []) = x
 joinedBy (x ∷ y ∷ xs) = x ++ (backslash ∷ joinedBy (y ∷ xs))
+
+-- found again: by the names along its way, joined by backslashes
+pub record FoundAgain (h : List ℕ) (k : Offset) : Type 0 where
+  pub names : List (List ℕ)
+  pub along : Named (binsData h) (hiveOf h .root) names k
+  pub is-path : isPath (joinedBy names) ≡ true
+  pub found : findAnswer h (joinedBy names) ≡ At k

@@ -48,7 +48,7 @@ mixed-same : compare child-16 child-capitals ≡ Same
 unfolding codes uppers upper compare byCode
 mixed-same = refl
 
--- "ab", one byte per character, against "aC" and "aA" as UTF-16LE
+-- `ab`, one byte per character, against `aC` and `aA` as UTF-16LE
 mixed-before : compare (codes true (97 ∷ 98 ∷ [])) (codes false (97 ∷ 0 ∷ 67 ∷ 0 ∷ [])) ≡ Before
 unfolding codes uppers upper compare byCode
 mixed-before = refl

@@ -26,7 +26,7 @@ use Rattle.records.proofs.LawsRecord.{Found-at, record-tested, record-h
 abbrev pub nameCodes : List ℕ → List ℕ
 nameCodes r = codes (keyNarrow r) (keyName r)
 
--- "room for 76 bytes and the name", the signature, "1 to 255 characters and no backslash; UTF-16 lengths are even"
+-- room for 76 bytes and the name, the signature, "1 to 255 characters and no backslash; UTF-16 lengths are even"
 pub record IsKey (r : List ℕ) : Type 0 where
   pub room : 76 + u16At r 72 ≤ length r
   pub signature : standsAt r 0 (110 ∷ 107 ∷ []) ≡ true

@@ -7,3 +7,4 @@ pub mod Ended
 pub mod Small
 pub mod Asked
 pub mod AtOnce
+pub mod Refusals

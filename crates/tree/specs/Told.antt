@@ -1,30 +1,72 @@
--- What a refusal of the check says: "Each refusal is a number and a place, here an offset in the bins data (0 unless stated)." The table's rows 1 to 15.
-use Prim.Native.Nat.{ℕ, _%_, _≤_, _<_}
+-- What a refusal of the check says: "Each refusal is a number and a place, here an offset in the bins data (0 unless stated)." The table's rows 1 to 15,
+-- each with its reason. h is the hive and d its bins data.
+use Prim.Native.Nat.{ℕ, suc, _/_, _<_}
 use mathlib.Core.Path.{_≡_}
 use mathlib.Core.Bool.{true}
-use mathlib.Core.Logic.{_⊎_}
-use mathlib.Core.List.{List}
+use mathlib.Core.List.{List, _∷_, List·Memᴰ}
 use lib.ListN.{length}
-use Rattle.fields.specs.declared.Fault.{Fault}
-use Rattle.fields.specs.declared.Fault.the-variants.{BinHeader, CellSize, NoCell, Record, Order, Parent, Level}
-use Rattle.fields.specs.declared.Offset.{Offset}
+use Rattle.fields.specs.declared.Fault.the-variants.{Order, Parent, Level}
 use Rattle.fields.specs.declared.Flaw.{Flaw}
-use Rattle.fields.specs.Faults.{numberOf, flaw}
-use Rattle.cells.specs.Named.{dataAt}
-use Rattle.cells.specs.Tiled.{InUse}
-use Rattle.records.specs.Keys.{isKey}
+use Rattle.fields.specs.declared.Offset.{Offset}
+use Rattle.fields.specs.declared.Refusal.{Refusal}
+use Rattle.fields.specs.Faults.{flaw, refusalOf}
+use Rattle.base.specs.Block.{sector, binsOf, binsData}
+use Rattle.cells.specs.declared.Rule.the-variants.{Map}
+use Rattle.cells.specs.Tiled.{BinsTile}
+use Rattle.cells.specs.Refused.{OfSurvey}
+use Rattle.names.specs.declared.Order.the-variants.{Before}
+use Rattle.names.specs.Comparison.{compare}
+use Rattle.names.specs.Hashing.{hashOf}
+use Rattle.records.specs.declared.Child.{Child}
+use Rattle.records.specs.Keys.{keyOf}
+use Rattle.records.specs.Lists.{children}
+use Rattle.values.specs.Records.{dataIn}
+use Rattle.values.specs.Lists.{valuesOf}
+use Rattle.values.specs.Refused.{a-key, a-value, Fit, Unfit, Among, Lists, Values, Data}
+use Rattle.tree.specs.declared.Hive.{Hive}
+use Rattle.tree.specs.Tree.{nameAt, hiveOf}
 
--- d is the bins data
-pub data Told (d : List ℕ) : Flaw → Type 0 where
-  -- 1 to 8: place 0
-  of-file : {f : Flaw} → 1 ≤ numberOf (f .fault) → numberOf (f .fault) ≤ 8 → f .place .0 ≡ 0 → Told d f
-  -- 9: "bin"
-  of-bin : (at : ℕ) → at % 4096 ≡ 0 → at < length d → Told d (flaw BinHeader (record { 0 = at }))
-  -- 10: "cell"
-  of-cell : (at : ℕ) → at % 8 ≡ 0 → at < length d → Told d (flaw CellSize (record { 0 = at }))
-  -- 11: "offset names no cell in use": "that offset"
-  of-offset : (o : Offset) → (InUse d o → ⊥) → Told d (flaw NoCell o)
-  -- 12: "cell at fault or too short"
-  of-record : (o : Offset) → InUse d o → Told d (flaw Record o)
-  -- 13, 14, 15: "key"
-  of-key : (f : Fault) (o : Offset) → (f ≡ Order) ⊎ ((f ≡ Parent) ⊎ (f ≡ Level)) → InUse d o → isKey (dataAt d o) ≡ true → Told d (flaw f o)
+-- a refusal, and a reason for its number and place
+abbrev pub Because : (Flaw → Type 0) → Refusal → Type 0
+Because reason r = (f : Flaw) × (r ≡ refusalOf f) × reason f
+
+-- the keys that the check comes to, with their levels: "The root is level 0"
+pub data Reached (d : List ℕ) (root : Offset) : ℕ → Offset → Type 0 where
+  the-root : Fit Map d a-key root → Reached d root 0 root
+  a-child : {n : ℕ} {k : Offset} {c : Child} → Reached d root n k → List·Memᴰ c (children d k) → Fit Map d a-key (c .at)
+      → Reached d root (suc n) (c .at)
+
+-- c stands in a list, with b just before it
+pub data Follows (b c : Child) : List Child → Type 0 where
+  at-once : {cs : List Child} → Follows b c (b ∷ c ∷ cs)
+  later : {e : Child} {cs : List Child} → Follows b c cs → Follows b c (e ∷ cs)
+
+pub data OfTree (d : List ℕ) (hive : Hive) : Flaw → Type 0 where
+  -- 11 and 12: the root, what a key lists, its values, and their data
+  of-root : {f : Flaw} → Unfit Map d a-key (hive .root) f → OfTree d hive f
+  of-lists : {n : ℕ} {k : Offset} {f : Flaw} → Reached d (hive .root) n k → Among Map d (Lists Map d k) f → OfTree d hive f
+  of-values : {n : ℕ} {k : Offset} {f : Flaw} → Reached d (hive .root) n k → Among Map d (Values Map d k) f → OfTree d hive f
+  of-data : {n : ℕ} {k v : Offset} {f : Flaw} → Reached d (hive .root) n k → List·Memᴰ v (valuesOf d (keyOf d k)) → Fit Map d a-value v
+      → Among Map d (Data Map d (dataIn d (hive .minor) v)) f → OfTree d hive f
+  -- 13: "order of names, or `lh` hash", at the key that is listed
+  no-order : {n : ℕ} {k : Offset} {b c : Child} → Reached d (hive .root) n k → Follows b c (children d k) → Fit Map d a-key (c .at)
+      → (compare (nameAt d (b .at)) (nameAt d (c .at)) ≡ Before → ⊥) → OfTree d hive (flaw Order (c .at))
+  other-hash : {n : ℕ} {k : Offset} {c : Child} → Reached d (hive .root) n k → List·Memᴰ c (children d k) → Fit Map d a-key (c .at)
+      → c .hashed ≡ true → (c .hash ≡ hashOf (nameAt d (c .at)) → ⊥) → OfTree d hive (flaw Order (c .at))
+  -- 14: "parent, root listed, total count", at the key that is listed, and for the total at the key that lists
+  other-parent : {n : ℕ} {k : Offset} {c : Child} → Reached d (hive .root) n k → List·Memᴰ c (children d k) → Fit Map d a-key (c .at)
+      → (keyOf d (c .at) .parent .0 ≡ k .0 → ⊥) → OfTree d hive (flaw Parent (c .at))
+  root-listed : {n : ℕ} {k : Offset} {c : Child} → Reached d (hive .root) n k → List·Memᴰ c (children d k) → Fit Map d a-key (c .at)
+      → c .at .0 ≡ hive .root .0 → OfTree d hive (flaw Parent (c .at))
+  other-total : {n : ℕ} {k : Offset} → Reached d (hive .root) n k → (length (children d k) ≡ keyOf d k .subkeys → ⊥) → OfTree d hive (flaw Parent k)
+  -- 15: "level over 512", at that key
+  too-deep : {n : ℕ} {k : Offset} → Reached d (hive .root) n k → 512 < n → OfTree d hive (flaw Level k)
+
+-- the whole check, for a map of so many bytes
+pub data Told (h : List ℕ) (room : ℕ) : Flaw → Type 0 where
+  of-survey : {f : Flaw} → OfSurvey h room f → Told h room f
+  of-tree : {f : Flaw} → BinsTile (binsData h) 0 → OfTree (binsData h) (hiveOf h) f → Told h room f
+
+-- "bins size / 64 bytes"
+abbrev pub mapBytes : List ℕ → ℕ
+mapBytes h = binsOf (sector h) / 64

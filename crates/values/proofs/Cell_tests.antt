@@ -1,13 +1,11 @@
 -- A test of the data of the cell that an offset names: value record, `db` record and room are such tests. 11 at the offset, or 12 at that cell.
 use Prim.Native.Nat.{ℕ}
-use native.Mathlib.Omega.{arith}
 use mathlib.Core.Path.{_≡_, refl, sym, ap, _∙_}
 use mathlib.Core.Bool.{Bool, true, false}
 use mathlib.Core.List.{List, [], _∷_}
-use mathlib.Core.Logic.{_⊎_, inl, inr}
 use Rattle.fields.specs.declared.Offset.{Offset}
 use Rattle.fields.specs.declared.Flaw.{Flaw}
-use Rattle.fields.specs.declared.Fault.the-variants.{NoCell, Record}
+use Rattle.fields.specs.declared.Fault.the-variants.{Record}
 use Rattle.fields.specs.declared.Verdict.{Verdict}
 use Rattle.fields.specs.declared.Verdict.the-variants.{Sound, Flawed}
 use Rattle.fields.specs.Faults.{flaw, unless, _next_, faultOver}
@@ -18,25 +16,7 @@ use Rattle.cells.specs.declared.Rule.{Rule}
 use Rattle.cells.specs.declared.Rule.the-variants.{Header}
 use Rattle.records.proofs.LawsRecord.{header-cell}
 use Rattle.cells.specs.Named.{cellOf, cellFault, dataOf, dataAt}
-use Rattle.cells.proofs.Naming.{Names, cell-sound, cell-flawed, cell-data-at, sound-names, cell-fault-is}
-
--- ---- each flaw is 11 or 12
-
-abbrev pub Only : Verdict → Type 0
-Only v = (f : Flaw) → v ≡ Flawed f → (f .fault ≡ NoCell) ⊎ (f .fault ≡ Record)
-
-pub only-sound : {v : Verdict} → v ≡ Sound → Only v
-only-sound p f e = absurd (let z : _≡_ {A = ℕ} 0 1 = cc in omega arith)
-
-pub only-next : (a b : Verdict) → Only a → Only b → Only (a next b)
-unfolding _next_
-only-next Sound b p q = q
-only-next (Flawed g) b p q = p
-
-pub only-over : {A : Type 0} (each : A → Verdict) (xs : List A) → ((x : A) → Only (each x)) → Only (faultOver each xs)
-unfolding faultOver
-only-over each [] p = only-sound refl
-only-over each (x ∷ xs) p = only-next (each x) (faultOver each xs) (p x) (only-over each xs p)
+use Rattle.cells.proofs.Naming.{Names, cell-sound, cell-flawed, cell-data-at, sound-names}
 
 -- ---- what the map names, the cell's own header names
 
@@ -70,13 +50,6 @@ module _ (test : List ℕ → Bool) (rule : Rule) (d m : List ℕ) (o : Offset) 
   says e =
       let s = both (cellFault rule d m o) _ e in
       (sound-names rule d m o (s .0), held (test (dataAt d o)) (flaw Record o) (s .1))
-
-  pub only-test : Only (testFault test rule d m o)
-  only-test = only-next (cellFault rule d m o) _ (λ f e. inl (ap (λ (f : Flaw). f .fault) (cell-fault-is rule d m o e))) (by (test (dataAt d o)))
-    where
-      by : (t : Bool) → Only (unless t (flaw Record o))
-      by true = only-sound refl
-      by false = λ f e. inr (let q : flaw Record o ≡ f = cc in ap (λ (x : Flaw). x .fault) (sym q))
 
   pub by-header : (n : List ℕ) → testFault test rule d m o ≡ Sound → testFault test Header d n o ≡ Sound
   by-header n = carries-next (cellFault rule d m o) _ (cellFault Header d n o) _ (header-cell rule d m n o) (λ e. e)

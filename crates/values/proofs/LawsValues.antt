@@ -11,7 +11,6 @@ use borrow.Author.Tests.{leb-true, leb-false, ltb-true}
 use Rattle.fields.specs.declared.Offset.{Offset}
 use Rattle.fields.specs.declared.Verdict.the-variants.{Sound}
 use Rattle.fields.specs.Number.{u16At, u32At}
-use Rattle.fields.specs.Faults.{_next_}
 use Rattle.fields.proofs.Bools.{and-inv}
 use Rattle.cells.specs.declared.Rule.{Rule}
 use Rattle.cells.specs.declared.Rule.the-variants.{Header}
@@ -25,7 +24,7 @@ use Rattle.values.specs.Records.{segmentSize, dataLimit, topBit, isDataS
 use Rattle.values.specs.Segments.{roomFault, segmentsFor, isDb, dbFault, segmentList, segmentsOf, segmentFault, segmentListFault, segmentsFault, dataFault, lengthOf}
 use Rattle.values.specs.Parts.{inlineEnd, Lies}
 use Rattle.values.specs.Lists.{valuesOf, valueListFault, wholeValueFault, valuesFault}
-use Rattle.values.proofs.Cell_tests.{Only, only-sound, only-next, only-over, only-test, carries-next, carries-over, says, by-header}
+use Rattle.values.proofs.Cell_tests.{carries-next, carries-over, says, by-header}
 use Rattle.values.proofs.Rooms.{Roomy, names-roomy, bytes-within}
 use Rattle.values.proofs.Tests.{Kept, kept}
 
@@ -121,51 +120,6 @@ module _ (rule : Rule) (d m : List ℕ) (minor : ℕ) (v : Offset) (s : valueFau
   name-bytes =
       let q : v .0 + 4 + 20 ≡ v .0 + 24 = omega arith in
       bytes-within d v 20 (u16At (dataAt d v) 2) name-roomy ∙ ap (λ (i : ℕ). take (u16At (dataAt d v) 2) (drop i d)) q
-
--- ---- each fault is 11 or 12
-
-module _ (rule : Rule) (d m : List ℕ) where
-  pub only-value : (v : Offset) → Only (valueFault rule d m v)
-  unfolding valueFault
-  only-value v = only-test isValue rule d m v
-
-  pub only-room : (o : Offset) (n : ℕ) → Only (roomFault rule d m o n)
-  unfolding roomFault
-  only-room o n = only-test (λ r. leb n (length r)) rule d m o
-
-  only-list : (o : Offset) (size : ℕ) → Only (segmentListFault rule d m o size)
-  unfolding segmentListFault dbFault
-  only-list o size = only-next _ _ (only-test (λ r. isDb r size) rule d m o) (only-room (segmentList d o) (4 * segmentsFor size))
-
-  only-segments : (o : Offset) (size : ℕ) → Only (segmentsFault rule d m o size)
-  unfolding segmentsFault segmentFault
-  only-segments o size = only-next _ _ (only-list o size) (only-over (segmentFault rule d m) (segmentsOf d o size) (λ s. only-room (s .at) (s .len)))
-
-  pub only-data : (x : ValueData) → Only (dataFault rule d m x)
-  unfolding dataFault
-  only-data (Inline at len) = only-sound refl
-  only-data (OneCell o len) = by (eqb len 0)
-    where
-      by : (t : Bool) → Only (cond t Sound (roomFault rule d m o len))
-      by true = only-sound refl
-      by false = only-room o len
-  only-data (Segments o len) = only-segments o len
-
-  pub only-value-list : (k : Key) → Only (valueListFault rule d m k)
-  unfolding valueListFault
-  only-value-list k = by (eqb (k .values) 0)
-    where
-      by : (t : Bool) → Only (cond t Sound (roomFault rule d m (k .«value_list») (4 * k .values)))
-      by true = only-sound refl
-      by false = only-room (k .«value_list») (4 * k .values)
-
-  pub only-whole-value : (minor : ℕ) (v : Offset) → Only (wholeValueFault rule d m minor v)
-  unfolding wholeValueFault
-  only-whole-value minor v = only-next _ _ (only-value v) (only-data (dataIn d minor v))
-
-  pub only-values : (minor : ℕ) (k : Key) → Only (valuesFault rule d m minor k)
-  unfolding valuesFault
-  only-values minor k = only-next _ _ (only-value-list k) (only-over (wholeValueFault rule d m minor) (valuesOf d k) (only-whole-value minor))
 
 -- ---- what is sound by either rule is sound by the cells' own headers, with any map
 

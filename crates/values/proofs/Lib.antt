@@ -11,3 +11,4 @@ pub mod LawsSegments
 pub mod LawsData
 pub mod LawsValues
 pub mod Figures
+pub mod Refusals

@@ -3,3 +3,4 @@ pub mod Entries
 pub mod Segments
 pub mod Parts
 pub mod Lists
+pub mod Refused

@@ -1,0 +1,28 @@
+-- What a refusal of the listing calls says: the table's rows 1 to 7, 11 and 12, each with its reason. They take a record by its offset, read it, and then
+-- what it names. h is the hive.
+use Prim.Native.Nat.{ℕ}
+use mathlib.Core.List.{List}
+use Rattle.fields.specs.declared.Flaw.{Flaw}
+use Rattle.fields.specs.declared.Offset.{Offset}
+use Rattle.base.specs.Block.{sector, minorOf, binsData}
+use Rattle.base.specs.Refused.{OfBase}
+use Rattle.cells.specs.declared.Rule.the-variants.{Header}
+use Rattle.values.specs.Records.{dataIn}
+use Rattle.values.specs.Refused.{Role, a-key, a-value, Fit, Unfit, Among, Lists, Values, Data}
+
+pub data OfRecord (h : List ℕ) (w : Role) (o : Offset) (named : Role → Offset → Type 0) : Flaw → Type 0 where
+  of-base : {f : Flaw} → OfBase h f → OfRecord h w o named f
+  -- 11 and 12: the record at that offset, and what it names
+  of-record : {f : Flaw} → Unfit Header (binsData h) w o f → OfRecord h w o named f
+  of-named : {f : Flaw} → Fit Header (binsData h) w o → Among Header (binsData h) named f → OfRecord h w o named f
+
+-- nth_subkey and nth_value of the key at an offset
+abbrev pub OfSubkey : List ℕ → Offset → Flaw → Type 0
+OfSubkey h k = OfRecord h a-key k (Lists Header (binsData h) k)
+
+abbrev pub OfNth : List ℕ → Offset → Flaw → Type 0
+OfNth h k = OfRecord h a-key k (Values Header (binsData h) k)
+
+-- info_at of the value at an offset
+abbrev pub OfInfo : List ℕ → Offset → Flaw → Type 0
+OfInfo h v = OfRecord h a-value v (Data Header (binsData h) (dataIn (binsData h) (minorOf (sector h)) v))
