@@ -27,6 +27,12 @@ fn upper(c: u16) -> u16 {
     if (97..=122).contains(&c) { c - 32 } else { c }
 }
 
+// Whether two codes have one capital: most that are compared are equal, and need none.
+#[inline]
+fn same_letter(x: u16, y: u16) -> bool {
+    x == y || upper(x) == upper(y)
+}
+
 pub struct Plain;
 impl Style for Plain {
     fn u16_at(s: &[u8], i: usize) -> u16 {
@@ -51,9 +57,9 @@ impl Style for Plain {
         let (n, m) = (count(a, aw), count(b, bw));
         let mut i = 0;
         while i < n && i < m {
-            let (x, y) = (upper(Self::unit(a, aw, i)), upper(Self::unit(b, bw, i)));
-            if x != y {
-                return if x < y { Ordering::Less } else { Ordering::Greater };
+            let (x, y) = (Self::unit(a, aw, i), Self::unit(b, bw, i));
+            if !same_letter(x, y) {
+                return if upper(x) < upper(y) { Ordering::Less } else { Ordering::Greater };
             }
             i += 1;
         }
@@ -74,7 +80,7 @@ impl Style for Plain {
         }
         let mut i = 0;
         while i < want.len() {
-            if upper(Self::unit(name, wide, i)) != upper(want[i]) {
+            if !same_letter(Self::unit(name, wide, i), want[i]) {
                 return false;
             }
             i += 1;
@@ -154,19 +160,19 @@ impl Style for Idiom {
     }
     fn compare(a: &[u8], aw: bool, b: &[u8], bw: bool) -> Ordering {
         match (aw, bw) {
-            (false, false) => narrow(a).cmp(narrow(b)),
-            (false, true) => narrow(a).cmp(wide(b)),
-            (true, false) => wide(a).cmp(narrow(b)),
-            (true, true) => wide(a).cmp(wide(b)),
+            (false, false) => order(narrow(a), narrow(b)),
+            (false, true) => order(narrow(a), wide(b)),
+            (true, false) => order(wide(a), narrow(b)),
+            (true, true) => order(wide(a), wide(b)),
         }
     }
     fn hash(name: &[u8], w: bool) -> u32 {
-        let mix = |h: u32, c: u16| h.wrapping_mul(37).wrapping_add(c as u32);
+        let mix = |h: u32, c: u16| h.wrapping_mul(37).wrapping_add(upper(c) as u32);
         if w { wide(name).fold(0, mix) } else { narrow(name).fold(0, mix) }
     }
     fn called(name: &[u8], w: bool, want: &[u16]) -> bool {
-        let want = want.iter().map(|&c| upper(c));
-        if w { wide(name).eq(want) } else { narrow(name).eq(want) }
+        let same = |(x, &y): (u16, &u16)| same_letter(x, y);
+        count(name, w) == want.len() && if w { wide(name).zip(want).all(same) } else { narrow(name).zip(want).all(same) }
     }
     fn has_backslash(name: &[u8], w: bool) -> bool {
         if w { name.chunks_exact(2).any(|c| c == [92, 0]) } else { name.contains(&92) }
@@ -197,12 +203,19 @@ impl Style for Idiom {
     }
 }
 
-fn narrow(s: &[u8]) -> impl Iterator<Item = u16> + '_ {
-    s.iter().map(|&c| upper(c as u16))
+fn narrow(s: &[u8]) -> impl ExactSizeIterator<Item = u16> + '_ {
+    s.iter().map(|&c| c as u16)
 }
 
-fn wide(s: &[u8]) -> impl Iterator<Item = u16> + '_ {
-    s.chunks_exact(2).map(|c| upper(u16::from_le_bytes([c[0], c[1]])))
+fn wide(s: &[u8]) -> impl ExactSizeIterator<Item = u16> + '_ {
+    s.chunks_exact(2).map(|c| u16::from_le_bytes([c[0], c[1]]))
+}
+
+// The first two codes with two capitals decide; else the shorter name is before.
+fn order(a: impl ExactSizeIterator<Item = u16>, b: impl ExactSizeIterator<Item = u16>) -> Ordering {
+    let lengths = a.len().cmp(&b.len());
+    let apart = a.zip(b).find(|&(x, y)| !same_letter(x, y));
+    apart.map_or(lengths, |(x, y)| upper(x).cmp(&upper(y)))
 }
 
 fn count(name: &[u8], wide: bool) -> usize {

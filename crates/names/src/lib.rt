@@ -1,6 +1,7 @@
 // Names: the codes of a stored name, upper case, order and hash. Names are read in place and never copied.
 ghost use mathlib.Core.Path.{_≡_};
 ghost use Prim.Native.Nat.{_*_, _%_, _<_};
+ghost use lib.Dec.{eqb};
 ghost use lib.ListN.{length, getD};
 ghost use Rattle.names.specs.Codes.{codes, charactersIn, hasCode, backslash};
 ghost use Rattle.names.specs.Upper_case.{upper};
@@ -45,6 +46,16 @@ pub fn upper(c: u16) -> u16
     c - 32
 }
 
+// Whether two codes have one capital. Most codes that are compared are equal, and need none.
+fn same_letter(x: u16, y: u16) -> bool
+    ensures { λ r. ⌜ r ≡ eqb (upper x) (upper y) ⌝ }
+{
+    if x == y {
+        return true;
+    }
+    upper(x) == upper(y)
+}
+
 fn capital_at(s: &[u8], narrow: bool, i: usize) -> u16
     requires { ⌜ i < length (codes narrow (now s)) ⌝ }
     ensures { λ r. ⌜ r ≡ upper (getD (codes narrow (now (s .entry))) i 0) ⌝ }
@@ -69,12 +80,12 @@ pub fn compare_stored(a: &[u8], a_narrow: bool, b: &[u8], b_narrow: bool) -> Ord
         if b_count <= i {
             return Order::After;
         }
-        let x = capital_at(a, a_narrow, i);
-        let y = capital_at(b, b_narrow, i);
-        if x < y {
-            return Order::Before;
-        }
-        if y < x {
+        let x = code_at(a, a_narrow, i);
+        let y = code_at(b, b_narrow, i);
+        if !same_letter(x, y) {
+            if upper(x) < upper(y) {
+                return Order::Before;
+            }
             return Order::After;
         }
         i += 1;
@@ -95,7 +106,7 @@ pub fn is_named(s: &[u8], narrow: bool, name: &[u16]) -> bool
     }
     let mut i = 0;
     while i < name.len() {
-        if capital_at(s, narrow, i) != upper(name[i]) {
+        if !same_letter(code_at(s, narrow, i), name[i]) {
             return false;
         }
         i += 1;

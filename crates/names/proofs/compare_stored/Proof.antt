@@ -1,8 +1,10 @@
 use borrow.Author.Needs.{needs}
 use native.Mathlib.Omega.{arith}
 use Prim.Native.Nat.{_-_}
-use mathlib.Core.Path.{_≡_, refl, sym, _∙_}
+use mathlib.Core.Path.{_≡_, refl, sym, ap, _∙_}
+use borrow.Author.Tests.{eqb-true, eqb-false, not-true, not-false}
 use Rattle.names.specs.Codes.{codes}
+use Rattle.names.specs.Upper_case.{upper}
 use Rattle.names.specs.Comparison.{compare}
 use Rattle.names.proofs.Turns.{left, turn-below, turn-above, turn-level, turn-shorter, turn-longer, turn-ended}
 use Rattle.names.proofs.compare_stored.Statement.{statement}
@@ -28,20 +30,36 @@ loop-holds c = refl
 returns : tie.Need-returns Inv-loop μ-loop
 returns c = let l = c .before .before .loop in sym (l .inv ∙ turn-longer _ _ (l .i) (omega arith) (omega arith))
 
-capital-at-requires : tie.Need-capital-at-requires Inv-loop μ-loop
-capital-at-requires c κs = omega arith
+code-at-requires : tie.Need-code-at-requires Inv-loop μ-loop
+code-at-requires c κs = omega arith
 
-capital-at-requires-2 : tie.Need-capital-at-requires-2 Inv-loop μ-loop
-capital-at-requires-2 c κs = omega arith
+code-at-requires-2 : tie.Need-code-at-requires-2 Inv-loop μ-loop
+code-at-requires-2 c κs = omega arith
+
+same-letter-requires : tie.Need-same-letter-requires Inv-loop μ-loop
+same-letter-requires c κs = search needs
+
+upper-requires : tie.Need-upper-requires Inv-loop μ-loop
+upper-requires c κs = search needs
+
+upper-requires-2 : tie.Need-upper-requires-2 Inv-loop μ-loop
+upper-requires-2 c κs = search needs
 
 returns-2 : tie.Need-returns-2 Inv-loop μ-loop
 returns-2 c =
-    let l = c .before .before .before .before .before .loop in
+    let l = c .before .before .before .before .before .before .before .before .before .loop in
+    let x = ap upper (c .before .before .before .before .before .before .code-at .ensures) in
+    let y = ap upper (c .before .before .before .before .before .code-at2 .ensures) in
     sym (l .inv ∙ turn-below _ _ (l .i) (omega arith) (omega arith) (omega arith))
 
 returns-3 : tie.Need-returns-3 Inv-loop μ-loop
 returns-3 c =
-    let l = c .before .before .before .before .before .before .loop in
+    let l = c .before .before .before .before .before .before .before .before .before .loop in
+    let x = ap upper (c .before .before .before .before .before .before .code-at .ensures) in
+    let y = ap upper (c .before .before .before .before .before .code-at2 .ensures) in
+    let n =
+    eqb-false (upper (c .before .before .before .before .before .before .code-at .result)) (upper (c .before .before .before .before .before .code-at2 .result))
+    (sym (c .before .before .before .before .same-letter .ensures) ∙ not-true (c .before .before .before .before .same-letter .result) (c .before .before .before .if2 .taken)) in
     sym (l .inv ∙ turn-above _ _ (l .i) (omega arith) (omega arith) (omega arith))
 
 add-i : tie.Need-add-i Inv-loop μ-loop
@@ -53,7 +71,9 @@ loop-less c = search needs
 loop-again : tie.Need-loop-again Inv-loop μ-loop
 loop-again c =
     let l = c .before .before .before .before .before .before .loop in
-    l .inv ∙ turn-level _ _ (l .i) (omega arith) (omega arith) (omega arith)
+    let e = eqb-true _ _ (sym (c .before .same-letter .ensures) ∙ not-false (c .before .same-letter .result) (c .if2 .left)) in
+    l .inv ∙ turn-level _ _ (l .i) (omega arith) (omega arith)
+    (sym (ap upper (c .before .before .before .code-at .ensures)) ∙ e ∙ ap upper (c .before .before .code-at2 .ensures))
 
 returns-4 : tie.Need-returns-4 Inv-loop μ-loop
 returns-4 c = let l = c .before .before .loop in sym (l .inv ∙ turn-shorter _ _ (l .i) (omega arith) (omega arith))
@@ -71,8 +91,11 @@ compare-stored-spec =
     count-requires-2
     loop-holds
     returns
-    capital-at-requires
-    capital-at-requires-2
+    code-at-requires
+    code-at-requires-2
+    same-letter-requires
+    upper-requires
+    upper-requires-2
     returns-2
     returns-3
     add-i

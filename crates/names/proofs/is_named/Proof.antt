@@ -3,7 +3,10 @@ use native.Mathlib.Omega.{arith}
 use Prim.Native.Nat.{_-_}
 use mathlib.Core.Path.{_≡_, refl, sym, ap, _∙_}
 use lib.ListN.{length}
+use borrow.Author.Tests.{eq-eqb, eqb-true, not-true, not-false}
+use Rattle.fields.proofs.Bools.{never}
 use Rattle.names.specs.Codes.{codes}
+use Rattle.names.specs.Upper_case.{upper}
 use Rattle.names.specs.Comparison.{isSame, sameName}
 use Rattle.names.proofs.LawsOrder.{unequal-length}
 use Rattle.names.proofs.Turns.{left, turn-apart, turn-level, turn-ended}
@@ -27,23 +30,24 @@ loop-holds : tie.Need-loop-holds Inv-loop μ-loop
 unfolding sameName
 loop-holds c = refl
 
-capital-at-requires : tie.Need-capital-at-requires Inv-loop μ-loop
-capital-at-requires c κs = omega arith
+code-at-requires : tie.Need-code-at-requires Inv-loop μ-loop
+code-at-requires c κs = omega arith
 
-mul-upper : tie.Need-mul-upper Inv-loop μ-loop
-mul-upper c = search needs
+mul-same-letter : tie.Need-mul-same-letter Inv-loop μ-loop
+mul-same-letter c = search needs
 
-shared-slice-read-upper : tie.Need-shared-slice-read-upper Inv-loop μ-loop
-shared-slice-read-upper c = search needs
+shared-slice-read-same-letter : tie.Need-shared-slice-read-same-letter Inv-loop μ-loop
+shared-slice-read-same-letter c = search needs
 
-upper-requires : tie.Need-upper-requires Inv-loop μ-loop
-upper-requires c κs = search needs
+same-letter-requires : tie.Need-same-letter-requires Inv-loop μ-loop
+same-letter-requires c κs = search needs
 
 returns-2 : tie.Need-returns-2 Inv-loop μ-loop
 returns-2 c =
     let l = c .before .before .before .before .before .loop in
     sym (l .inv ∙ turn-apart _ _ (l .i) (omega arith) (omega arith)
-    (λ e. c .if2 .taken (c .before .before .before .capital-at .ensures ∙ e ∙ sym (c .before .upper .ensures))))
+    (λ e. never (c .before .same-letter .result) (c .before .same-letter .ensures ∙ eq-eqb _ _ (ap upper (c .before .before .before .code-at .ensures) ∙ e))
+    (not-true (c .before .same-letter .result) (c .if2 .taken))))
 
 add-i : tie.Need-add-i Inv-loop μ-loop
 add-i c = search needs
@@ -55,7 +59,7 @@ loop-again : tie.Need-loop-again Inv-loop μ-loop
 loop-again c =
     let l = c .before .before .before .before .before .loop in
     l .inv ∙ ap isSame (turn-level _ _ (l .i) (omega arith) (omega arith)
-    (sym (c .before .before .before .capital-at .ensures) ∙ c .if2 .left ∙ c .before .upper .ensures))
+    (sym (ap upper (c .before .before .before .code-at .ensures)) ∙ eqb-true _ _ (sym (c .before .same-letter .ensures) ∙ not-false (c .before .same-letter .result) (c .if2 .left))))
 
 returns-3 : tie.Need-returns-3 Inv-loop μ-loop
 returns-3 c = let l = c .before .loop in sym (l .inv ∙ ap isSame (turn-ended _ _ (l .i) (omega arith) (omega arith)))
@@ -69,10 +73,10 @@ is-named-spec =
     count-requires
     returns
     loop-holds
-    capital-at-requires
-    mul-upper
-    shared-slice-read-upper
-    upper-requires
+    code-at-requires
+    mul-same-letter
+    shared-slice-read-same-letter
+    same-letter-requires
     returns-2
     add-i
     loop-less
