@@ -23,8 +23,15 @@ pub trait Style {
 }
 
 #[inline]
-fn upper(c: u16) -> u16 {
-    if (97..=122).contains(&c) { c - 32 } else { c }
+pub fn upper(c: u16) -> u16 {
+    if c < 97 {
+        return c;
+    }
+    match c {
+        97..=122 | 0xE0..=0xF6 | 0xF8..=0xFE => c - 32,
+        0xFF => 0x178,
+        _ => c,
+    }
 }
 
 // Whether two codes have one capital: most that are compared are equal, and need none.

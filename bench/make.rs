@@ -1,5 +1,5 @@
 // Hives and logs for the measurements.
-use crate::check::stored;
+use crate::check::{stored, upper};
 
 pub struct Maker {
     pub file: Vec<u8>,
@@ -135,7 +135,7 @@ impl Maker {
         d[0..2].copy_from_slice(b"lh");
         put16(d, 2, keys.len() as u16);
         for (i, (k, name)) in keys.iter().enumerate() {
-            let h = name.to_uppercase().bytes().fold(0u32, |h, c| h.wrapping_mul(37).wrapping_add(c as u32));
+            let h = name.bytes().fold(0u32, |h, c| h.wrapping_mul(37).wrapping_add(upper(c as u16) as u32));
             put32(d, 4 + 8 * i, *k);
             put32(d, 8 + 8 * i, h);
         }

@@ -260,15 +260,49 @@ def cells_in_use(h):
 
 
 def names():
-    """Order: a prefix first, a to z as A to Z, and strictly."""
+    """Order: a prefix first, small letters as their capitals, and strictly."""
     for first, second, good in (("a", "ab", True), ("ab", "a", False), ("A", "b", True), ("b", "A", False), ("a", "A", False), ("Z", "_", True), ("z", "_", True),
-                                ("_", "z", False), ("z", "{", True), ("a", "\u0416", True), ("\u00e9", "\u00c9", False), ("\u00c9", "\u00e9", True)):
-        root = Key("R", [Key(first), Key(second)])
+                                ("_", "z", False), ("z", "{", True), ("a", "\u0416", True), ("\xe9", "\xc9", False), ("\xc9", "\xe9", False), ("\xc5", "\xe4", False), ("\xe4", "\xc5", True), ("\xd7", "\xf7", True),
+                                ("\u0177", "\xff", True), ("\xff", "\u0177", False), ("\xff", "\u0178", False), ("\xff", "\u0179", True), ("\xe0", "\xdf", True), ("\xb5", "\xe0", True)):
+        for lists, used in (("lh", 288), ([("li", 1), ("lh", 1)], 312)):
+            root = Key("R", [Key(first), Key(second)], lists=lists)
+            h = Builder(root).hive
+            if good:
+                hive(h, "accepted bins 1 keys 3 values 0 used %d free %d" % (used, 4064 - used))
+            else:
+                refused(13, h, root.subkeys[1].at)
+    letters()
+
+
+def letters():
+    """Capitals past z: lookup in either case, hashes of capitals, and names as a hive of Western Europe has them."""
+    capitals = {0xDF: 0xDF, 0xE0: 0xC0, 0xF6: 0xD6, 0xF7: 0xF7, 0xF8: 0xD8, 0xFE: 0xDE, 0xFF: 0x178, 0xB5: 0xB5, 0x178: 0x178, 0x177: 0x177}
+    for wide in (False, True):
+        codes = [c for c in capitals if wide or c < 256]
+        root = Key("R", [Key(chr(65 + i), [Key([c], wide=wide)]) for i, c in enumerate(codes)])
         h = Builder(root).hive
-        if good:
-            hive(h, "accepted bins 1 keys 3 values 0 used 288 free 3776")
-        else:
-            refused(13, h, root.subkeys[1].at)
+        used = -sum(cells_in_use(h))
+        hive(h, "accepted bins 1 keys %d values 0 used %d free %d" % (1 + sum(1 + len(k.subkeys) for k in root.subkeys), used, 4064 - used))
+        for parent, c in zip(root.subkeys, codes):
+            for asked in (c, capitals[c], c ^ 32):
+                found = asked in (c, capitals[c])
+                path(parent.name + [0x5C, asked], "key at %d" % parent.subkeys[0].at if found else "refused 17 at 0")
+    for code, right, wrong in ((0xE9, 201, 233), (0xFF, 376, 255)):
+        root = Key("R", [Key([code])])
+        h = Builder(root).hive
+        leaf = u32(h, place(root.at, 28))
+        hive(edited(h, (place(leaf, 8), word(right))), "accepted bins 1 keys 2 values 0 used 192 free 3872")
+        refused(13, edited(h, (place(leaf, 8), word(wrong))), root.subkeys[0].at)
+    names = "Abel caf\xe9 D\xe9p\xf4t fa\xe7ade Gr\xfcn na\xefve Zo\xeb \xc4rger \xc5ngstr\xf6m \xc9diteur \xfcber \xff".split()
+    swapped = "aBEL CAF\xc9 d\xc9P\xd4T FA\xc7ADE gR\xdcN NA\xcfVE zO\xcb \xe4RGER \xe5NGSTR\xd6M \xe9DITEUR \xdcBER \u0178".split()
+    for kind in ("li", "lf", "lh"):
+        root = Key("R", [Key(n) for n in names], lists=kind)
+        h = Builder(root).hive
+        used = -sum(cells_in_use(h))
+        hive(h, "accepted bins 1 keys %d values 0 used %d free %d" % (1 + sum(1 + len(k.subkeys) for k in root.subkeys), used, 4064 - used))
+        for k, name, other in zip(root.subkeys, names, swapped):
+            path(name, "key at %d" % k.at)
+            path(other, "key at %d" % k.at)
 
 
 def across():
@@ -378,10 +412,10 @@ def paths():
     alpha, beta, gamma, z, one, two = [k.at for k in root.subkeys]
     path("", "key at %d" % root.at)
     for p, at in (("Alpha", alpha), ("ALPHA", alpha), ("alpha", alpha), ("aLPHa", alpha), ("BETA", beta), ("gamma", gamma), ("Z\u0436", z), ("z\u0436", z), ("\u0416ONE", one),
-                  ("\u0416two", two), ("beta\\C", deep.at), ("Beta\\c\\d", deep.subkeys[0].at), ("beta\\C\\D\\E\u0416\u00e9", deep.subkeys[0].subkeys[0].at),
+                  ("\u0416two", two), ("beta\\C", deep.at), ("Beta\\c\\d", deep.subkeys[0].at), ("beta\\C\\D\\E\u0416\u00e9", deep.subkeys[0].subkeys[0].at), ("beta\\c\\d\\e\u0416\u00c9", deep.subkeys[0].subkeys[0].at),
                   ("beta\\D", root.subkeys[1].subkeys[1].at)):
         path(p, "key at %d" % at)
-    for p in ("Alph", "Alphaa", "z\u0416", "\u0436one", "beta\\x", "alpha\\x", "beta\\c\\d\\e\u0416\u00c9", "R", "\0", "x" * 255, "\\".join("x" * 512)):
+    for p in ("Alph", "Alphaa", "z\u0416", "\u0436one", "beta\\x", "alpha\\x", "beta\\c\\d\\e\u0436\u00c9", "R", "\0", "x" * 255, "\\".join("x" * 512)):
         path(p, "refused 17 at 0")
     for p in ("\\", "\\beta", "beta\\", "beta\\\\c", "x" * 256, "beta\\" + "y" * 256, "\\".join("x" * 513), "x" * 5000):
         path(p, "refused 16 at 0")

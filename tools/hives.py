@@ -42,7 +42,10 @@ def seal(block):
 
 
 def upper(code):
-    return code - 32 if 97 <= code <= 122 else code
+    """a to z, and by request 5 0xE0 to 0xFE except 0xF7, each 32 down; 0xFF to 0x0178."""
+    if 97 <= code <= 122 or 0xE0 <= code <= 0xFE and code != 0xF7:
+        return code - 32
+    return 0x178 if code == 0xFF else code
 
 
 def name_hash(codes):

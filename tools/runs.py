@@ -294,6 +294,28 @@ def values():
     missing(b, root, empty, sub, vs)
 
 
+def letters():
+    """Values whose names have letters past z, in either case."""
+    vs = [Value("\xe9t\xe9", b"narrow", 1), Value("\xc0\u0416\xff", b"wide name", 2), Value("\xf7", b"divided", 3)]
+    root = Key("R", values=vs)
+    b = Builder(root)
+    store("letters", b.hive)
+    used = -sum(n for n in sizes(b.hive) if n < 0)
+    check("accepted bins 1 keys 1 values 3 used %d free %d" % (used, 4064 - used))
+    say("letters past z")
+    for v, asked in ((vs[0], "\xe9t\xe9"), (vs[0], "\xc9T\xc9"), (vs[0], "\xe9T\xc9"), (vs[1], "\xe0\u0416\u0178"), (vs[1], "\xc0\u0416\xff"), (vs[2], "\xf7")):
+        at("", asked)
+        stated = "cell type %d place %d length %d" % (v.kind, BASE + 4 + u32(b.hive, BASE + 4 + v.at + 8), len(v.data))
+        info(stated)
+        view(stated)
+        copy("copied %d" % len(v.data), len(v.data))
+    say("and names that are others")
+    for asked in ("\xe8t\xe9", "\xe0\u0436\xff", "\xe0\u0416\xdf", "\xd7"):
+        at("", asked)
+        info("refused 18 at 0")
+        copy("refused 18 at 0", 9)
+
+
 def missing(b, root, empty, sub, vs):
     """Keys and values that are not there, and faults on the way."""
     listed = u32(b.hive, BASE + 4 + sub.at + 40)
@@ -357,6 +379,7 @@ def main():
     both_sizes()
     segments()
     values()
+    letters()
     long_names()
     with open("crates/hive_runs/stdin", "wb") as f:
         f.write(orders)

@@ -85,11 +85,18 @@ uint32_t new_key(Made *m, const char *name, uint32_t parent)
     return key;
 }
 
+static uint32_t upper(uint8_t c)
+{
+    if ((c >= 'a' && c <= 'z') || (c >= 0xe0 && c <= 0xfe && c != 0xf7))
+        return c - 32u;
+    return c == 0xff ? 0x178 : c;
+}
+
 static uint32_t hash(const uint8_t *name, size_t n)
 {
     uint32_t h = 0;
     for (size_t i = 0; i < n; i++)
-        h = h * 37 + (name[i] >= 'a' && name[i] <= 'z' ? name[i] - 32u : name[i]);
+        h = h * 37 + upper(name[i]);
     return h;
 }
 

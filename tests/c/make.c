@@ -137,6 +137,17 @@ static void write_logs(const Made *good, const uint32_t *pages, size_t count)
     good->file[4096] = 'h';
 }
 
+/* Letters past z, sorted as capitals: the hash of the last is over 255. */
+static void write_letters(void)
+{
+    Made m = made(4096, 5);
+    m.root = new_key(&m, "R", 0);
+    uint32_t keys[] = {new_key(&m, "\xe4", m.root), new_key(&m, "\xc5", m.root), new_key(&m, "\xc9" "diteur", m.root), new_key(&m, "\xff", m.root)};
+    hang_keys(&m, m.root, new_leaf(&m, "lh", keys, 4), 4);
+    finish(&m);
+    write_file("letters", m.file, made_length(&m));
+}
+
 int main(int count, char **words)
 {
     static const uint32_t pages[] = {0, 3, 4, 17, 30, 31, 64, 127};
@@ -159,6 +170,7 @@ int main(int count, char **words)
     write_notation();
     write_texts();
     write_sources();
+    write_letters();
     good.file[4096 + good.root + 4] = 'x';
     write_file("no-root", good.file, n);
     return 0;

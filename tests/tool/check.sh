@@ -1,6 +1,7 @@
 # The check, what it reads, usage, explanations, and the example.
 
 try 'check: the minimal hive' 0 'accepted bins 1 keys 1 values 0 used 88 free 3976' '' hive check minimal
+try 'check: letters past z' 0 'accepted bins 1 keys 5 values 0 used 480 free 3584' '' hive check letters
 try 'check: cut short' 1 'refused 6 at 0' 'cut: the file ends before its bins do' hive check cut
 try 'check: a record' 1 'refused 12 at 32' 'at offset 32 (0x20), which is byte 4128 (0x1020) of the file' hive check no-root
 try 'check: not finished' 1 'refused 7 at 0' 'give its log with --log, or repair it' hive check spoilt
@@ -33,7 +34,8 @@ try 'json: many' 2 "$(printf '%s\n' '{"file":"nothing","answer":"trouble","words
 try 'json: a name that is no UTF-8' 0 '{"file":"odd\u001b[2J'"$replaced"'","answer":"accepted","bins":1,"keys":1,"values":0,"used":88,"free":3976,"replaced":true}' '' hive check --json odd*
 rm odd*
 
-try 'explain' 0 "17: there is no such key. Letters a to z are the same in either case; all others must be given as they are." '' hive explain 17
+try 'explain' 0 "17: there is no such key. Letters a to z, and the accented letters of Western Europe, are the same in either case; others must be given as they are." '' hive explain 17
+try 'explain: the order' 0 "13: a key stands out of order, or its hash is wrong. Subkeys stand in the order of their names with a to z, and the accented letters of Western Europe, as capitals, none twice; an lh list holds each name's hash. Windows may not find this key." '' hive explain 13
 try 'explain: the checksum' 0 "3: the checksum of the base block is wrong. The word at byte 508 is not the XOR of the 127 words before it, with 0 stored as 1 and 0xFFFFFFFF as 0xFFFFFFFE: the first sector was changed or half written. A log may repair it." '' hive explain 3
 try 'explain: no number' 2 '' 'from 1 to 27' hive explain 28
 try 'usage: nothing' 2 '' 'a verb is wanted: check, key, ls, value, repair or explain; see: hive --help' hive

@@ -11,6 +11,8 @@ try 'key: one in front' 0 "$at" '' hive key sample "\\$print"
 try 'key: two in front' 0 "$at" '' hive key sample "\\\\$print"
 try 'key: three in front' 1 'refused 16 at 0' 'the path is not possible' hive key sample "\\\\\\$print"
 try 'key: one at the end' 1 'refused 16 at 0' 'leave out the backslash at the end' hive key sample 'a\'
+try 'key: letters past z' 0 'key at 296' '' hive key letters "$(printf '\303\251DITEUR')"
+try 'key: a capital past the byte' 0 'key at 384' '' hive key letters "$(printf '\305\270')"
 try 'key: none' 1 'refused 17 at 0' 'there is no such key: a has no subkey k9 (see' hive key sample 'a\k9'
 try 'key: none at the root' 1 'refused 17 at 0' 'the root has no subkey c' hive key sample 'c\k9\x'
 try 'key: none further down' 1 'refused 17 at 0' 'ControlSet001\Services has no subkey Event' hive key sample 'ControlSet001\Services\Event\Application'

@@ -1,7 +1,7 @@
 -- "The P figures form a single table under a single proved claim."
 use Prim.Native.Nat.{ℕ}
 use mathlib.Core.Path.{_≡_}
-use mathlib.Core.Bool.{true}
+use mathlib.Core.Bool.{true, false}
 use mathlib.Core.List.{List, [], _∷_, List·Memᴰ}
 use lib.ListN.{length, replicate}
 use Rattle.fields.specs.Faults.{numberOf}
@@ -9,7 +9,10 @@ use Rattle.base.specs.Block.{storedChecksum}
 use Rattle.cells.specs.declared.Surveyed.{Surveyed}
 use Rattle.cells.specs.declared.Surveyed.the-variants.{Tiled, Refused as Untiled}
 use Rattle.cells.specs.Survey.{surveyAnswer, mapLeft}
+use Rattle.names.specs.declared.Order.{Order}
+use Rattle.names.specs.declared.Order.the-variants.{Before, Same, After}
 use Rattle.names.specs.Codes.{codes}
+use Rattle.names.specs.Comparison.{compare}
 use Rattle.names.specs.Hashing.{hashOf}
 use Rattle.tree.specs.declared.Checked.{Checked}
 use Rattle.tree.specs.declared.Checked.the-variants as checked
@@ -41,6 +44,11 @@ unfoldable pub nextNumbers : NextPage → List ℕ
 nextNumbers (At page from to) = page ∷ from .0 ∷ to .0 ∷ []
 nextNumbers NoMore = []
 nextNumbers (Unread r) = numberOf (r .fault) ∷ r .place .0 ∷ []
+
+unfoldable pub orderNumber : Order → ℕ
+orderNumber Before = 0
+orderNumber Same = 1
+orderNumber After = 2
 
 -- a figure: what is computed, and what the paper says
 pub record Figure : Type 0 where
@@ -79,6 +87,14 @@ table =
     ∷ is (storedChecksum (lone 0xff 0xff 0xff 0xff) ∷ []) (0xfffffffe ∷ [])
     ∷ is (storedChecksum (lone 1 0 0 0) ∷ []) (1 ∷ [])
     ∷ is (storedChecksum (lone 0xfe 0xff 0xff 0xff) ∷ []) (0xfffffffe ∷ [])
+    -- Of its amendment by request 5: hashes of 0xE9, 0xFF, 0xF7, and "a" with 0xFF; 0xE4 is before 0xC5, 0xFF is 0x0178, and 0xD7 is before 0xF7.
+    ∷ is (hashOf (codes true (0xe9 ∷ [])) ∷ []) (201 ∷ [])
+    ∷ is (hashOf (codes true (0xff ∷ [])) ∷ []) (376 ∷ [])
+    ∷ is (hashOf (codes true (0xf7 ∷ [])) ∷ []) (247 ∷ [])
+    ∷ is (hashOf (codes true (97 ∷ 0xff ∷ [])) ∷ []) (2781 ∷ [])
+    ∷ is (orderNumber (compare (codes true (0xe4 ∷ [])) (codes true (0xc5 ∷ []))) ∷ []) (orderNumber Before ∷ [])
+    ∷ is (orderNumber (compare (codes true (0xff ∷ [])) (codes false (0x78 ∷ 1 ∷ []))) ∷ []) (orderNumber Same ∷ [])
+    ∷ is (orderNumber (compare (codes true (0xd7 ∷ [])) (codes true (0xf7 ∷ []))) ∷ []) (orderNumber Before ∷ [])
     ∷ []
 
 -- the claim: every figure of the table is as stated

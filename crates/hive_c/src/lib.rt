@@ -226,8 +226,9 @@ fn key_answer(k: KeyFound) -> HiveAnswer
 }
 
 // Finds a key by its path and answers its offset in `value`. The path is UTF-16 units split at backslash, with none at its
-// ends; of no units it names the root. Names are compared by code after upper-casing a to z only. A hive that the check
-// refuses can be asked too. Refuses 1 to 7, 16, 11 and 12 of the records on the way, 17.
+// ends; of no units it names the root. Names are compared by code after upper-casing a to z, 0xE0 to 0xFE except 0xF7 (each
+// 32 down) and 0xFF (to 0x0178). A hive that the check refuses can be asked too. Refuses 1 to 7, 16, 11 and 12 of the
+// records on the way, 17.
 #[no_mangle]
 pub extern "C" fn hive_find_key(hive: &[u8], path: &[u16]) -> HiveAnswer
     ensures { λ r. ⌜ r ≡ keyIn (findAnswer (now (hive .entry)) (now (path .entry))) ⌝ }

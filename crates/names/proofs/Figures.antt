@@ -38,6 +38,15 @@ upper-ends : (upper 96 ≡ 96) × (upper 97 ≡ 65) × (upper 122 ≡ 90) × (up
 unfolding upper
 upper-ends = (refl, refl, refl, refl)
 
+-- the accented letters, and neither neighbour; times and divided are two names, and micro and sharp s have no capital
+accented-ends : (upper 0xdf ≡ 0xdf) × (upper 0xe0 ≡ 0xc0) × (upper 0xfe ≡ 0xde) × (upper 0xff ≡ 0x178) × (upper 0x100 ≡ 0x100) × (upper 0x101 ≡ 0x101)
+unfolding upper
+accented-ends = (refl, refl, refl, refl, refl, refl)
+
+accented-gaps : (upper 0xb5 ≡ 0xb5) × (upper 0xd7 ≡ 0xd7) × (upper 0xf6 ≡ 0xd6) × (upper 0xf7 ≡ 0xf7) × (upper 0xf8 ≡ 0xd8) × (upper 0x178 ≡ 0x178)
+unfolding upper
+accented-gaps = (refl, refl, refl, refl, refl, refl)
+
 -- names that differ in case only are the same
 case-only : compare child child-capitals ≡ Same
 unfolding codes uppers upper compare byCode
@@ -57,10 +66,20 @@ mixed-after : compare (codes true (97 ∷ 98 ∷ [])) (codes false (97 ∷ 0 ∷
 unfolding codes uppers upper compare byCode
 mixed-after = refl
 
--- a code above 255 stands after every one-byte code, though its low byte is 0
-wide-after : compare (codes false (0 ∷ 1 ∷ [])) (codes true (255 ∷ [])) ≡ After
+-- a code above 255 stands after every one-byte code but 0xFF, though its low byte is 0
+wide-after : compare (codes false (0 ∷ 1 ∷ [])) (codes true (254 ∷ [])) ≡ After
 unfolding codes uppers upper compare byCode
 wide-after = refl
+
+-- 0xFF stands after 0x0177, and is one name with 0x0178
+y-after : compare (codes true (255 ∷ [])) (codes false (0x77 ∷ 1 ∷ [])) ≡ After
+unfolding codes uppers upper compare byCode
+y-after = refl
+
+-- a one-byte 0xE9 and a UTF-16 0x00E9 are the same letter, and both are 0xC9
+accented-same : (compare (codes true (0xe9 ∷ [])) (codes false (0xe9 ∷ 0 ∷ [])) ≡ Same) × (compare (codes true (0xe9 ∷ [])) (codes false (0xc9 ∷ 0 ∷ [])) ≡ Same)
+unfolding codes uppers upper compare byCode
+accented-same = (refl, refl)
 
 -- "a prefix before the longer name", either way round, and the empty name before all others
 prefix-before : compare child-16 children ≡ Before

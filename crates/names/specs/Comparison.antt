@@ -16,7 +16,8 @@ byCode (x ∷ xs) (y ∷ ys) =
     let rest = byCode xs ys in
     cond (ltb x y) Before (cond (ltb y x) After rest)
 
--- "Names, also of values, are compared by code after upper-casing a to z only, a prefix before the longer name"
+-- "Names, also of values, are compared by code after upper-casing a to z, 0xE0 to 0xFE except 0xF7 (each 32 down) and 0xFF (to 0x0178), a prefix
+-- before the longer name"
 unfoldable pub compare : List ℕ → List ℕ → Order
 compare xs ys = byCode (uppers xs) (uppers ys)
 

@@ -33,17 +33,29 @@ fn code_at(s: &[u8], narrow: bool, i: usize) -> u16
     }
 }
 
-// "upper-casing a to z only"
+// "upper-casing a to z, 0xE0 to 0xFE except 0xF7 (each 32 down) and 0xFF (to 0x0178)". Capitals and digits need one test, small letters two.
 pub fn upper(c: u16) -> u16
     ensures { λ r. ⌜ r ≡ upper c ⌝ }
 {
     if c < 97 {
         return c;
     }
-    if 122 < c {
+    if c < 123 {
+        return c - 32;
+    }
+    if c < 224 {
         return c;
     }
-    c - 32
+    if c == 247 {
+        return c;
+    }
+    if c < 255 {
+        return c - 32;
+    }
+    if c == 255 {
+        return 376;
+    }
+    c
 }
 
 // Whether two codes have one capital. Most codes that are compared are equal, and need none.
@@ -69,7 +81,8 @@ pub enum Order {
     After,
 }
 
-// "Names, also of values, are compared by code after upper-casing a to z only, a prefix before the longer name"
+// "Names, also of values, are compared by code after upper-casing a to z, 0xE0 to 0xFE except 0xF7 (each 32 down) and 0xFF (to 0x0178), a prefix before
+// the longer name"
 pub fn compare_stored(a: &[u8], a_narrow: bool, b: &[u8], b_narrow: bool) -> Order
     ensures { λ r. ⌜ r ≡ compare (codes «a_narrow» (now (a .entry))) (codes «b_narrow» (now (b .entry))) ⌝ }
 {

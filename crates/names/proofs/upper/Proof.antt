@@ -1,24 +1,36 @@
 use borrow.Author.Needs.{needs}
 use native.Mathlib.Omega.{arith}
-use borrow.Author.Tests.{le-leb, lt-leb}
-use Rattle.names.specs.Upper_case.{upper}
+use mathlib.Core.Path.{sym}
+use Rattle.names.proofs.LawsUpper.{stays-low, a-to-z, stays-between, accented, divided, y-with-dots, stays-high}
 use Rattle.names.proofs.upper.Statement.{statement}
 use Rattle.names.proofs.upper.Tie as tie
 
 returns : tie.Need-returns
-unfolding upper
-returns c = rw (lt-leb 97 (c .before .args .c) (omega arith))
-
-returns-2 : tie.Need-returns-2
-unfolding upper
-returns-2 c = let x = c .before .before .args .c in rw (le-leb 97 x (omega arith), lt-leb x 122 (omega arith))
+returns c = sym (stays-low (c .before .args .c) (omega arith))
 
 sub-result : tie.Need-sub-result
 sub-result c = search needs
 
+returns-2 : tie.Need-returns-2
+returns-2 c = sym (a-to-z (c .before .before .args .c) (omega arith) (omega arith))
+
 returns-3 : tie.Need-returns-3
-unfolding upper
-returns-3 c = let x = c .before .before .args .c in rw (le-leb 97 x (omega arith), le-leb x 122 (omega arith))
+returns-3 c = sym (stays-between (c .before .before .before .args .c) (omega arith) (omega arith))
+
+returns-4 : tie.Need-returns-4
+returns-4 c = sym (divided (c .before .before .before .before .args .c) (c .if4 .taken))
+
+sub-result-2 : tie.Need-sub-result-2
+sub-result-2 c = search needs
+
+returns-5 : tie.Need-returns-5
+returns-5 c = sym (accented (c .before .before .before .before .before .args .c) (omega arith) (omega arith) (c .before .if4 .left))
+
+returns-6 : tie.Need-returns-6
+returns-6 c = sym (y-with-dots (c .before .before .before .before .before .before .args .c) (c .if6 .taken))
+
+returns-7 : tie.Need-returns-7
+returns-7 c = let n = c .if6 .left in sym (stays-high (c .before .before .before .before .before .before .args .c) (omega arith))
 
 pub upper-spec : {M : Type 1} → statement M
-upper-spec = tie.close (tie.spec returns returns-2 sub-result returns-3)
+upper-spec = tie.close (tie.spec returns sub-result returns-2 returns-3 returns-4 sub-result-2 returns-5 returns-6 returns-7)
