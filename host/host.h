@@ -36,7 +36,8 @@ typedef struct {
     char **words;
     int count;
     const char *log, *backup;
-    bool json, dry, anyway;
+    size_t nth; /* 0: none was given */
+    bool json, wide, dry, anyway;
 } Order;
 
 /* A hive in memory, and the log that was given with it; log is NULL where none was. */
@@ -90,6 +91,10 @@ int name_units(const char *text, Units *out);
 void print_data(const char *file, uint32_t kind, Bytes data);
 void say_data(uint32_t kind, Bytes data);
 const char *kind_name(uint32_t kind, char *room);
+
+/* stamp.c */
+enum { STAMP_ROOM = 40 };
+const char *stamp_text(uint64_t stamp, char *room);
 
 /* explain.c. path is what was asked for, or NULL. */
 int refusal(const Hive *h, HiveAnswer a, const Path *path);

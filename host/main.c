@@ -34,6 +34,24 @@ int check_verb(const Order *o)
     return worst;
 }
 
+static int show_key(const Order *o, const Hive *h, uint32_t key)
+{
+    char room[STAMP_ROOM];
+    HiveKey k = hive_key_at(h->bytes.at, h->bytes.length, key);
+    if (k.answer.number != 0)
+        return refusal(h, k.answer, NULL);
+    say(h->file, "key");
+    say_number("at", key);
+    if (o->wide) {
+        say_number("subkeys", k.subkeys);
+        say_number("values", k.values);
+        fputs(say_json() ? "" : " written", stdout);
+        say_word("written", stamp_text(k.written, room));
+    }
+    say_end();
+    return GOOD;
+}
+
 int key_verb(const Order *o)
 {
     Hive h;
@@ -46,10 +64,7 @@ int key_verb(const Order *o)
     HiveAnswer a = hive_find_key(h.bytes.at, h.bytes.length, path.units.at, path.units.length);
     if (a.number != 0)
         return refusal(&h, a, &path);
-    say(h.file, "key");
-    say_number("at", a.value);
-    say_end();
-    return GOOD;
+    return show_key(o, &h, a.value);
 }
 
 static bool wants_help(const char *word)

@@ -1,9 +1,11 @@
 /* The command line. */
+#include <errno.h>
+#include <stdlib.h>
 #include <string.h>
 
 #include "host.h"
 
-enum { LOG = 1, JSON = 2, DRY_RUN = 4, BACKUP = 8, ANYWAY = 16, NO_END = 1 << 30 };
+enum { LOG = 1, JSON = 2, WIDE = 4, NTH = 8, DRY_RUN = 16, BACKUP = 32, ANYWAY = 64, NO_END = 1 << 30 };
 
 static const struct {
     const char *name, *wants;
@@ -12,9 +14,9 @@ static const struct {
     Verb *go;
 } VERBS[] = {
     {"check", "FILE..", 1, NO_END, LOG | JSON, check_verb},
-    {"key", "FILE PATH", 2, 2, LOG | JSON, key_verb},
-    {"ls", "FILE [PATH]", 1, 2, LOG | JSON, list_verb},
-    {"value", "FILE PATH NAME [OUT]", 3, 4, LOG | JSON, value_verb},
+    {"key", "FILE PATH", 2, 2, LOG | JSON | WIDE, key_verb},
+    {"ls", "FILE [PATH]", 1, 2, LOG | JSON | WIDE, list_verb},
+    {"value", "FILE PATH NAME [OUT]", 3, 4, LOG | JSON | NTH, value_verb},
     {"repair", "FILE LOG", 2, 2, JSON | DRY_RUN | BACKUP | ANYWAY, repair_verb},
     {"explain", "N", 1, 1, 0, explain_verb},
 };
@@ -25,19 +27,33 @@ static const struct {
     const char *name, *follows;
     unsigned bit;
 } OPTIONS[] = {
-    {"--log", "a LOG", LOG}, {"--json", NULL, JSON}, {"--dry-run", NULL, DRY_RUN}, {"--backup", "a COPY", BACKUP}, {"--anyway", NULL, ANYWAY},
+    {"--log", "a LOG", LOG}, {"--json", NULL, JSON}, {"-l", NULL, WIDE}, {"--nth", "a number", NTH},
+    {"--dry-run", NULL, DRY_RUN}, {"--backup", "a COPY", BACKUP}, {"--anyway", NULL, ANYWAY},
 };
 enum { OPTION_COUNT = sizeof OPTIONS / sizeof OPTIONS[0] };
 
-static void take(Order *o, unsigned bit, const char *word)
+static int take_number(const char *text, size_t *out)
+{
+    char *end;
+    errno = 0;
+    long n = strtol(text, &end, 10);
+    if (*text == 0 || *end != 0 || n < 1 || errno != 0)
+        return misused("--nth wants a number from 1 on, not \"%s\"", text);
+    *out = (size_t)n;
+    return GOOD;
+}
+
+static int take(Order *o, unsigned bit, const char *word)
 {
     o->json |= bit == JSON;
+    o->wide |= bit == WIDE;
     o->dry |= bit == DRY_RUN;
     o->anyway |= bit == ANYWAY;
     if (bit == LOG)
         o->log = word;
     if (bit == BACKUP)
         o->backup = word;
+    return bit == NTH ? take_number(word, &o->nth) : GOOD;
 }
 
 /* The option words[*i], of a verb that takes those in `options`. */
@@ -51,8 +67,7 @@ static int read_option(const char *verb, unsigned options, int count, char **wor
             return misused("%s takes no %s", verb, word);
         if (OPTIONS[k].follows != NULL && ++*i == count)
             return misused("%s wants %s behind it", word, OPTIONS[k].follows);
-        take(o, OPTIONS[k].bit, words[*i]);
-        return GOOD;
+        return take(o, OPTIONS[k].bit, words[*i]);
     }
     return misused("%s: %s is no option (-- ends the options)", verb, word);
 }

@@ -56,7 +56,6 @@ static void put_json_text(FILE *to, const char *text)
 
 void say(const char *file, const char *answer)
 {
-    work_ends();
     if (shape.json) {
         shape.replaced = false;
         fputs("{\"file\":", stdout);

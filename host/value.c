@@ -25,6 +25,79 @@ static int show(const Order *o, uint32_t kind, Bytes data)
     return GOOD;
 }
 
+/* The first value of that name. */
+static int first(const Order *o, const Hive *h, const Path *path, Units name)
+{
+    Bytes b = h->bytes;
+    Units p = path->units;
+    HiveValue v = hive_value_info(b.at, b.length, p.at, p.length, name.at, name.length);
+    if (v.answer.number != 0)
+        return refusal(h, v.answer, path);
+    Bytes data = {malloc(v.length + 1), v.length};
+    if (data.at == NULL)
+        return trouble(h->file, "no memory");
+    HiveCopy c = hive_value_copy(b.at, b.length, p.at, p.length, name.at, name.length, data.at, data.length);
+    return c.answer.number != 0 ? refusal(h, c.answer, path) : show(o, v.kind, data);
+}
+
+/* The library's capitals: a to z and 0xE0 to 0xFE except 0xF7 go 32 down, 0xFF to 0x0178. */
+static uint32_t capital(uint32_t c)
+{
+    if (c == 0xff)
+        return 0x178;
+    return (c >= 'a' && c <= 'z') || (c >= 0xe0 && c <= 0xfe && c != 0xf7) ? c - 32 : c;
+}
+
+/* As the library compares: code by code, as capitals. */
+static bool is_called(Name stored, Units name)
+{
+    size_t i = 0;
+    while (i < name.length && i < unit_count(stored)) {
+        if (capital(unit_at(stored, i)) != capital(name.at[i]))
+            return false;
+        i++;
+    }
+    return i == name.length && i == unit_count(stored);
+}
+
+/* Among the values of a key those of one name are counted, from 1 on. */
+static HiveMember search(const Order *o, const Hive *h, uint32_t key, Units name)
+{
+    size_t seen = 0;
+    for (size_t n = 0;; n++) {
+        HiveMember m = hive_nth_value(h->bytes.at, h->bytes.length, key, n);
+        if (m.state == HIVE_THERE && !is_called((Name){h->bytes.at + m.name, m.length, m.narrow == 1}, name))
+            continue;
+        if (m.state != HIVE_THERE || ++seen == o->nth)
+            return m;
+    }
+}
+
+static int at_offset(const Order *o, const Hive *h, uint32_t value)
+{
+    HiveValue v = hive_value_at(h->bytes.at, h->bytes.length, value);
+    if (v.answer.number != 0)
+        return refusal(h, v.answer, NULL);
+    Bytes data = {malloc(v.length + 1), v.length};
+    if (data.at == NULL)
+        return trouble(h->file, "no memory");
+    HiveCopy c = hive_copy_at(h->bytes.at, h->bytes.length, value, data.at, data.length);
+    return c.answer.number != 0 ? refusal(h, c.answer, NULL) : show(o, v.kind, data);
+}
+
+static int nth(const Order *o, const Hive *h, const Path *path, Units name)
+{
+    HiveAnswer a = hive_find_key(h->bytes.at, h->bytes.length, path->units.at, path->units.length);
+    if (a.number != 0)
+        return refusal(h, a, path);
+    HiveMember m = search(o, h, a.value, name);
+    if (m.state == HIVE_REFUSED)
+        return refusal(h, m.answer, NULL);
+    if (m.state == HIVE_NO_MORE)
+        return refusal(h, (HiveAnswer){HIVE_FAULT_NO_VALUE, 0, HIVE_NO_KEY, 0}, NULL);
+    return at_offset(o, h, m.answer.value);
+}
+
 int value_verb(const Order *o)
 {
     Hive h;
@@ -37,14 +110,5 @@ int value_verb(const Order *o)
         status = read_hive(o, o->words[0], &h);
     if (status != GOOD)
         return status;
-    Bytes b = h.bytes;
-    Units p = path.units;
-    HiveValue v = hive_value_info(b.at, b.length, p.at, p.length, name.at, name.length);
-    if (v.answer.number != 0)
-        return refusal(&h, v.answer, &path);
-    Bytes data = {malloc(v.length + 1), v.length};
-    if (data.at == NULL)
-        return trouble(h.file, "no memory");
-    HiveCopy c = hive_value_copy(b.at, b.length, p.at, p.length, name.at, name.length, data.at, data.length);
-    return c.answer.number != 0 ? refusal(&h, c.answer, &path) : show(o, v.kind, data);
+    return o->nth > 0 ? nth(o, &h, &path, name) : first(o, &h, &path, name);
 }

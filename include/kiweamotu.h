@@ -83,7 +83,7 @@ enum {
 
 /* Part of every answer. number: 0, or the refusal's number. place: the refusal's place. key: HIVE_NO_KEY, always, in this
  * version; a later one may name the key under examination. value: the offset of the key or value that hive_find_key,
- * hive_nth_subkey or hive_nth_value found, else 0.
+ * hive_nth_subkey, hive_nth_value or hive_key_at found, else 0.
  * Where number is not 0, every other field of the answer but place and key is 0.
  */
 typedef struct {
@@ -161,6 +161,29 @@ HIVE_ASSERT(offsetof(HiveMember, name) == 24);
 HIVE_ASSERT(offsetof(HiveMember, length) == 32);
 HIVE_ASSERT(offsetof(HiveMember, narrow) == 40);
 HIVE_ASSERT(sizeof(HiveMember) == 48);
+
+/* A key, as its record says; nothing is counted. written: when it was last written, in steps of 100 ns from the start of 1601 on,
+ * UTC. parent: its parent's offset. subkeys, values: how many it has. name, length, narrow: as of a HiveMember.
+ */
+typedef struct {
+    HiveAnswer answer;
+    uint64_t written;
+    uint64_t parent;
+    uint64_t subkeys;
+    uint64_t values;
+    uint64_t name;
+    uint64_t length;
+    uint64_t narrow;
+} HiveKey;
+HIVE_ASSERT(offsetof(HiveKey, answer) == 0);
+HIVE_ASSERT(offsetof(HiveKey, written) == 16);
+HIVE_ASSERT(offsetof(HiveKey, parent) == 24);
+HIVE_ASSERT(offsetof(HiveKey, subkeys) == 32);
+HIVE_ASSERT(offsetof(HiveKey, values) == 40);
+HIVE_ASSERT(offsetof(HiveKey, name) == 48);
+HIVE_ASSERT(offsetof(HiveKey, length) == 56);
+HIVE_ASSERT(offsetof(HiveKey, narrow) == 64);
+HIVE_ASSERT(sizeof(HiveKey) == 72);
 
 /* An answer of recovery. state: HIVE_REFUSED; HIVE_CLEAN: nothing is to be done and nothing was changed; HIVE_DONE: accepted or done.
  * pages: the number of pages that the log holds, where hive_recover_start accepts it, else 0.
@@ -257,6 +280,14 @@ HiveMember hive_nth_value(const uint8_t *hive, size_t hive_len, uint32_t key, si
  * and 12 of the value and of its data.
  */
 HiveValue hive_value_at(const uint8_t *hive, size_t hive_len, uint32_t value);
+
+/* Copies the data of the value at an offset, as hive_value_copy does: the only way to a second value of one name. Refuses as
+ * hive_value_at does, then 20. A refusal leaves `out` as it was.
+ */
+HiveCopy hive_copy_at(const uint8_t *hive, size_t hive_len, uint32_t value, uint8_t *out, size_t out_len);
+
+/* What the record of the key at an offset says of it. Refuses 1 to 7, then 11 and 12 of the key. */
+HiveKey hive_key_at(const uint8_t *hive, size_t hive_len, uint32_t key);
 
 /* Whether an old-format log (file type 1 or 2) repairs this hive. A hive that needs no repair answers HIVE_CLEAN, whatever
  * the log. Refuses 1, 21, 22, 23, 22, 24, 25, in this order.

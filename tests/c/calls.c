@@ -131,6 +131,33 @@ static HiveMember sound(HiveMember m, size_t length)
     return m;
 }
 
+/* hive_value_at and hive_copy_at of one value, which must agree. A copy without room for it, and a refused one, leave the output. */
+static HiveAnswer value_at(const uint8_t *h, size_t length, uint32_t value)
+{
+    static uint8_t before[ROOM];
+    HiveValue v = hive_value_at(h, length, value);
+    size_t room = v.answer.number == 0 ? v.length : 16;
+    memset(before, 0x5a, room);
+    uint8_t *o = lend(1, before, room);
+    HiveCopy c = hive_copy_at(h, length, value, o, room);
+    EXPECT(memcmp(&c.answer, &v.answer, sizeof v.answer) == 0 && c.length == (v.answer.number == 0 ? v.length : 0));
+    EXPECT(v.answer.number == 0 ? v.form == HIVE_SEGMENTS || memcmp(o, h + v.at, v.length) == 0 : memcmp(o, before, room) == 0);
+    if (v.answer.number == 0 && v.length > 0) {
+        o = lend(1, before, v.length - 1);
+        EXPECT(is(hive_copy_at(h, length, value, o, v.length - 1).answer, HIVE_FAULT_OUTPUT_SHORT, 0) && memcmp(o, before, v.length - 1) == 0);
+    }
+    return v.answer;
+}
+
+/* What a key's record says: its name lies in the file, and a refusal says nothing. */
+static HiveKey key_at(const uint8_t *h, size_t length, uint32_t key)
+{
+    HiveKey k = hive_key_at(h, length, key);
+    EXPECT(k.answer.key == NO_KEY && k.narrow <= 1 && k.name + k.length <= length && k.answer.value == (k.answer.number == 0 ? key : 0));
+    EXPECT(k.answer.number == 0 || k.written + k.parent + k.subkeys + k.values + k.name + k.length + k.narrow == 0);
+    return k;
+}
+
 /* All subkeys and values of a key, and below the keys all of theirs, to some depth. How many there are of both. */
 static size_t members(const uint8_t *h, size_t length, uint32_t key, int depth)
 {
@@ -139,7 +166,8 @@ static size_t members(const uint8_t *h, size_t length, uint32_t key, int depth)
     for (n = 0; n < 100 && (m = sound(hive_nth_subkey(h, length, key, n), length)).state == 2; n++)
         count += 1 + (depth > 0 ? members(h, length, m.answer.value, depth - 1) : 0);
     for (n = 0; n < 100 && (m = sound(hive_nth_value(h, length, key, n), length)).state == 2; n++)
-        count += hive_value_at(h, length, m.answer.value).answer.key == NO_KEY;
+        count += value_at(h, length, m.answer.value).key == NO_KEY;
+    key_at(h, length, key);
     return count;
 }
 
@@ -154,6 +182,8 @@ static void t_nothing(void)
     EXPECT(is(hive_nth_subkey(NULL, 0, 32, 0).answer, 1, 0));
     EXPECT(is(hive_nth_value(NULL, 0, 32, 0).answer, 1, 0));
     EXPECT(is(hive_value_at(NULL, 0, 32).answer, 1, 0));
+    EXPECT(is(hive_copy_at(NULL, 0, 32, NULL, 0).answer, 1, 0));
+    EXPECT(is(hive_key_at(NULL, 0, 32).answer, 1, 0));
     EXPECT(is(hive_recover_start(NULL, 0, NULL, 0).answer, 1, 0));
     EXPECT(is(hive_recover_page(NULL, 0, NULL, 0, 0).answer, 1, 0));
     EXPECT(is(hive_recover_close(NULL, 0, NULL, 0).answer, 1, 0));
@@ -184,6 +214,8 @@ static void all_calls(const uint8_t *bytes, size_t length)
         EXPECT(hive_nth_subkey(h, length, 32 + 0x7fffffffu * at, at).answer.key == NO_KEY);
         EXPECT(hive_nth_value(h, length, 32 + 0x7fffffffu * at, at).answer.key == NO_KEY);
         EXPECT(hive_value_at(h, length, 32 + 0x7fffffffu * at).answer.key == NO_KEY);
+        EXPECT(hive_copy_at(h, length, 32 + 0x7fffffffu * at, l, length).answer.key == NO_KEY);
+        key_at(h, length, 32 + 0x7fffffffu * at);
     }
     EXPECT(hive_recover_start(h, length, l, length).answer.key == NO_KEY);
     EXPECT(hive_recover_next(l, length, 0).answer.key == NO_KEY);
@@ -446,6 +478,36 @@ static void t_members(void)
     EXPECT(sound(hive_nth_subkey(h, n, a, 2), n).state == 2 && is(hive_nth_subkey(h, n, a, 3).answer, 12, second));
 }
 
+/* Two values of one name, of which only the offset tells the second; and what a key's record says. */
+static void t_offsets(void)
+{
+    static uint8_t data[20000], back[20000];
+    Made m = made(16 * 4096, 5);
+    m.root = new_key(&m, "R", 0);
+    for (size_t i = 0; i < sizeof data; i++)
+        data[i] = (uint8_t)(i * 31 + i / 977);
+    uint32_t values[] = {new_value(&m, "v", 4, data, 4), new_value(&m, "V", 3, data, sizeof data)};
+    hang_values(&m, m.root, values, 2);
+    memcpy(data_of(&m, m.root) + 4, "\1\2\3\4\5\6\7\x88", 8);
+    put32(data_of(&m, m.root) + 16, 0xfedcba98);
+    finish(&m);
+    size_t n = made_length(&m);
+    const uint8_t *h = lend(0, m.file, n);
+    EXPECT(value_at(h, n, values[0]).number == 0 && value_at(h, n, values[1]).number == 0);
+    HiveCopy c = hive_copy_at(h, n, values[1], back, sizeof back);
+    EXPECT(is(c.answer, 0, 0) && c.length == sizeof data && memcmp(data, back, sizeof data) == 0);
+    EXPECT(is(hive_copy_at(h, n, m.root, back, sizeof back).answer, HIVE_FAULT_RECORD, m.root));
+    EXPECT(is(hive_copy_at(h, n, 4, back, sizeof back).answer, HIVE_FAULT_NO_CELL, 4));
+    HiveKey k = key_at(h, n, m.root);
+    EXPECT(k.answer.number == 0 && k.written == 0x8807060504030201 && k.parent == 0xfedcba98 && k.subkeys == 0 && k.values == 2);
+    EXPECT(k.length == 1 && k.narrow == 1 && h[k.name] == 'R');
+    EXPECT(is(hive_key_at(h, n, values[0]).answer, HIVE_FAULT_RECORD, values[0]) && is(hive_key_at(h, n, 0xffffffff).answer, HIVE_FAULT_NO_CELL, 0xffffffff));
+    put32(m.file + 8, 9);
+    reseal(m.file);
+    EXPECT(is(hive_key_at(m.file, n, m.root).answer, HIVE_FAULT_SEQUENCES, 0) && is(hive_copy_at(m.file, n, values[0], back, 4).answer, HIVE_FAULT_SEQUENCES, 0));
+    free(m.file);
+}
+
 /* Data on both sides of a segment, and the largest. */
 static void t_sizes(void)
 {
@@ -645,6 +707,7 @@ int main(void)
     test("lookup", t_lookup);
     test("values", t_values);
     test("members of keys", t_members);
+    test("values and keys by their offsets", t_offsets);
     test("data of many sizes", t_sizes);
     test("a repair", t_repair);
     test("a repair at once", t_repair_at_once);

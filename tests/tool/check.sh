@@ -46,6 +46,7 @@ try 'usage: an unknown option' 2 '' 'repair: --fast is no option' hive repair --
 try "usage: another verb's option" 2 '' 'check takes no --backup' hive check --backup x sample
 try 'usage: an option without its word' 2 '' '--log wants a LOG behind it' hive check sample --log
 try 'usage: one log, many files' 2 '' 'check --log wants one FILE' hive check --log log spoilt spoilt
+try 'usage: no number' 2 '' '--nth wants a number from 1 on, not "0"' hive value --nth 0 sample "$print" Big
 try 'usage: a file that looks like an option' 2 '' 'hive: -x: No such file' hive check -- -x
 try 'usage: it is one line' 2 '' 'see: hive --help' hive chekc
 right 'usage: one line' [ "$(wc -l <stderr)" -eq 1 ]

@@ -26,6 +26,10 @@ try 'ls: a list of three leaves' 0 "$(printf 'key k%s\n' 1 2 3 4 5 6 7)" '' hive
 try 'ls: nothing in it' 0 '' '' hive ls sample b
 try 'ls: values' 0 "$(printf 'value %s\n' 'REG_EXPAND_SZ 38 EventMessageFile' 'REG_SZ 6 @' 'REG_DWORD 4 TypesSupported' 'REG_DWORD_BIG_ENDIAN 4 Big' \
     'REG_QWORD 8 Long' 'REG_MULTI_SZ 18 Several' 'REG_SZ 4 Pair' 'REG_BINARY 33 Bytes' 'REG_BINARY 40000 Large' 'REG_BINARY 0 Empty')" '' hive ls sample "\\$print"
+try 'ls: when keys were written' 0 "$(printf '%s\n' 'key 2024-02-29T23:59:59.1234567Z Bin' 'key 1601-01-01T00:00:00.0000000Z Esc' "$(printf 'key +60056-05-28T05:36:10.9551615Z \303\251')")" \
+    '' hive ls -l sources 'ControlSet001\Services\EventLog\Application'
+try 'ls: when, as json' 0 '{"file":"minimal","answer":"key","at":32,"subkeys":0,"values":0,"written":"1601-01-01T00:00:00.0000000Z"}' '' hive key -l --json minimal ''
+try 'key: its counts, and when it was written' 0 'key at 32 subkeys 4 values 0 written 1601-01-01T00:00:00.0000000Z' '' hive key -l sample ''
 try 'ls: no such key' 1 'refused 17 at 0' 'the root has no subkey nobody' hive ls sample nobody
 try 'ls: a key that is none' 1 "$(printf '%s\n' 'key \\x1b[2J' 'refused 11 at 40')" 'no cell in use' hive ls bad-key
 try 'ls: data that are not there' 1 "$(hive ls names | head -n 6 && echo refused 12 at 120)" 'does not fit its cell' hive ls bad-value
@@ -53,6 +57,19 @@ try 'value: json of half of a pair' 0 '{"file":"texts","answer":"data","type":"R
 try 'value: a pair' 0 "$(printf '\360\237\230\200')" '' hive value sample "$print" Pair
 try 'value: bytes' 0 "$(printf '00070e151c232a31383f464d545b626970777e858c939aa1a8afb6bdc4cbd2d9\ne0')" '' hive value sample "$print" Bytes
 try 'value: nothing in it' 0 '' '' hive value sample "$print" Empty
+try 'value: the first of one name' 0 '78797a78797a' '' hive value names '' 'a\x0aB'
+try 'value: the first of one name, by number' 0 '78797a78797a' '' hive value --nth 1 names '' 'a\x0aB'
+try 'value: the second of one name' 0 x '' hive value --nth 2 names '' 'a\x0ab'
+try 'value: no third' 1 'refused 18 at 0' 'no such value' hive value --nth 3 names '' 'a\x0ab'
+for name in @ EventMessageFile bytes Large Empty; do
+    try "value: $name by number as by name" 0 "$(hive value sample "$print" $name)" '' hive value --nth 1 sample "$print" $name
+done
+try 'value: an accented letter is one name in either case' 0 '1 (0x1)' '' hive value --nth 1 texts '' "$(printf '\303\211')"
+try 'value: an accented letter, by name too' 0 '1 (0x1)' '' hive value texts '' "$(printf '\303\211')"
+try 'value: the second of them' 0 '2 (0x2)' '' hive value --nth 2 texts '' "$(printf '\303\251')"
+try 'value: no third of them' 1 'refused 18 at 0' 'no such value' hive value --nth 3 texts '' "$(printf '\303\251')"
+try 'value: by number, no such key' 1 'refused 17 at 0' 'the root has no subkey nobody' hive value --nth 2 sample nobody x
+try 'value: by number, data that are not there' 1 'refused 12 at 120' 'does not fit' hive value --nth 2 bad-value '' 'a\x0ab'
 try 'value: no such value' 1 'refused 18 at 0' 'no such value' hive value sample "$print" nobody
 try 'value: to a file' 0 '' '' hive value sample "$print" Large large
 right 'value: all of it' [ "$(wc -c <large)" -eq 40000 ]

@@ -12,7 +12,7 @@ use Rattle.tree.proofs.Tells.{check-tells}
 use Rattle.tree.proofs.Maps.{map-untouched, map-zero, map-complete, map-accepted, map-beyond}
 use Rattle.lookup.proofs.Agree.{refused-untouched}
 use Rattle.lookup.proofs.Refusals.{find-refuses, info-refuses, view-refuses, copy-refuses}
-use Rattle.listing.proofs.Any.{subkey-refuses, value-refuses, info-refuses as at-refuses}
+use Rattle.listing.proofs.Any.{subkey-refuses, value-refuses, info-refuses as at-refuses, copy-refuses as copy-at-refuses, copy-stays as copy-at-stays, facts-refuses}
 use Rattle.recovery.specs.declared.Stepped.the-variants as stepped
 use Rattle.recovery.specs.Calls.{pageAnswer, pageHive, closeAnswer, closeHive}
 use Rattle.recovery.proofs.Refusals.{start-refuses, page-refuses, close-refuses, next-refuses, all-refuses, mark-refuses}
@@ -75,6 +75,8 @@ demand1 =
       subkey-place = λ h o n r e. subkey-refuses h o n e;
       nth-place = λ h o n r e. value-refuses h o n e;
       at-place = λ h v r e. at-refuses h v e;
+      copy-at-place = λ h v n r e. copy-at-refuses h v n e;
+      facts-place = λ h o r e. facts-refuses h o e;
       start-place = λ h l r e. start-refuses h l e;
       page-place = λ h l p r e. page-refuses h l p e;
       close-place = λ h l r e. close-refuses h l e;
@@ -82,6 +84,7 @@ demand1 =
       all-place = λ h l r e. all-refuses h l e;
       mark-place = λ l from r e. mark-refuses l from e;
       copy-stays = λ h us x out r e. refused-untouched h us x out e;
+      copy-at-stays = λ h v out r e. copy-at-stays h v out e;
       page-stays = page-stays;
       close-stays = close-stays;
       all-stays = all-stays;

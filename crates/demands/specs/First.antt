@@ -1,8 +1,9 @@
 -- Demand 1. "Any bytes given as hive, log, path or name get an answer, and every entry point tests its own input."
 --
 -- Every public call's contract is an equation, for all lists of bytes and with no condition on them: what it answers is `checkAnswer h m`, `findAnswer h us`,
--- `infoAnswer h us x`, `viewAnswer h us x`, `copyAnswer h us x n`, `subkeyAnswer h o n`, `valueAnswer h o n`, `infoAt h v`, `startAnswer h l`, `pageAnswer h l p`,
--- `closeAnswer h l`, `nextAnswer l from`, `allAnswer h l` and `markAnswer l from`. These are total functions, so there is an answer. What is left to say is what a refusal is.
+-- `infoAnswer h us x`, `viewAnswer h us x`, `copyAnswer h us x n`, `subkeyAnswer h o n`, `valueAnswer h o n`, `infoAt h v`, `copyAt h v n`, `factsAnswer h o`,
+-- `startAnswer h l`, `pageAnswer h l p`, `closeAnswer h l`, `nextAnswer l from`, `allAnswer h l` and `markAnswer l from`. These are total functions, so there is an
+-- answer. What is left to say is what a refusal is.
 use Prim.Native.Nat.{ℕ, _≤_}
 use mathlib.Core.Path.{_≡_}
 use mathlib.Core.List.{List}
@@ -26,9 +27,10 @@ use Rattle.lookup.specs.declared.KeyFound.the-variants as key
 use Rattle.lookup.specs.declared.ValueFound.the-variants as value
 use Rattle.lookup.specs.Answers.{findAnswer, infoAnswer, viewAnswer, copyAnswer, copyOut}
 use Rattle.lookup.specs.Refused.{OfKey, OfValue, OfView, OfCopy}
+use Rattle.listing.specs.declared.KeyFacts.the-variants as facts
 use Rattle.listing.specs.declared.Member.the-variants as member
-use Rattle.listing.specs.Members.{subkeyAnswer, valueAnswer, infoAnswer as infoAt}
-use Rattle.listing.specs.Refused.{OfSubkey, OfNth, OfInfo}
+use Rattle.listing.specs.Members.{subkeyAnswer, valueAnswer, infoAnswer as infoAt, copyAnswer as copyAt, copyOut as outAt, factsAnswer}
+use Rattle.listing.specs.Refused.{OfSubkey, OfNth, OfInfo, OfCopied, OfFacts}
 use Rattle.recovery.specs.declared.NextPage.the-variants as next
 use Rattle.recovery.specs.declared.Started.the-variants as started
 use Rattle.recovery.specs.declared.Stepped.the-variants as stepped
@@ -50,6 +52,8 @@ pub record Demand1 : Type 0 where
   pub subkey-place : (h : List ℕ) (o : Offset) (n : ℕ) (r : Refusal) → subkeyAnswer h o n ≡ member.Refused r → Because (OfSubkey h o) r
   pub nth-place : (h : List ℕ) (o : Offset) (n : ℕ) (r : Refusal) → valueAnswer h o n ≡ member.Refused r → Because (OfNth h o) r
   pub at-place : (h : List ℕ) (v : Offset) (r : Refusal) → infoAt h v ≡ value.Refused r → Because (OfInfo h v) r
+  pub copy-at-place : (h : List ℕ) (v : Offset) (n : ℕ) (r : Refusal) → copyAt h v n ≡ copied.Refused r → Because (OfCopied h v n) r
+  pub facts-place : (h : List ℕ) (o : Offset) (r : Refusal) → factsAnswer h o ≡ facts.Refused r → Because (OfFacts h o) r
   pub start-place : (h l : List ℕ) (r : Refusal) → startAnswer h l ≡ started.Refused r → Because (OfStart h l) r
   pub page-place : (h l : List ℕ) (p : ℕ) (r : Refusal) → pageAnswer h l p ≡ stepped.Refused r → Because (OfPage h l p) r
   pub close-place : (h l : List ℕ) (r : Refusal) → closeAnswer h l ≡ stepped.Refused r → Because (OfClose h l) r
@@ -58,6 +62,7 @@ pub record Demand1 : Type 0 where
   pub mark-place : (l : List ℕ) (from : ℕ) (r : Refusal) → markAnswer l from ≡ mark.Refused r → Because (OfHead l) r
   -- "It changes no byte of hive or output"
   pub copy-stays : (h us x out : List ℕ) (r : Refusal) → copyAnswer h us x (length out) ≡ copied.Refused r → copyOut h us x out ≡ out
+  pub copy-at-stays : (h : List ℕ) (v : Offset) (out : List ℕ) (r : Refusal) → copyAt h v (length out) ≡ copied.Refused r → outAt h v out ≡ out
   pub page-stays : (h l : List ℕ) (p : ℕ) (r : Refusal) → pageAnswer h l p ≡ stepped.Refused r → pageHive h l p ≡ h
   pub close-stays : (h l : List ℕ) (r : Refusal) → closeAnswer h l ≡ stepped.Refused r → closeHive h l ≡ h
   pub all-stays : (h l : List ℕ) (r : Refusal) → allAnswer h l ≡ stepped.Refused r → allHive h l ≡ h

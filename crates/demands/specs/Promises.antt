@@ -12,8 +12,9 @@ use Rattle.lookup.specs.declared.KeyFound.{KeyFound}
 use Rattle.lookup.specs.declared.ValueFound.{ValueFound}
 use Rattle.lookup.specs.declared.Copied.{Copied}
 use Rattle.lookup.specs.Answers.{findAnswer, infoAnswer, viewAnswer, viewStart, viewBytes, copyAnswer, copyOut}
+use Rattle.listing.specs.declared.KeyFacts.{KeyFacts}
 use Rattle.listing.specs.declared.Member.{Member}
-use Rattle.listing.specs.Members.{subkeyAnswer, valueAnswer, infoAnswer as infoAt}
+use Rattle.listing.specs.Members.{subkeyAnswer, valueAnswer, infoAnswer as infoAt, copyAnswer as copyAt, copyOut as outAt, factsAnswer}
 use Rattle.recovery.specs.declared.Started.{Started}
 use Rattle.recovery.specs.declared.Stepped.{Stepped}
 use Rattle.recovery.specs.declared.NextPage.{NextPage}
@@ -36,6 +37,9 @@ Copies h us x out r after = (r ≡ copyAnswer h us x (length out)) × (after ≡
 abbrev pub Views : List ℕ → List ℕ → List ℕ → ℕ × ℕ → List ℕ → ℕ × ℕ → Type 0
 Views h us x hive s part = (s ≡ viewBytes h us x) × (part ≡ (hive .0, viewStart h us x + hive .1))
 
+abbrev pub CopiesAt : List ℕ → Offset → List ℕ → Copied → List ℕ → Type 0
+CopiesAt h v out r after = (r ≡ copyAt h v (length out)) × (after ≡ outAt h v out)
+
 abbrev pub Pages : List ℕ → List ℕ → ℕ → Stepped → List ℕ → Type 0
 Pages h l p r after = (r ≡ pageAnswer h l p) × (after ≡ pageHive h l p)
 
@@ -55,6 +59,8 @@ pub record Unique : Type 0 where
   pub nth-subkey : (h : List ℕ) (o : Offset) (n : ℕ) (r r′ : Member) → r ≡ subkeyAnswer h o n → r′ ≡ subkeyAnswer h o n → r ≡ r′
   pub nth-value : (h : List ℕ) (o : Offset) (n : ℕ) (r r′ : Member) → r ≡ valueAnswer h o n → r′ ≡ valueAnswer h o n → r ≡ r′
   pub info-at : (h : List ℕ) (v : Offset) (r r′ : ValueFound) → r ≡ infoAt h v → r′ ≡ infoAt h v → r ≡ r′
+  pub copy-at : (h : List ℕ) (v : Offset) (out : List ℕ) → Determines (CopiesAt h v out)
+  pub key-facts : (h : List ℕ) (o : Offset) (r r′ : KeyFacts) → r ≡ factsAnswer h o → r′ ≡ factsAnswer h o → r ≡ r′
   pub start : (h l : List ℕ) (r r′ : Started) → r ≡ startAnswer h l → r′ ≡ startAnswer h l → r ≡ r′
   pub page : (h l : List ℕ) (p : ℕ) → Determines (Pages h l p)
   pub close : (h l : List ℕ) → Determines (Closes h l)

@@ -14,6 +14,8 @@ use Rattle.lookup.specs.declared.ValueFound.{ValueFound}
 use Rattle.lookup.specs.declared.ValueFound.the-variants as value
 use Rattle.lookup.specs.declared.Copied.{Copied}
 use Rattle.lookup.specs.declared.Copied.the-variants as copy
+use Rattle.listing.specs.declared.KeyFacts.{KeyFacts}
+use Rattle.listing.specs.declared.KeyFacts.the-variants as facts
 use Rattle.listing.specs.declared.Member.{Member}
 use Rattle.listing.specs.declared.Member.the-variants as member
 use Rattle.recovery.specs.declared.Started.{Started}
@@ -28,6 +30,7 @@ use Rattle.hive_c.specs.declared.HiveAnswer.{HiveAnswer}
 use Rattle.hive_c.specs.declared.HiveReport.{HiveReport}
 use Rattle.hive_c.specs.declared.HiveValue.{HiveValue}
 use Rattle.hive_c.specs.declared.HiveCopy.{HiveCopy}
+use Rattle.hive_c.specs.declared.HiveKey.{HiveKey}
 use Rattle.hive_c.specs.declared.HiveMember.{HiveMember}
 use Rattle.hive_c.specs.declared.HiveRecovery.{HiveRecovery}
 use Rattle.hive_c.specs.declared.HivePage.{HivePage}
@@ -90,6 +93,16 @@ abbrev pub memberIn : Member → HiveMember
 memberIn (member.Refused f) = memberWith (refused f) 0 0 0 0
 memberIn member.NoMore = memberWith (granted 0) 1 0 0 0
 memberIn (member.At e) = memberWith (granted (e .at .0)) 2 (e .name .0) (e .len) (narrowIn (e .narrow))
+
+abbrev pub keyWith : HiveAnswer → ℕ → ℕ → ℕ → ℕ → ℕ → ℕ → ℕ → HiveKey
+keyWith a w p s v name len narrow =
+    record { answer = a; written = w; parent = p; subkeys = s; values = v; name = name; length = len; narrow = narrow }
+
+abbrev pub factsIn : KeyFacts → HiveKey
+factsIn (facts.At k) =
+    let e = k .entry in
+    keyWith (granted (e .at .0)) (k .stamp) (k .parent .0) (k .subkeys) (k .values) (e .name .0) (e .len) (narrowIn (e .narrow))
+factsIn (facts.Refused f) = keyWith (refused f) 0 0 0 0 0 0 0
 
 abbrev pub recoveryWith : HiveAnswer → ℕ → ℕ → HiveRecovery
 recoveryWith a s n = record { answer = a; state = s; pages = n }

@@ -18,6 +18,8 @@
 use fields::Offset;
 use fields::Refusal;
 use listing::Entry;
+use listing::Facts;
+use listing::KeyFacts;
 use listing::Member;
 use lookup::Copied;
 use lookup::Info;
@@ -34,10 +36,10 @@ ghost use lib.ListN.{length};
 ghost use Rattle.cells.specs.Survey.{mapLeft};
 ghost use Rattle.tree.specs.Tree.{checkAnswer};
 ghost use Rattle.lookup.specs.Answers.{findAnswer, infoAnswer, viewAnswer, copyAnswer, copyOut};
-ghost use Rattle.listing.specs.Members.{subkeyAnswer, valueAnswer, infoAnswer as infoAt};
+ghost use Rattle.listing.specs.Members.{subkeyAnswer, valueAnswer, infoAnswer as infoAt, copyAnswer as copyAt, copyOut as outAt, factsAnswer};
 ghost use Rattle.recovery.specs.Calls.{startAnswer, pageAnswer, pageHive, closeAnswer, closeHive, nextAnswer};
 ghost use Rattle.recovery.specs.AtOnce.{allAnswer, allHive, markAnswer};
-ghost use Rattle.hive_c.specs.Flat.{granted as grantedOf, refused as refusedOf, reportIn, keyIn, formOf, valueIn, copyIn, narrowIn, memberIn, startIn, stepIn, pageIn, markIn};
+ghost use Rattle.hive_c.specs.Flat.{granted as grantedOf, refused as refusedOf, reportIn, keyIn, formOf, valueIn, copyIn, narrowIn, memberIn, factsIn, startIn, stepIn, pageIn, markIn};
 
 // The states: of an answer that goes on or ends, and of a step of the repair.
 const REFUSED: u64 = 0;
@@ -62,7 +64,7 @@ const NO_KEY: u32 = 0xffff_ffff;
 
 // Part of every answer. number: 0, or the refusal's number. place: the refusal's place. key: HIVE_NO_KEY, always, in this
 // version; a later one may name the key under examination. value: the offset of the key or value that hive_find_key,
-// hive_nth_subkey or hive_nth_value found, else 0.
+// hive_nth_subkey, hive_nth_value or hive_key_at found, else 0.
 // Where number is not 0, every other field of the answer but place and key is 0.
 #[repr(C)]
 pub struct HiveAnswer {
@@ -110,6 +112,20 @@ pub struct HiveCopy {
 pub struct HiveMember {
     pub answer: HiveAnswer,
     pub state: u64,
+    pub name: u64,
+    pub length: u64,
+    pub narrow: u64,
+}
+
+// A key, as its record says; nothing is counted. written: when it was last written, in steps of 100 ns from the start of 1601 on,
+// UTC. parent: its parent's offset. subkeys, values: how many it has. name, length, narrow: as of a HiveMember.
+#[repr(C)]
+pub struct HiveKey {
+    pub answer: HiveAnswer,
+    pub written: u64,
+    pub parent: u64,
+    pub subkeys: u64,
+    pub values: u64,
     pub name: u64,
     pub length: u64,
     pub narrow: u64,
@@ -389,6 +405,58 @@ pub extern "C" fn hive_value_at(hive: &[u8], value: u32) -> HiveValue
     ensures { λ r. ⌜ r ≡ valueIn (infoAt (now (hive .entry)) (record { 0 = value })) ⌝ }
 {
     value_answer(listing::info_at(hive, Offset(value)))
+}
+
+// Copies the data of the value at an offset, as hive_value_copy does: the only way to a second value of one name. Refuses as
+// hive_value_at does, then 20. A refusal leaves `out` as it was.
+#[no_mangle]
+pub extern "C" fn hive_copy_at(hive: &[u8], value: u32, out: &mut [u8]) -> HiveCopy
+    ensures { λ r. ⌜ r ≡ copyIn (copyAt (now (hive .entry)) (record { 0 = value }) (length (now (out .entry)))) ⌝ }
+    ensures { λ _. ⌜ now (out .exit) ≡ outAt (now (hive .entry)) (record { 0 = value }) (now (out .entry)) ⌝ }
+{
+    copied(listing::copy_at(hive, Offset(value), out))
+}
+
+fn key_facts(k: Facts) -> HiveKey
+    ensures { λ r. ⌜ r ≡ factsIn (KeyFacts.At k) ⌝ }
+{
+    let e = k.entry;
+    HiveKey {
+        answer: granted(e.at.0),
+        written: k.stamp,
+        parent: k.parent.0 as u64,
+        subkeys: k.subkeys as u64,
+        values: k.values as u64,
+        name: e.name.0 as u64,
+        length: e.len as u64,
+        narrow: narrow_of(e.narrow),
+    }
+}
+
+fn key_told(k: KeyFacts) -> HiveKey
+    ensures { λ r. ⌜ r ≡ factsIn k ⌝ }
+{
+    match k {
+        KeyFacts::At(f) => key_facts(f),
+        KeyFacts::Refused(f) => HiveKey {
+            answer: refused(f),
+            written: 0,
+            parent: 0,
+            subkeys: 0,
+            values: 0,
+            name: 0,
+            length: 0,
+            narrow: 0,
+        },
+    }
+}
+
+// What the record of the key at an offset says of it. Refuses 1 to 7, then 11 and 12 of the key.
+#[no_mangle]
+pub extern "C" fn hive_key_at(hive: &[u8], key: u32) -> HiveKey
+    ensures { λ r. ⌜ r ≡ factsIn (factsAnswer (now (hive .entry)) (record { 0 = key })) ⌝ }
+{
+    key_told(listing::key_facts(hive, Offset(key)))
 }
 
 fn started(s: Started) -> HiveRecovery

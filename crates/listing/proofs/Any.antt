@@ -1,7 +1,7 @@
 -- On any bytes: a name that is answered lies in the hive, and every refusal says why.
 use Prim.Native.Nat.{ℕ, _+_, _-_, _≤_}
 use native.Mathlib.Omega.{arith}
-use mathlib.Core.Path.{_≡_, refl, sym, subst}
+use mathlib.Core.Path.{_≡_, refl, ap, sym, subst}
 use mathlib.Core.Bool.{Bool, true, false, cond}
 use mathlib.Core.List.{List, [], _∷_, _++_, List·Memᴰ, List·Memᴰ·head, List·Memᴰ·tail, Memᴰ·append-left, Memᴰ·append-right}
 use lib.Dec.{eqb, leb}
@@ -14,6 +14,7 @@ use Rattle.fields.specs.declared.Verdict.{Verdict}
 use Rattle.fields.specs.declared.Verdict.the-variants.{Sound, Flawed}
 use Rattle.fields.specs.Faults.{nowhere, refusalOf, _next_}
 use Rattle.fields.proofs.Every.{Every, every-next}
+use Rattle.fields.proofs.Firsts.{both}
 use Rattle.base.specs.Block.{sector, binsOf, minorOf, binsData, baseFault}
 use Rattle.base.proofs.Laws.{base-facts}
 use Rattle.base.proofs.Refusals.{base-refuses}
@@ -33,18 +34,22 @@ use Rattle.values.proofs.LawsValues.{name-inside}
 use Rattle.values.proofs.Refusals.{key-fit, key-unfit, list-fit, list-unfit, leaf-unfit, value-fit, value-unfit, value-list-unfit, value-named, data-unfit}
 use Rattle.tree.specs.Told.{Because}
 use Rattle.tree.proofs.Elements.{at-in}
+use Rattle.lookup.specs.declared.Copied.the-variants as copied
 use Rattle.lookup.specs.declared.Look.{Look}
 use Rattle.lookup.specs.declared.Look.the-variants.{Found, Missing, Faulty}
 use Rattle.lookup.specs.declared.ValueFound.the-variants as value
 use Rattle.lookup.specs.Search.{onSound}
 use Rattle.lookup.specs.Answers.{infoOf, infoWhere}
 use Rattle.lookup.proofs.Descents.{sound-found}
-use Rattle.lookup.proofs.Refusals.{Each, each-found, each-missing, each-cond, each-sound, in-children}
+use Rattle.lookup.proofs.Refusals.{Each, each-found, each-missing, each-cond, each-sound, in-children, copied-refuses}
+use Rattle.lookup.proofs.Answered.{refused-stays}
 use Rattle.listing.specs.declared.Entry.{Entry}
+use Rattle.listing.specs.declared.Facts.{Facts}
+use Rattle.listing.specs.declared.KeyFacts.the-variants as facts
 use Rattle.listing.specs.declared.Member.{Member}
 use Rattle.listing.specs.declared.Member.the-variants.{At, Refused}
-use Rattle.listing.specs.Members.{entryOf, memberWhere, memberOf, inHive, nthIn, nthBelow, childLook, subkeyIn, subkeyAnswer, nthOf, valueLook, valueIn, valueAnswer, infoAnswer}
-use Rattle.listing.specs.Refused.{of-base, of-record, of-named, OfSubkey, OfNth, OfInfo}
+use Rattle.listing.specs.Members.{entryOf, memberWhere, memberOf, inHive, nthIn, nthBelow, childLook, subkeyIn, subkeyAnswer, nthOf, valueLook, valueIn, valueAnswer, infoAnswer, copyAnswer, copyOut, factsOf, factsWhere, factsAnswer}
+use Rattle.listing.specs.Refused.{of-base, of-record, of-named, OfSubkey, OfNth, OfInfo, OfCopied, as-info, too-short, OfFacts}
 
 -- ---- a name that is answered lies in the hive, so a host may read it there
 
@@ -70,6 +75,18 @@ module _ (h : List ℕ) where
       let f = base-facts h b in
       let l : length (binsData h) ≡ binsOf (sector h) = simp (length-take, length-drop) (omega arith) in
       rw (← q) (omega arith)
+
+  -- a key by its offset
+  facts-at : (v : Verdict) (x : Facts) {k : Facts} → factsWhere v x ≡ facts.At k → (v ≡ Sound) × (x ≡ k)
+  facts-at Sound x p = (refl, cc)
+  facts-at (Flawed f) x p = absurd (let z : _≡_ {A = ℕ} 0 1 = cc in omega arith)
+
+  pub facts-name : (o : Offset) {k : Facts} → factsAnswer h o ≡ facts.At k → k .entry .name .0 + k .entry .len ≤ length h
+  unfolding factsAnswer factsOf
+  facts-name o {k} p =
+      let w = facts-at (baseFault h next keyFault Header (binsData h) [] o) _ p in
+      let b = both (baseFault h) _ (w .0) in
+      name-lies (b .0) o (keyOf (binsData h) o .name) (k .entry) (name-room Header (binsData h) [] o (b .1)) (ap (λ (x : Facts). x .entry) (w .1))
 
   module _ (o : Offset) (n : ℕ) {e : Entry} where
     pub subkey-name : subkeyAnswer h o n ≡ At e → e .name .0 + e .len ≤ length h
@@ -230,3 +247,23 @@ module _ (h : List ℕ) (o : Offset) where
       (every-next (OfInfo h o) (baseFault h) _ (λ f e. of-base (base-refuses h f e))
       (λ a. every-next (OfInfo h o) (valueFault Header d [] o) _ (λ f e. of-record (value-unfit Header d [] (ruled h o) o f e))
       (λ b f e. of-named (value-fit Header d [] (ruled h o) o b) (data-unfit Header d [] (ruled h o) x f e))))
+
+  pub copy-refuses : (n : ℕ) {r : Refusal} → copyAnswer h o n ≡ copied.Refused r → Because (OfCopied h o n) r
+  unfolding copyAnswer
+  copy-refuses n =
+      copied-refuses (OfCopied h o n) n (infoAnswer h o) (λ g p. let w = info-refuses p in (w .0, w .1, as-info (w .2))) (λ i p s. too-short p s)
+
+  pub copy-stays : (out : List ℕ) {f : Refusal} → copyAnswer h o (length out) ≡ copied.Refused f → copyOut h o out ≡ out
+  unfolding copyAnswer copyOut
+  copy-stays out = refused-stays (binsData h) out (infoAnswer h o)
+
+  facts-of : (v : Verdict) {r : Refusal} → Every (OfFacts h o) v → factsWhere v (factsOf (binsData h) o) ≡ facts.Refused r → Because (OfFacts h o) r
+  facts-of Sound p q = absurd (let z : _≡_ {A = ℕ} 0 1 = cc in omega arith)
+  facts-of (Flawed g) {r} p q = (g, let z : refusalOf g ≡ r = cc in sym z, p g refl)
+
+  pub facts-refuses : {r : Refusal} → factsAnswer h o ≡ facts.Refused r → Because (OfFacts h o) r
+  unfolding factsAnswer
+  facts-refuses =
+      facts-of (baseFault h next keyFault Header (binsData h) [] o)
+      (every-next (OfFacts h o) (baseFault h) _ (λ f e. of-base (base-refuses h f e))
+      (λ a f e. of-record (key-unfit Header (binsData h) [] (ruled h o) o f e)))

@@ -1,8 +1,8 @@
 -- The calls: a law for each way out of a leaf, a list, a key and a value.
-use Prim.Native.Nat.{ℕ, _+_, _-_, _<_, _≤_}
+use Prim.Native.Nat.{ℕ, _+_, _-_, _*_, _<_, _≤_}
 use native.Mathlib.Omega.{arith}
 use native.Mathlib.Numerals.{add-one}
-use mathlib.Core.Path.{_≡_, ap, _∙_}
+use mathlib.Core.Path.{_≡_, sym, ap, ap₂, _∙_}
 use mathlib.Core.List.{List, []}
 use lib.ListN.{length, getD, drop}
 use lib.Seq.{drop-cons}
@@ -11,8 +11,10 @@ use Rattle.fields.specs.declared.Flaw.{Flaw}
 use Rattle.fields.specs.declared.Offset.{Offset}
 use Rattle.fields.specs.declared.Verdict.{Verdict}
 use Rattle.fields.specs.declared.Verdict.the-variants.{Sound, Flawed}
-use Rattle.fields.specs.Faults.{nowhere, refusalOf}
-use Rattle.fields.proofs.Firsts.{on, stop}
+use Rattle.fields.specs.declared.Refusal.{Refusal}
+use Rattle.fields.specs.Number.{u32At, u64At}
+use Rattle.fields.specs.Faults.{nowhere, refusalOf, _next_}
+use Rattle.fields.proofs.Firsts.{on, stop, both}
 use Rattle.fields.proofs.Loops.{drop-all}
 use Rattle.base.specs.Block.{sector, minorOf, binsLimit, binsData, baseFault}
 use Rattle.cells.specs.declared.Rule.the-variants.{Header}
@@ -29,25 +31,33 @@ use Rattle.records.specs.Lists.{leafChildren, leafFault, headFault}
 use Rattle.records.specs.Places.{leafOf, leafed, ElementsLie, childNamed, leavesAt, headed, LeavesLie, leavesNamed}
 use Rattle.records.proofs.LawsAnswer.{keyed-whole, keyed-flawed, leafed-whole, leafed-flawed, headed-whole, headed-flawed}
 use Rattle.records.proofs.LawsElements.{elements-length, element-at, elements-are}
-use Rattle.records.proofs.LawsKey.{name-room}
+use Rattle.records.proofs.LawsKey.{key-room, name-room}
 use Rattle.records.proofs.LawsPlaces.{elements-lie, leaves-lie, leaves-are}
+use Rattle.records.proofs.Parts.{data-room, data-u32}
 use Rattle.values.specs.declared.Entries.{Entries}
 use Rattle.values.specs.declared.Listing.the-variants as listedAs
 use Rattle.values.specs.declared.Value.{Value}
 use Rattle.values.specs.declared.Valued.the-variants as valuedAs
 use Rattle.values.specs.Entries.{Room, entriesOf, listing}
-use Rattle.values.specs.Records.{valueFault, valueOf, valued}
+use Rattle.values.specs.Records.{valueFault, dataIn, fieldsOf, valueOf, valued}
+use Rattle.values.specs.Segments.{lengthOf}
 use Rattle.values.specs.Lists.{valuesOf, valueListFault, valueEntries, wholeValueFault}
+use Rattle.values.specs.Parts.{Lies}
 use Rattle.values.proofs.LawsLists.{list-room, list-values}
-use Rattle.values.proofs.LawsValues.{name-inside}
+use Rattle.values.proofs.LawsValues.{lies, name-inside}
 use Rattle.values.proofs.Rooms.{entries-length}
 use Rattle.values.proofs.Segment_faults.{listed, unlisted}
 use Rattle.values.proofs.Valued_at.{is-whole, is-flawed}
+use Rattle.lookup.specs.declared.Copied.the-variants as copied
+use Rattle.lookup.specs.declared.Info.{Info}
 use Rattle.lookup.specs.declared.Look.the-variants.{Found, Missing, Faulty}
 use Rattle.lookup.specs.declared.ValueFound.the-variants as found
-use Rattle.lookup.specs.Answers.{infoOf, infoWhere}
+use Rattle.lookup.specs.Answers.{infoOf, infoWhere, copiedTo, written}
+use Rattle.lookup.proofs.Answered.{where-at}
+use Rattle.listing.specs.declared.Entry.{Entry}
+use Rattle.listing.specs.declared.KeyFacts.the-variants as facts
 use Rattle.listing.specs.declared.Member.the-variants.{At, NoMore, Refused}
-use Rattle.listing.specs.Members.{entryOf, memberWhere, nthIn, nthBelow, childLook, subkeyIn, subkeyAnswer, nthOf, valueLook, valueIn, valueAnswer, infoAnswer}
+use Rattle.listing.specs.Members.{entryOf, memberWhere, nthIn, nthBelow, childLook, subkeyIn, subkeyAnswer, nthOf, valueLook, valueIn, valueAnswer, infoAnswer, copyAnswer, copyOut, factsOf, factsWhere, factsAnswer}
 
 -- a record by its offset
 module _ (d : List ℕ) (o : Offset) where
@@ -61,6 +71,32 @@ module _ (d : List ℕ) (o : Offset) where
 
     pub key-name : length d ≤ binsLimit → k .name .at ≤ binsLimit
     key-name p = let w = keyed-whole (keyFault Header d [] o) _ e in let r = name-room Header d [] o (w .0) in rw (w .1) (omega arith)
+
+-- what a key's record says of it; its stamp stands 8 bytes past its offset
+module _ (d : List ℕ) (o : Offset) where
+  module _ (r : 76 ≤ length (dataAt d o)) where
+    pub stamp-room : o .0 + 8 + 8 ≤ length d
+    stamp-room = let h = data-room d o 12 (omega arith) (omega arith) in omega arith
+
+    pub stamp-is : u64At d (o .0 + 8) ≡ u64At (dataAt d o) 4
+    unfolding u64At
+    stamp-is =
+        let p : o .0 + 4 + 4 ≡ o .0 + 8 = omega arith in
+        let q : o .0 + 4 + 8 ≡ o .0 + 8 + 4 = omega arith in
+        sym (ap₂ (λ (x y : ℕ). x + y * 0x1_0000_0000) (data-u32 d o 4 (omega arith) ∙ ap (u32At d) p) (data-u32 d o 8 (omega arith) ∙ ap (u32At d) q))
+
+  pub facts-bad : {f : Flaw} → keyed (keyFault Header d [] o) (keyOf d o) ≡ key.Flawed f
+      → factsWhere (keyFault Header d [] o) (factsOf d o) ≡ facts.Refused (refusalOf f)
+  facts-bad e = rw (keyed-flawed (keyFault Header d [] o) _ e)
+
+  module _ {k : Key} (e : keyed (keyFault Header d [] o) (keyOf d o) ≡ key.Whole k) where
+    pub facts-room : 76 ≤ length (dataAt d o)
+    facts-room = key-room Header d [] o (keyed-whole (keyFault Header d [] o) _ e .0)
+
+    pub facts-are : {x : Entry} {n : ℕ} → x ≡ entryOf o (k .name) → n ≡ u64At (dataAt d o) 4 → factsWhere (keyFault Header d [] o) (factsOf d o)
+        ≡ facts.At (record { entry = x; stamp = n; parent = k .parent; subkeys = k .subkeys; values = k .values })
+    unfolding factsOf
+    facts-are p q = let w = keyed-whole (keyFault Header d [] o) _ e in rw (p, q, w .0, w .1)
 
 module _ (d : List ℕ) (minor : ℕ) (v : Offset) where
   pub value-bad : {f : Flaw} → valued (valueFault Header d [] v) (valueOf d minor v) ≡ valuedAs.Flawed f
@@ -211,6 +247,10 @@ module _ (h : List ℕ) (o : Offset) where
     unfolding infoAnswer
     info-stop = ap (λ (v : Verdict). infoWhere v (infoOf (valueOf (binsData h) (minorOf (sector h)) o))) (stop _ _ e)
 
+    pub facts-stop : factsAnswer h o ≡ facts.Refused (refusalOf f)
+    unfolding factsAnswer
+    facts-stop = ap (λ (v : Verdict). factsWhere v (factsOf (binsData h) o)) (stop _ _ e)
+
   module _ (e : baseFault h ≡ Sound) where
     pub subkey-in : (n : ℕ) → subkeyAnswer h o n ≡ subkeyIn (binsData h) o n
     unfolding subkeyAnswer
@@ -224,3 +264,39 @@ module _ (h : List ℕ) (o : Offset) where
         ≡ infoWhere (wholeValueFault Header (binsData h) [] (minorOf (sector h)) o) (infoOf (valueOf (binsData h) (minorOf (sector h)) o))
     unfolding infoAnswer
     info-in = ap (λ (v : Verdict). infoWhere v (infoOf (valueOf (binsData h) (minorOf (sector h)) o))) (on _ _ e)
+
+    pub facts-in : factsAnswer h o ≡ factsWhere (keyFault Header (binsData h) [] o) (factsOf (binsData h) o)
+    unfolding factsAnswer
+    facts-in = ap (λ (v : Verdict). factsWhere v (factsOf (binsData h) o)) (on _ _ e)
+
+-- a copy of the value at an offset: what was told lies in the hive
+module _ (h : List ℕ) (v : Offset) where
+  pub info-told : {i : Info} → infoAnswer h v ≡ found.At i
+      → (baseFault h ≡ Sound) × (Lies (binsData h) (i .content)) × (i .len ≡ lengthOf (i .content))
+  unfolding infoAnswer wholeValueFault infoOf valueOf fieldsOf dataIn
+  info-told e =
+      let d = binsData h in
+      let minor = minorOf (sector h) in
+      let w = where-at (baseFault h next wholeValueFault Header d [] minor v) (infoOf (valueOf d minor v)) e in
+      let b = both (baseFault h) _ (w .0) in
+      let x = both (valueFault Header d [] v) _ (b .1) in
+      (b .0, rw (← w .1) (lies Header d [] minor v (x .0) Header [] (x .1)), rw (← w .1))
+
+  module _ (out : List ℕ) where
+    module _ {f : Refusal} (e : infoAnswer h v ≡ found.Refused f) where
+      pub copy-stop : copyAnswer h v (length out) ≡ copied.Refused f
+      unfolding copyAnswer
+      copy-stop = rw e
+
+      pub out-stop : copyOut h v out ≡ out
+      unfolding copyOut
+      out-stop = rw e
+
+    module _ {i : Info} (e : infoAnswer h v ≡ found.At i) where
+      pub copy-on : copyAnswer h v (length out) ≡ copiedTo (length out) (found.At i)
+      unfolding copyAnswer
+      copy-on = rw e
+
+      pub out-on : copyOut h v out ≡ written (binsData h) out (found.At i)
+      unfolding copyOut
+      out-on = rw e

@@ -9,6 +9,7 @@ use lib.ListN.{length, getD}
 use Rattle.fields.specs.declared.Offset.{Offset}
 use Rattle.fields.specs.declared.Verdict.{Verdict}
 use Rattle.fields.specs.declared.Verdict.the-variants.{Sound, Flawed}
+use Rattle.fields.specs.Number.{u64At}
 use Rattle.fields.specs.Faults.{nowhere, refusalOf, _next_}
 use Rattle.base.specs.Block.{sector, minorOf, binsData, baseFault}
 use Rattle.cells.specs.declared.Rule.the-variants.{Header}
@@ -20,12 +21,16 @@ use Rattle.records.specs.Lists.{leafFault, headFault, leafChildren, leavesOf}
 use Rattle.records.specs.Places.{noChild}
 use Rattle.values.specs.Records.{valueFault, valueOf}
 use Rattle.values.specs.Lists.{valuesOf, valueListFault, wholeValueFault}
+use Rattle.lookup.specs.declared.Copied.{Copied}
 use Rattle.lookup.specs.declared.Look.{Look}
 use Rattle.lookup.specs.declared.Look.the-variants.{Found, Missing, Faulty}
 use Rattle.lookup.specs.declared.ValueFound.{ValueFound}
 use Rattle.lookup.specs.Search.{onSound}
-use Rattle.lookup.specs.Answers.{infoOf, infoWhere}
+use Rattle.lookup.specs.Answers.{infoOf, infoWhere, copiedTo, written}
 use Rattle.listing.specs.declared.Entry.{Entry}
+use Rattle.listing.specs.declared.Facts.{Facts}
+use Rattle.listing.specs.declared.KeyFacts.{KeyFacts}
+use Rattle.listing.specs.declared.KeyFacts.the-variants as facts
 use Rattle.listing.specs.declared.Member.{Member}
 use Rattle.listing.specs.declared.Member.the-variants.{At, NoMore, Refused}
 
@@ -89,3 +94,25 @@ infoAnswer h v =
     let d = binsData h in
     let minor = minorOf (sector h) in
     infoWhere (baseFault h next wholeValueFault Header d [] minor v) (infoOf (valueOf d minor v))
+
+-- copy_at: as `value_copy` copies the value that it finds
+unfoldable pub copyAnswer : List ℕ → Offset → ℕ → Copied
+copyAnswer h v n = copiedTo n (infoAnswer h v)
+
+-- the output afterwards
+unfoldable pub copyOut : List ℕ → Offset → List ℕ → List ℕ
+copyOut h v out = written (binsData h) out (infoAnswer h v)
+
+-- what a key's record says of it: "Its stamp, the 64-bit number at 4 of its record, says when it was last written"
+unfoldable pub factsOf : List ℕ → Offset → Facts
+factsOf d o =
+    let k = keyOf d o in
+    record { entry = entryOf o (k .name); stamp = u64At (dataAt d o) 4; parent = k .parent; subkeys = k .subkeys; values = k .values }
+
+abbrev pub factsWhere : Verdict → Facts → KeyFacts
+factsWhere Sound k = facts.At k
+factsWhere (Flawed f) k = facts.Refused (refusalOf f)
+
+-- key_facts: 1 to 7, then the key's own 11 or 12
+unfoldable pub factsAnswer : List ℕ → Offset → KeyFacts
+factsAnswer h o = factsWhere (baseFault h next keyFault Header (binsData h) [] o) (factsOf (binsData h) o)

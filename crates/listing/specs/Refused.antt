@@ -1,14 +1,20 @@
--- What a refusal of the listing calls says: the table's rows 1 to 7, 11 and 12, each with its reason. They take a record by its offset, read it, and then
+-- What a refusal of the listing calls says: the table's rows 1 to 7, 11, 12 and, of a copy, 20, each with its reason. They take a record by its offset, read it, and then
 -- what it names. h is the hive.
-use Prim.Native.Nat.{ℕ}
+use Prim.Native.Nat.{ℕ, _<_}
+use mathlib.Core.Path.{_≡_}
 use mathlib.Core.List.{List}
+use Rattle.fields.specs.declared.Fault.the-variants.{OutputShort}
 use Rattle.fields.specs.declared.Flaw.{Flaw}
 use Rattle.fields.specs.declared.Offset.{Offset}
+use Rattle.fields.specs.Faults.{flaw, nowhere}
 use Rattle.base.specs.Block.{sector, minorOf, binsData}
 use Rattle.base.specs.Refused.{OfBase}
 use Rattle.cells.specs.declared.Rule.the-variants.{Header}
 use Rattle.values.specs.Records.{dataIn}
 use Rattle.values.specs.Refused.{Role, a-key, a-value, Fit, Unfit, Among, Lists, Values, Data}
+use Rattle.lookup.specs.declared.Info.{Info}
+use Rattle.lookup.specs.declared.ValueFound.the-variants.{At as ValueAt}
+use Rattle.listing.specs.Members.{infoAnswer}
 
 pub data OfRecord (h : List ℕ) (w : Role) (o : Offset) (named : Role → Offset → Type 0) : Flaw → Type 0 where
   of-base : {f : Flaw} → OfBase h f → OfRecord h w o named f
@@ -26,3 +32,13 @@ OfNth h k = OfRecord h a-key k (Values Header (binsData h) k)
 -- info_at of the value at an offset
 abbrev pub OfInfo : List ℕ → Offset → Flaw → Type 0
 OfInfo h v = OfRecord h a-value v (Data Header (binsData h) (dataIn (binsData h) (minorOf (sector h)) v))
+
+-- copy_at of the value at an offset, to an output of so many bytes
+pub data OfCopied (h : List ℕ) (v : Offset) (room : ℕ) : Flaw → Type 0 where
+  as-info : {f : Flaw} → OfInfo h v f → OfCopied h v room f
+  -- 20: "output too short"
+  too-short : {i : Info} → infoAnswer h v ≡ ValueAt i → room < i .len → OfCopied h v room (flaw OutputShort nowhere)
+
+-- key_facts of the key at an offset: what it names is not read
+abbrev pub OfFacts : List ℕ → Offset → Flaw → Type 0
+OfFacts h k = OfRecord h a-key k (λ w o. ⊥)

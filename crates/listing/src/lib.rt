@@ -1,11 +1,12 @@
-// What a key holds, one by one: its subkeys and its values in the order of their lists, each with its name; and the facts of a value by its offset. There
-// is no work map: an offset names a cell by the cell's own header.
+// What a key holds, one by one: its subkeys and its values in the order of their lists, each with its name; the facts of a key or a
+// value by its offset, and a value's data. There is no work map: an offset names a cell by the cell's own header.
 use cells::Rule;
 use fields::Flaw;
 use fields::Offset;
 use fields::Place;
 use fields::Refusal;
 use fields::Verdict;
+use lookup::Copied;
 use lookup::Look;
 use lookup::ValueFound;
 use records::Headed;
@@ -21,12 +22,14 @@ ghost use mathlib.Core.Path.{_≡_};
 ghost use mathlib.Core.List.{[]};
 ghost use Prim.Native.Nat.{_≤_};
 ghost use lib.ListN.{length};
+ghost use Rattle.fields.specs.Number.{u64At};
 ghost use Rattle.base.specs.Block.{binsLimit};
 ghost use Rattle.cells.specs.declared.Rule.the-variants.{Header};
+ghost use Rattle.cells.specs.Named.{dataAt};
 ghost use Rattle.records.specs.Keys.{keyFault, keyOf};
 ghost use Rattle.records.specs.Places.{LeavesLie, leavesNamed};
 ghost use Rattle.values.specs.Records.{valueFault, valueOf};
-ghost use Rattle.listing.specs.Members.{entryOf, memberWhere, nthIn, nthBelow, childLook, subkeyIn, subkeyAnswer, nthOf, valueLook, valueIn, valueAnswer, infoAnswer};
+ghost use Rattle.listing.specs.Members.{entryOf, memberWhere, nthIn, nthBelow, childLook, subkeyIn, subkeyAnswer, nthOf, valueLook, valueIn, valueAnswer, infoAnswer, copyAnswer, copyOut, factsOf, factsWhere, factsAnswer};
 
 // A key or a value that a list names, and where its name stands in the file: `len` bytes from `name` on, one for each character if narrow, else UTF-16LE.
 pub struct Entry {
@@ -207,5 +210,69 @@ pub fn info_at(hive: &[u8], v: Offset) -> ValueFound
     match base::base_flaw(hive) {
         Verdict::Flawed(f) => ValueFound::Refused(fields::refused(f)),
         Verdict::Sound => lookup::info_at(lookup::bins_of(hive), lookup::minor_of(hive), v),
+    }
+}
+
+// The data of the value at an offset, segments joined.
+pub fn copy_at(hive: &[u8], v: Offset, out: &mut [u8]) -> Copied
+    ensures { λ r. ⌜ r ≡ copyAnswer (now (hive .entry)) v (length (now (out .entry))) ⌝ }
+    ensures { λ _. ⌜ now (out .exit) ≡ copyOut (now (hive .entry)) v (now (out .entry)) ⌝ }
+{
+    match info_at(hive, v) {
+        ValueFound::Refused(f) => Copied::Refused(f),
+        ValueFound::At(i) => lookup::copy_info(hive, i, out),
+    }
+}
+
+// What a key's record says of it. Its counts are its own: nothing is counted.
+pub struct Facts {
+    pub entry: Entry,
+    pub stamp: u64,
+    pub parent: Offset,
+    pub subkeys: u32,
+    pub values: u32,
+}
+
+pub enum KeyFacts {
+    At(Facts),
+    Refused(Refusal),
+}
+
+// When a key that was tested was last written.
+fn stamp_of(bins: &[u8], o: Offset) -> u64
+    requires { ⌜ 76 ≤ length (dataAt (now bins) o) ⌝ }
+    ensures { λ r. ⌜ r ≡ u64At (dataAt (now (bins .entry)) o) 4 ⌝ }
+{
+    let at = o.0 as usize + 8;
+    fields::u64_at(bins, at)
+}
+
+fn facts_in(bins: &[u8], o: Offset) -> KeyFacts
+    requires { ⌜ length (now bins) ≤ binsLimit ⌝ }
+    ensures { λ r. ⌜ r ≡ factsWhere (keyFault Header (now (bins .entry)) [] o) (factsOf (now (bins .entry)) o) ⌝ }
+{
+    match records::key_at(bins, b"", Rule::Header, o) {
+        Keyed::Flawed(f) => KeyFacts::Refused(fields::refused(f)),
+        Keyed::Whole(k) => {
+            let name = k.name;
+            let parent = k.parent;
+            KeyFacts::At(Facts {
+                entry: entry_of(o, name),
+                stamp: stamp_of(bins, o),
+                parent,
+                subkeys: k.subkeys,
+                values: k.values,
+            })
+        }
+    }
+}
+
+// The facts of the key at an offset.
+pub fn key_facts(hive: &[u8], key: Offset) -> KeyFacts
+    ensures { λ r. ⌜ r ≡ factsAnswer (now (hive .entry)) key ⌝ }
+{
+    match base::base_flaw(hive) {
+        Verdict::Flawed(f) => KeyFacts::Refused(fields::refused(f)),
+        Verdict::Sound => facts_in(lookup::bins_of(hive), key),
     }
 }

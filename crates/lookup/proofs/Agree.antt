@@ -21,7 +21,7 @@ use Rattle.lookup.specs.declared.Info.{Info}
 use Rattle.lookup.specs.declared.ValueFound.{ValueFound}
 use Rattle.lookup.specs.declared.ValueFound.the-variants.{At, Refused}
 use Rattle.lookup.specs.Answers.{infoAnswer, viewAnswer, viewBytes, copiedTo, copyAnswer, copyOut}
-use Rattle.lookup.proofs.Answered.{info-answered, view-answered, view-shown, view-part, copy-written, view-info-same}
+use Rattle.lookup.proofs.Answered.{info-answered, view-answered, view-shown, view-part, copy-written, view-info-same, refused-stays}
 
 -- what a copy that is done says
 done-is : (n : ℕ) (i : Info) {k : ℕ} → copiedTo n (At i) ≡ Done k → (i .len ≤ n) × (i .len ≡ k)
@@ -85,15 +85,7 @@ module _ (h us x out : List ℕ) where
   -- a refusal changes nothing
   pub refused-untouched : {f : Refusal} → copyAnswer h us x (length out) ≡ Uncopied f → copyOut h us x out ≡ out
   unfolding copyAnswer copyOut
-  refused-untouched {f} e = by (infoAnswer h us x) refl
-    where
-      by : (a : ValueFound) → infoAnswer h us x ≡ a → copyOut h us x out ≡ out
-      by (Refused g) q = rw q
-      by (At i) q = cut (leb (i .len) (length out)) refl
-        where
-          cut : (t : Bool) → leb (i .len) (length out) ≡ t → copyOut h us x out ≡ out
-          cut true p = absurd (let s = rw (q, p) at e in let z : _≡_ {A = ℕ} 0 1 = cc in omega arith)
-          cut false p = rw (q, p)
+  refused-untouched = refused-stays (binsData h) out (infoAnswer h us x)
 
   -- view and copy agree: where the view answers, a copy with room for it writes the view's bytes
   module _ {i : Info} (e : viewAnswer h us x ≡ At i) where

@@ -4,7 +4,7 @@ use native.Mathlib.Omega.{arith}
 use mathlib.Core.Path.{_≡_, refl, sym, ap, ap₂, _∙_}
 use mathlib.Core.Bool.{Bool, true, false}
 use mathlib.Core.List.{List, [], _++_}
-use lib.Dec.{eqb}
+use lib.Dec.{eqb, leb}
 use lib.ListN.{length, take, drop, length-take, length-drop}
 use borrow.Author.Tests.{le-leb, lt-leb, eqb-true}
 use Rattle.fields.specs.declared.Fault.the-variants.{OutputShort}
@@ -31,10 +31,10 @@ use Rattle.lookup.specs.declared.Look.{Look}
 use Rattle.lookup.specs.declared.Look.the-variants.{Found, Missing, Faulty}
 use Rattle.lookup.specs.declared.ValueFound.{ValueFound}
 use Rattle.lookup.specs.declared.ValueFound.the-variants.{At, Refused}
-use Rattle.lookup.specs.Answers.{valueLook, placeIn, infoOf, viewFault, infoWhere, valueFound, infoAnswer, viewAnswer, viewStart, viewBytes, copyAnswer, copyOut}
+use Rattle.lookup.specs.Answers.{valueLook, placeIn, infoOf, viewFault, infoWhere, valueFound, infoAnswer, viewAnswer, viewStart, viewBytes, copiedTo, copyAnswer, written, copyOut}
 use Rattle.lookup.proofs.Value_searches.{value-facts}
 
-where-at : (v : Verdict) (i : Info) {j : Info} → infoWhere v i ≡ At j → (v ≡ Sound) × (i ≡ j)
+pub where-at : (v : Verdict) (i : Info) {j : Info} → infoWhere v i ≡ At j → (v ≡ Sound) × (i ≡ j)
 where-at Sound i e = (refl, cc)
 where-at (Flawed f) i e = absurd (let z : _≡_ {A = ℕ} 0 1 = cc in omega arith)
 
@@ -154,6 +154,31 @@ view-shown h us x i a t = by (i .content) refl (eqb (lengthOf (i .content)) 0) r
         shown-at h i (OneCell o len) (a .base) (rw e at lies) e (a .long ∙ ap lengthOf e) (o .0 + 4) (rw n) (rw (a .place, e, n) q)
     by (Segments o len) e z f = absurd (let s = rw e at t in let q : _≡_ {A = ℕ} 0 1 = cc in omega arith)
 
+-- the ways out of a copy of what was told
+module _ (out : List ℕ) (i : Info) where
+  module _ (p : length out < i .len) where
+    pub told-short : copiedTo (length out) (At i) ≡ Uncopied (refusalOf (flaw OutputShort nowhere))
+    told-short = rw (lt-leb (i .len) (length out) p)
+
+    pub short-stays : (d : List ℕ) → written d out (At i) ≡ out
+    short-stays d = rw (lt-leb (i .len) (length out) p)
+
+  module _ (p : i .len ≤ length out) where
+    pub told-done : copiedTo (length out) (At i) ≡ Done (i .len)
+    told-done = rw (le-leb (i .len) (length out) p)
+
+    pub told-written : (d : List ℕ) → written d out (At i) ≡ bytesOf d (i .content) ++ drop (i .len) out
+    told-written d = rw (le-leb (i .len) (length out) p)
+
+-- a refusal changes nothing
+pub refused-stays : (d out : List ℕ) (a : ValueFound) {f : Refusal} → copiedTo (length out) a ≡ Uncopied f → written d out a ≡ out
+refused-stays d out (Refused g) e = refl
+refused-stays d out (At i) e = cut (leb (i .len) (length out)) refl
+  where
+    cut : (t : Bool) → leb (i .len) (length out) ≡ t → written d out (At i) ≡ out
+    cut true p = absurd (let s = rw p at e in let z : _≡_ {A = ℕ} 0 1 = cc in omega arith)
+    cut false p = rw p
+
 -- the ways out of a view and a copy
 module _ (h us x : List ℕ) where
   pub view-none : {f : Refusal} → viewAnswer h us x ≡ Refused f → viewBytes h us x ≡ []
@@ -183,20 +208,19 @@ module _ (h us x : List ℕ) where
       copy-untouched = rw e
 
     module _ {i : Info} (e : infoAnswer h us x ≡ At i) where
-      module _ (p : length out < i .len) where
-        pub copy-short : copyAnswer h us x (length out) ≡ Uncopied (refusalOf (flaw OutputShort nowhere))
-        unfolding copyAnswer
-        copy-short = rw (e, lt-leb (i .len) (length out) p)
+      pub copy-told : copyAnswer h us x (length out) ≡ copiedTo (length out) (At i)
+      unfolding copyAnswer
+      copy-told = rw e
 
-        pub short-untouched : copyOut h us x out ≡ out
-        unfolding copyOut
-        short-untouched = rw (e, lt-leb (i .len) (length out) p)
+      pub out-told : copyOut h us x out ≡ written (binsData h) out (At i)
+      unfolding copyOut
+      out-told = rw e
 
-      module _ (p : i .len ≤ length out) where
-        pub copy-done : copyAnswer h us x (length out) ≡ Done (i .len)
-        unfolding copyAnswer
-        copy-done = rw (e, le-leb (i .len) (length out) p)
+      pub copy-short : length out < i .len → copyAnswer h us x (length out) ≡ Uncopied (refusalOf (flaw OutputShort nowhere))
+      copy-short p = copy-told ∙ told-short out i p
 
-        pub copy-written : copyOut h us x out ≡ bytesOf (binsData h) (i .content) ++ drop (i .len) out
-        unfolding copyOut
-        copy-written = rw (e, le-leb (i .len) (length out) p)
+      pub copy-done : i .len ≤ length out → copyAnswer h us x (length out) ≡ Done (i .len)
+      copy-done p = copy-told ∙ told-done out i p
+
+      pub copy-written : i .len ≤ length out → copyOut h us x out ≡ bytesOf (binsData h) (i .content) ++ drop (i .len) out
+      copy-written p = out-told ∙ told-written out i p (binsData h)

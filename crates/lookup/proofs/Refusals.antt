@@ -1,5 +1,5 @@
 -- Every refusal of lookup and of the value calls says why.
-use Prim.Native.Nat.{ℕ}
+use Prim.Native.Nat.{ℕ, _<_}
 use native.Mathlib.Omega.{arith}
 use mathlib.Core.Path.{_≡_, refl, sym, ap, _∙_, subst}
 use mathlib.Core.Bool.{Bool, true, false, cond}
@@ -50,6 +50,18 @@ use Rattle.lookup.proofs.Finds.{named-in}
 use Rattle.lookup.proofs.Opens.{find-at}
 use Rattle.lookup.proofs.ValueFinds.{found-first}
 use Rattle.lookup.proofs.Value_searches.{value-facts}
+
+-- a copy of what was told
+pub copied-refuses : (P : Flaw → Type 0) (n : ℕ) (a : ValueFound) → ((g : Refusal) → a ≡ Unvalued g → Because P g)
+    → ((i : Info) → a ≡ ValueAt i → n < i .len → P (flaw OutputShort nowhere)) → {r : Refusal} → copiedTo n a ≡ Uncopied r → Because P r
+copied-refuses P n (Unvalued g) p s {r} q = let z : g ≡ r = cc in let w = p g refl in (w .0, sym z ∙ w .1, w .2)
+copied-refuses P n (ValueAt i) p s {r} q = cut (leb (i .len) n) refl
+  where
+    cut : (t : Bool) → leb (i .len) n ≡ t → Because P r
+    cut true e = absurd (let y = rw e at q in let z : _≡_ {A = ℕ} 0 1 = cc in omega arith)
+    cut false e =
+        let y = rw e at q in
+        (flaw OutputShort nowhere, let z : refusalOf (flaw OutputShort nowhere) ≡ r = cc in sym z, s i refl (leb-false _ _ e))
 
 -- ---- all faults of a look
 module _ (P : Flaw → Type 0) where
@@ -256,14 +268,5 @@ module _ (h us : List ℕ) where
     -- value_copy
     pub copy-refuses : (n : ℕ) {r : Refusal} → copyAnswer h us x n ≡ Uncopied r → Because (OfCopy h us x n) r
     unfolding copyAnswer
-    copy-refuses n {r} e = by (infoAnswer h us x) refl e
-      where
-        by : (a : ValueFound) → infoAnswer h us x ≡ a → copiedTo n a ≡ Uncopied r → Because (OfCopy h us x n) r
-        by (Unvalued g) p q = let z : g ≡ r = cc in let w = info-refuses (p ∙ ap Unvalued z) in (w .0, w .1, as-info (w .2))
-        by (ValueAt i) p q = cut (leb (i .len) n) refl
-          where
-            cut : (t : Bool) → leb (i .len) n ≡ t → Because (OfCopy h us x n) r
-            cut true s = absurd (let y = rw s at q in let z : _≡_ {A = ℕ} 0 1 = cc in omega arith)
-            cut false s =
-                let y = rw s at q in
-                (flaw OutputShort nowhere, let z : refusalOf (flaw OutputShort nowhere) ≡ r = cc in sym z, too-short p (leb-false _ _ s))
+    copy-refuses n =
+        copied-refuses (OfCopy h us x n) n (infoAnswer h us x) (λ g p. let w = info-refuses p in (w .0, w .1, as-info (w .2))) (λ i p s. too-short p s)

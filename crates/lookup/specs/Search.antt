@@ -69,8 +69,7 @@ descend d o (x ∷ xs) = onFound (searchBelow d x (keyOf d o)) (λ c. descend d 
 unfoldable pub lookupKey : List ℕ → Offset → List (List ℕ) → Look
 lookupKey d root xs = onSound (keyFault Header d [] root) (descend d root xs)
 
--- the first value of a key that has the name: "Names, also of values, are compared by code after upper-casing a to z only"; "Value names may repeat; lookup
--- takes the first."
+-- the first value of a key that has the name, as names of keys are compared: "Value names may repeat; lookup takes the first."
 unfoldable pub valueNamed : List ℕ → ℕ → List ℕ → Offset → Look
 valueNamed d minor x v =
     onSound (valueFault Header d [] v) (cond (sameName (codesOf d (valueOf d minor v .name)) x) (Found v) Missing)

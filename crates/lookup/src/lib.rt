@@ -33,10 +33,11 @@ ghost use Rattle.values.specs.Entries.{Room, entriesOf};
 ghost use Rattle.values.specs.Records.{valueOf};
 ghost use Rattle.values.specs.Segments.{dataFault, lengthOf};
 ghost use Rattle.values.specs.Lists.{wholeValueFault};
+ghost use Rattle.values.specs.Parts.{Lies};
 ghost use Rattle.tree.specs.Tree.{hiveOf};
 ghost use Rattle.lookup.specs.Paths.{firstPart, partsOf, isPath};
 ghost use Rattle.lookup.specs.Search.{keyNamed, searchKeys, searchLeaf, searchLeaves, searchBelow, descend as descendTo, lookupKey, valueNamed, searchValues, lookupValue};
-ghost use Rattle.lookup.specs.Answers.{openFault, keyLook, findAnswer, valueLook, dataPlace, placeIn, infoOf, viewFault, viewedFault, infoWhere, infoAnswer, viewAnswer, viewStart, viewBytes, copyAnswer, copyOut};
+ghost use Rattle.lookup.specs.Answers.{openFault, keyLook, findAnswer, valueLook, dataPlace, placeIn, infoOf, viewFault, viewedFault, infoWhere, infoAnswer, viewAnswer, viewStart, viewBytes, copiedTo, copyAnswer, written, copyOut};
 
 const BACKSLASH: u16 = 92;
 
@@ -519,24 +520,33 @@ pub enum Copied {
     Refused(Refusal),
 }
 
-// "a copy checks all segments, then 20, and writes only the data's length"
+// The data that were told, which lie in the hive: "a copy checks all segments, then 20, and writes only the data's length"
+pub fn copy_info(hive: &[u8], i: Info, out: &mut [u8]) -> Copied
+    requires { ⌜ baseFault (now hive) ≡ Sound ⌝ }
+    requires { ⌜ Lies (binsData (now hive)) (i .content) ⌝ }
+    requires { ⌜ i .len ≡ lengthOf (i .content) ⌝ }
+    ensures { λ r. ⌜ r ≡ copiedTo (length (now (out .entry))) (ValueFound.At i) ⌝ }
+    ensures { λ _. ⌜ now (out .exit) ≡ written (binsData (now (hive .entry))) (now (out .entry)) (ValueFound.At i) ⌝ }
+{
+    let len = i.len;
+    if out.len() < len {
+        return Copied::Refused(fields::refused(Flaw {
+            fault: Fault::OutputShort,
+            place: Offset(0),
+        }));
+    }
+    let content = i.content;
+    values::copy_data(bins_of(hive), content, out);
+    Copied::Done(len)
+}
+
+// The first value of that name, copied.
 pub fn value_copy(hive: &[u8], path: &[u16], name: &[u16], out: &mut [u8]) -> Copied
     ensures { λ r. ⌜ r ≡ copyAnswer (now (hive .entry)) (now (path .entry)) (now (name .entry)) (length (now (out .entry))) ⌝ }
     ensures { λ _. ⌜ now (out .exit) ≡ copyOut (now (hive .entry)) (now (path .entry)) (now (name .entry)) (now (out .entry)) ⌝ }
 {
     match value_info(hive, path, name) {
         ValueFound::Refused(f) => Copied::Refused(f),
-        ValueFound::At(i) => {
-            let len = i.len;
-            if out.len() < len {
-                return Copied::Refused(fields::refused(Flaw {
-                    fault: Fault::OutputShort,
-                    place: Offset(0),
-                }));
-            }
-            let content = i.content;
-            values::copy_data(bins_of(hive), content, out);
-            Copied::Done(len)
-        }
+        ValueFound::At(i) => copy_info(hive, i, out),
     }
 }

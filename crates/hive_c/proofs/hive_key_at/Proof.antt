@@ -1,0 +1,22 @@
+use Rattle.hive_c.specs.Flat.{factsIn}
+use mathlib.Core.Path.{ap, _∙_}
+use borrow.Author.Needs.{needs}
+use Rattle.hive_c.proofs.hive_key_at.Statement.{statement}
+use Rattle.hive_c.proofs.hive_key_at.Tie as tie
+
+key-facts-requires : tie.Need-key-facts-requires
+key-facts-requires c κs = search needs
+
+key-told-requires : tie.Need-key-told-requires
+key-told-requires c κs = search needs
+
+returns : tie.Need-returns
+returns c = c .key-told .ensures ∙ ap factsIn (c .before .key-facts .ensures)
+
+pub hive-key-at-spec : {M : Type 1} → statement M
+hive-key-at-spec =
+    tie.close
+    (tie.spec
+    key-facts-requires
+    key-told-requires
+    returns)

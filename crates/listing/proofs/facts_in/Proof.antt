@@ -1,0 +1,47 @@
+use Rattle.listing.proofs.Members.{key-name, facts-bad, facts-room, facts-are}
+use Rattle.listing.specs.declared.KeyFacts.the-variants.{Refused}
+use mathlib.Core.Path.{sym, ap, _∙_}
+use borrow.Author.Needs.{needs}
+use Rattle.listing.proofs.facts_in.Statement.{statement}
+use Rattle.listing.proofs.facts_in.Tie as tie
+
+slice-aggregate-key-at : tie.Need-slice-aggregate-key-at
+slice-aggregate-key-at c = search needs
+
+key-at-requires : tie.Need-key-at-requires
+key-at-requires c κs = search needs
+
+enum-known-f : tie.Need-enum-known-f
+enum-known-f c = search needs
+
+refused-requires : tie.Need-refused-requires
+refused-requires c κs = search needs
+
+enum-known-k : tie.Need-enum-known-k
+enum-known-k c = search needs
+
+entry-of-requires : tie.Need-entry-of-requires
+entry-of-requires c κs = key-name _ _ (sym (c .before .before .before .before .before .key-at .ensures) ∙ c .before .before .before .k .given .1) (c .before .before .before .before .before .before .before .before .pre)
+
+stamp-of-requires : tie.Need-stamp-of-requires
+stamp-of-requires c κs = facts-room _ _ (sym (c .before .before .before .before .before .before .key-at .ensures) ∙ c .before .before .before .before .k .given .1)
+
+returns : tie.Need-returns
+returns c = ap Refused (c .refused .ensures) ∙ sym (facts-bad _ _ (sym (c .before .before .before .before .key-at .ensures) ∙ c .before .before .f .given .1))
+
+returns-2 : tie.Need-returns-2
+returns-2 c = sym (facts-are _ _ (sym (c .before .before .before .before .before .before .before .key-at .ensures) ∙ c .before .before .before .before .before .k .given .1) (c .before .entry-of .ensures) (c .stamp-of .ensures))
+
+pub facts-in-spec : {M : Type 1} → statement M
+facts-in-spec =
+    tie.close
+    (tie.spec
+    slice-aggregate-key-at
+    key-at-requires
+    enum-known-f
+    refused-requires
+    enum-known-k
+    entry-of-requires
+    stamp-of-requires
+    returns
+    returns-2)

@@ -1,0 +1,44 @@
+use Rattle.listing.proofs.Members.{facts-stop, facts-in}
+use Rattle.listing.specs.declared.KeyFacts.the-variants.{Refused}
+use Rattle.lookup.proofs.Opens.{bins-small}
+use mathlib.Core.Path.{sym, ap, _∙_}
+use borrow.Author.Needs.{needs}
+use Rattle.listing.proofs.key_facts.Statement.{statement}
+use Rattle.listing.proofs.key_facts.Tie as tie
+
+base-flaw-requires : tie.Need-base-flaw-requires
+base-flaw-requires c κs = search needs
+
+enum-known-f : tie.Need-enum-known-f
+enum-known-f c = search needs
+
+refused-requires : tie.Need-refused-requires
+refused-requires c κs = search needs
+
+enum-told : tie.Need-enum-told
+enum-told c = search needs
+
+bins-of-requires : tie.Need-bins-of-requires
+bins-of-requires c κs = sym (c .before .before .base-flaw .ensures) ∙ c .enum-told .given .1
+
+facts-in-requires : tie.Need-facts-in-requires
+facts-in-requires c κs = rw (c .bins-of .ensures) (bins-small _ (sym (c .before .before .before .base-flaw .ensures) ∙ c .before .enum-told .given .1))
+
+returns : tie.Need-returns
+returns c = ap Refused (c .refused .ensures) ∙ sym (facts-stop _ _ (sym (c .before .before .before .before .base-flaw .ensures) ∙ c .before .before .f .given .1))
+
+returns-2 : tie.Need-returns-2
+returns-2 c = c .facts-in .ensures ∙ rw (c .before .bins-of .ensures) (sym (facts-in _ _ (sym (c .before .before .before .before .base-flaw .ensures) ∙ c .before .before .enum-told .given .1)))
+
+pub key-facts-spec : {M : Type 1} → statement M
+key-facts-spec =
+    tie.close
+    (tie.spec
+    base-flaw-requires
+    enum-known-f
+    refused-requires
+    enum-told
+    bins-of-requires
+    facts-in-requires
+    returns
+    returns-2)
