@@ -19,8 +19,10 @@ use Rattle.lookup.specs.declared.ValueFound.the-variants as value
 use Rattle.lookup.specs.Answers.{keyLook, findAnswer, valueLook, infoAnswer, viewAnswer, viewBytes, copyAnswer}
 use Rattle.lookup.proofs.Opens.{open-base, look-stop}
 use Rattle.lookup.proofs.Agree.{refused-untouched}
+use Rattle.listing.specs.declared.KeyFacts.the-variants as facts
 use Rattle.listing.specs.declared.Member.the-variants as member
-use Rattle.listing.specs.Members.{subkeyAnswer, valueAnswer, infoAnswer as infoAt}
+use Rattle.listing.specs.Members.{subkeyAnswer, valueAnswer, infoAnswer as infoAt, copyAnswer as copyAt, factsAnswer}
+use Rattle.listing.proofs.Any.{copy-stays}
 use Rattle.recovery.specs.declared.Started.the-variants as started
 use Rattle.recovery.specs.Calls.{startAnswer}
 use Rattle.crash.proofs.Demand3.{until, running, finishes, landed}
@@ -69,6 +71,14 @@ module _ (d : List ℕ) (f : Flaw) (e : baseFault d ≡ Flawed f) where
   unfolding infoAt
   at v = rw (stop (baseFault d) _ e)
 
+  copy-at : (v : Offset) (out : List ℕ) → copyAt d v (length out) ≡ copied.Refused (refusalOf f)
+  unfolding copyAt
+  copy-at v out = rw (at v)
+
+  key-facts : (o : Offset) → factsAnswer d o ≡ facts.Refused (refusalOf f)
+  unfolding factsAnswer
+  key-facts o = rw (stop (baseFault d) _ e)
+
   unread : Unread d (refusalOf f)
   unread =
       record {
@@ -81,6 +91,8 @@ module _ (d : List ℕ) (f : Flaw) (e : baseFault d ≡ Flawed f) where
         nth-subkey = subkey;
         nth-value = nth-value;
         info-at = at;
+        copy-at = λ v out. (copy-at v out, copy-stays d v out (copy-at v out));
+        key-facts = key-facts;
       }
 
 pub demand3 : (h l : List ℕ) (n : ℕ) → startAnswer h l ≡ started.Pages n → Bytes l → Demand3 h l n

@@ -17,8 +17,9 @@ use Rattle.lookup.specs.declared.Copied.the-variants as copied
 use Rattle.lookup.specs.declared.KeyFound.the-variants as key
 use Rattle.lookup.specs.declared.ValueFound.the-variants as value
 use Rattle.lookup.specs.Answers.{findAnswer, infoAnswer, viewAnswer, viewBytes, copyAnswer, copyOut}
+use Rattle.listing.specs.declared.KeyFacts.the-variants as facts
 use Rattle.listing.specs.declared.Member.the-variants as member
-use Rattle.listing.specs.Members.{subkeyAnswer, valueAnswer, infoAnswer as infoAt}
+use Rattle.listing.specs.Members.{subkeyAnswer, valueAnswer, infoAnswer as infoAt, copyAnswer as copyAt, copyOut as outAt, factsAnswer}
 use Rattle.old_log.specs.Layout.{isLogged}
 use Rattle.recovery.specs.Calls.{closeHive}
 use Rattle.recovery.specs.Finished.{finished, afterPages, Covers}
@@ -36,6 +37,8 @@ pub record Unread (d : List ℕ) (r : Refusal) : Type 0 where
   pub nth-subkey : (o : Offset) (i : ℕ) → subkeyAnswer d o i ≡ member.Refused r
   pub nth-value : (o : Offset) (i : ℕ) → valueAnswer d o i ≡ member.Refused r
   pub info-at : (v : Offset) → infoAt d v ≡ value.Refused r
+  pub copy-at : (v : Offset) (out : List ℕ) → (copyAt d v (length out) ≡ copied.Refused r) × (outAt d v out ≡ out)
+  pub key-facts : (o : Offset) → factsAnswer d o ≡ facts.Refused r
 
 pub record Demand3 (h l : List ℕ) (n : ℕ) : Type 0 where
   -- "Until the closing sector lands, the same log is still accepted, [..] and the closing call succeeds exactly when every logged page is in."
