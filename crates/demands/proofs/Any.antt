@@ -10,8 +10,9 @@ use Rattle.fields.specs.Faults.{numberOf}
 use Rattle.cells.proofs.Refusals.{survey-refuses}
 use Rattle.tree.proofs.Tells.{check-tells}
 use Rattle.tree.proofs.Maps.{map-untouched, map-zero, map-complete, map-accepted, map-beyond}
+use Rattle.paths.proofs.Refusals.{find-refuses}
 use Rattle.lookup.proofs.Agree.{refused-untouched}
-use Rattle.lookup.proofs.Refusals.{find-refuses, info-refuses, view-refuses, copy-refuses}
+use Rattle.lookup.proofs.Refusals.{info-refuses, view-refuses, copy-refuses}
 use Rattle.listing.proofs.Any.{subkey-refuses, value-refuses, info-refuses as at-refuses, copy-refuses as copy-at-refuses, copy-stays as copy-at-stays, facts-refuses}
 use Rattle.recovery.specs.declared.Stepped.the-variants as stepped
 use Rattle.recovery.specs.Calls.{pageAnswer, pageHive, closeAnswer, closeHive}

@@ -1,8 +1,8 @@
 -- Demand 2 is met.
 use Rattle.tree.proofs.Exactly.{accepted-exactly, report-adds, report-sums, report-counts}
 use Rattle.tree.proofs.Once.{each-once}
-use Rattle.lookup.proofs.Exact.{find-malformed, find-exactly, find-none, find-refuses}
-use Rattle.lookup.proofs.Listed.{listed-found}
+use Rattle.paths.proofs.Exact.{find-malformed, find-exactly, find-none, find-refuses}
+use Rattle.paths.proofs.Listed.{listed-found}
 use Rattle.lookup.proofs.In_accepted.{info-first, info-none, viewed, segments-unviewed, copy-says, copy-20, copied}
 use Rattle.lookup.proofs.Answered.{view-info-same}
 use Rattle.lookup.proofs.Agree.{view-is}

@@ -21,10 +21,10 @@ use Rattle.values.specs.Lists.{valuesOf, valueListFault, valuesFault}
 use Rattle.tree.specs.declared.Checked.the-variants as checked
 use Rattle.tree.specs.Tree.{_after_, placeFault, hashFault, levelFault, totalFault, restFault, ownFault, keyCharge, listCharge, treeCharge, joined, keysIn, valuesIn, checkAnswer}
 use Rattle.tree.proofs.Exactly.{accepted-as}
-use Rattle.lookup.specs.declared.KeyFound.the-variants as found
-use Rattle.lookup.specs.Paths.{split, partsOf, isPart, areParts, isPath, pathFault}
-use Rattle.lookup.specs.Search.{descend, lookupKey}
-use Rattle.lookup.specs.Answers.{openFault, keyLook, findAnswer}
+use Rattle.paths.specs.declared.KeyFound.the-variants as found
+use Rattle.paths.specs.Paths.{split, partsOf, isPart, areParts, isPath, pathFault}
+use Rattle.paths.specs.Search.{descend, lookupKey}
+use Rattle.paths.specs.Answers.{openFault, keyLook, findAnswer}
 use Rattle.sectors.specs.Sector.{page}
 use Rattle.bitmap.specs.Bits.{bitsBefore, nextAmong}
 use Rattle.old_log.specs.Layout.{bitmap, isLogged, logged}

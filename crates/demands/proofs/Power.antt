@@ -12,12 +12,13 @@ use Rattle.base.specs.Block.{baseFault}
 use Rattle.sectors.specs.Sector.{Bytes}
 use Rattle.cells.proofs.Fronts.{front-base, survey-front}
 use Rattle.tree.proofs.Roots.{check-refused}
+use Rattle.paths.specs.declared.KeyFound.the-variants as key
+use Rattle.paths.specs.declared.Look.the-variants.{Faulty}
+use Rattle.paths.specs.Answers.{keyLook, findAnswer}
+use Rattle.paths.proofs.Opens.{open-base, look-stop}
 use Rattle.lookup.specs.declared.Copied.the-variants as copied
-use Rattle.lookup.specs.declared.KeyFound.the-variants as key
-use Rattle.lookup.specs.declared.Look.the-variants.{Faulty}
 use Rattle.lookup.specs.declared.ValueFound.the-variants as value
-use Rattle.lookup.specs.Answers.{keyLook, findAnswer, valueLook, infoAnswer, viewAnswer, viewBytes, copyAnswer}
-use Rattle.lookup.proofs.Opens.{open-base, look-stop}
+use Rattle.lookup.specs.Answers.{valueLook, infoAnswer, viewAnswer, viewBytes, copyAnswer}
 use Rattle.lookup.proofs.Agree.{refused-untouched}
 use Rattle.listing.specs.declared.KeyFacts.the-variants as facts
 use Rattle.listing.specs.declared.Member.the-variants as member

@@ -22,11 +22,13 @@ use Rattle.tree.specs.declared.Checked.the-variants as checked
 use Rattle.tree.specs.declared.Report.{Report}
 use Rattle.tree.specs.Tree.{checkAnswer}
 use Rattle.tree.specs.Told.{Because, Told, mapBytes}
+use Rattle.paths.specs.declared.KeyFound.the-variants as key
+use Rattle.paths.specs.Answers.{findAnswer}
+use Rattle.paths.specs.Refused.{OfKey}
 use Rattle.lookup.specs.declared.Copied.the-variants as copied
-use Rattle.lookup.specs.declared.KeyFound.the-variants as key
 use Rattle.lookup.specs.declared.ValueFound.the-variants as value
-use Rattle.lookup.specs.Answers.{findAnswer, infoAnswer, viewAnswer, copyAnswer, copyOut}
-use Rattle.lookup.specs.Refused.{OfKey, OfValue, OfView, OfCopy}
+use Rattle.lookup.specs.Answers.{infoAnswer, viewAnswer, copyAnswer, copyOut}
+use Rattle.lookup.specs.Refused.{OfValue, OfView, OfCopy}
 use Rattle.listing.specs.declared.KeyFacts.the-variants as facts
 use Rattle.listing.specs.declared.Member.the-variants as member
 use Rattle.listing.specs.Members.{subkeyAnswer, valueAnswer, infoAnswer as infoAt, copyAnswer as copyAt, copyOut as outAt, factsAnswer}

@@ -15,8 +15,8 @@ use Rattle.tree.specs.declared.Checked.{Checked}
 use Rattle.tree.specs.declared.Checked.the-variants as checked
 use Rattle.tree.specs.declared.Report.{Report}
 use Rattle.tree.specs.Tree.{reportOf, checkAnswer}
-use Rattle.lookup.specs.declared.KeyFound.{KeyFound}
-use Rattle.lookup.specs.Answers.{findAnswer}
+use Rattle.paths.specs.declared.KeyFound.{KeyFound}
+use Rattle.paths.specs.Answers.{findAnswer}
 use Rattle.recovery.specs.declared.Started.{Started}
 use Rattle.recovery.specs.declared.Started.the-variants as started
 use Rattle.recovery.specs.Calls.{startAnswer, pageHive}

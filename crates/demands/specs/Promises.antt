@@ -8,10 +8,11 @@ use Rattle.fields.specs.declared.Offset.{Offset}
 use Rattle.cells.specs.Survey.{mapLeft}
 use Rattle.tree.specs.declared.Checked.{Checked}
 use Rattle.tree.specs.Tree.{checkAnswer}
-use Rattle.lookup.specs.declared.KeyFound.{KeyFound}
+use Rattle.paths.specs.declared.KeyFound.{KeyFound}
+use Rattle.paths.specs.Answers.{findAnswer}
 use Rattle.lookup.specs.declared.ValueFound.{ValueFound}
 use Rattle.lookup.specs.declared.Copied.{Copied}
-use Rattle.lookup.specs.Answers.{findAnswer, infoAnswer, viewAnswer, viewStart, viewBytes, copyAnswer, copyOut}
+use Rattle.lookup.specs.Answers.{infoAnswer, viewAnswer, viewStart, viewBytes, copyAnswer, copyOut}
 use Rattle.listing.specs.declared.KeyFacts.{KeyFacts}
 use Rattle.listing.specs.declared.Member.{Member}
 use Rattle.listing.specs.Members.{subkeyAnswer, valueAnswer, infoAnswer as infoAt, copyAnswer as copyAt, copyOut as outAt, factsAnswer}

@@ -22,13 +22,15 @@ use Rattle.tree.specs.declared.Checked.the-variants as checked
 use Rattle.tree.specs.declared.Report.{Report}
 use Rattle.tree.specs.Tree.{hiveOf, keysOf, valuesIn, checkAnswer}
 use Rattle.tree.specs.WellFormed.{Once, CleanAndWellFormed}
+use Rattle.paths.specs.declared.KeyFound.the-variants as found
+use Rattle.paths.specs.Paths.{isPath, partsOf}
+use Rattle.paths.specs.Answers.{findAnswer}
+use Rattle.paths.specs.Reach.{Holds, FoundAgain}
 use Rattle.lookup.specs.declared.Copied.the-variants as copied
 use Rattle.lookup.specs.declared.Info.{Info}
-use Rattle.lookup.specs.declared.KeyFound.the-variants as found
-use Rattle.lookup.specs.Paths.{isPath, partsOf}
 use Rattle.lookup.specs.declared.ValueFound.the-variants as valued
-use Rattle.lookup.specs.Answers.{findAnswer, infoOf, infoAnswer, viewAnswer, viewBytes, copyAnswer, copyOut}
-use Rattle.lookup.specs.Reach.{Holds, FirstNamed, FoundAgain}
+use Rattle.lookup.specs.Answers.{infoOf, infoAnswer, viewAnswer, viewBytes, copyAnswer, copyOut}
+use Rattle.lookup.specs.Reach.{FirstNamed}
 use Rattle.old_log.specs.Layout.{loggedCount}
 use Rattle.recovery.specs.declared.Started.the-variants as started
 use Rattle.recovery.specs.Calls.{startAnswer, closeHive}

@@ -13,10 +13,11 @@ use Rattle.sectors.specs.Sector.{page}
 use Rattle.cells.specs.Survey.{mapLeft}
 use Rattle.tree.specs.declared.Checked.the-variants as checked
 use Rattle.tree.specs.Tree.{checkAnswer}
+use Rattle.paths.specs.declared.KeyFound.the-variants as key
+use Rattle.paths.specs.Answers.{findAnswer}
 use Rattle.lookup.specs.declared.Copied.the-variants as copied
-use Rattle.lookup.specs.declared.KeyFound.the-variants as key
 use Rattle.lookup.specs.declared.ValueFound.the-variants as value
-use Rattle.lookup.specs.Answers.{findAnswer, infoAnswer, viewAnswer, viewBytes, copyAnswer, copyOut}
+use Rattle.lookup.specs.Answers.{infoAnswer, viewAnswer, viewBytes, copyAnswer, copyOut}
 use Rattle.listing.specs.declared.KeyFacts.the-variants as facts
 use Rattle.listing.specs.declared.Member.the-variants as member
 use Rattle.listing.specs.Members.{subkeyAnswer, valueAnswer, infoAnswer as infoAt, copyAnswer as copyAt, copyOut as outAt, factsAnswer}

@@ -10,9 +10,9 @@ use Rattle.names.specs.Codes.{codes}
 use Rattle.tree.specs.declared.Checked.{Checked}
 use Rattle.tree.specs.declared.Checked.the-variants as checked
 use Rattle.tree.specs.Tree.{checkAnswer}
-use Rattle.lookup.specs.declared.KeyFound.{KeyFound}
-use Rattle.lookup.specs.declared.KeyFound.the-variants as found
-use Rattle.lookup.specs.Answers.{findAnswer}
+use Rattle.paths.specs.declared.KeyFound.{KeyFound}
+use Rattle.paths.specs.declared.KeyFound.the-variants as found
+use Rattle.paths.specs.Answers.{findAnswer}
 use Rattle.recovery.specs.declared.Started.{Started}
 use Rattle.recovery.specs.declared.Started.the-variants as started
 use Rattle.recovery.specs.Calls.{startAnswer}

@@ -3,7 +3,7 @@ pub mod say;
 
 use fields::Offset;
 use fields::Refusal;
-use lookup::KeyFound;
+use paths::KeyFound;
 use recovery::Started;
 use tree::Checked;
 use tree::Report;
@@ -14,7 +14,7 @@ ghost use lib.ListN.{length, take, drop};
 ghost use Rattle.cells.specs.Survey.{mapLeft};
 ghost use Rattle.names.specs.Codes.{codes};
 ghost use Rattle.tree.specs.Tree.{checkAnswer};
-ghost use Rattle.lookup.specs.Answers.{findAnswer};
+ghost use Rattle.paths.specs.Answers.{findAnswer};
 ghost use Rattle.recovery.specs.Calls.{startAnswer};
 ghost use Rattle.frames.specs.Frames.{framed, frameOf, checkedLine, repairedLine, repairedHive, foundLine, someHive, heldIn, logLine, logHeld, pathLine, unitsLeft, lineOf, heldAfter, mapAfter, unitsAfter};
 
@@ -129,7 +129,7 @@ pub fn path_units(path: &[u8], units: &mut [u16])
 pub fn key_line(hive: &[u8], path: &[u16]) -> Line
     ensures { λ r. ⌜ r ≡ foundLine (findAnswer (now (hive .entry)) (now (path .entry))) ⌝ }
 {
-    match lookup::find_key(hive, path) {
+    match paths::find_key(hive, path) {
         KeyFound::At(o) => Line::KeyAt(o),
         KeyFound::Refused(r) => Line::Refused(r),
     }

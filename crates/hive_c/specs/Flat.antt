@@ -8,8 +8,8 @@ use Rattle.tree.specs.declared.Checked.{Checked}
 use Rattle.tree.specs.declared.Checked.the-variants as checked
 use Rattle.values.specs.declared.ValueData.{ValueData}
 use Rattle.values.specs.declared.ValueData.the-variants.{Inline, OneCell, Segments}
-use Rattle.lookup.specs.declared.KeyFound.{KeyFound}
-use Rattle.lookup.specs.declared.KeyFound.the-variants as key
+use Rattle.paths.specs.declared.KeyFound.{KeyFound}
+use Rattle.paths.specs.declared.KeyFound.the-variants as key
 use Rattle.lookup.specs.declared.ValueFound.{ValueFound}
 use Rattle.lookup.specs.declared.ValueFound.the-variants as value
 use Rattle.lookup.specs.declared.Copied.{Copied}

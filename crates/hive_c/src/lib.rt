@@ -23,8 +23,8 @@ use listing::KeyFacts;
 use listing::Member;
 use lookup::Copied;
 use lookup::Info;
-use lookup::KeyFound;
 use lookup::ValueFound;
+use paths::KeyFound;
 use recovery::NextMark;
 use recovery::NextPage;
 use recovery::Started;
@@ -35,7 +35,8 @@ ghost use mathlib.Core.Path.{_≡_};
 ghost use lib.ListN.{length};
 ghost use Rattle.cells.specs.Survey.{mapLeft};
 ghost use Rattle.tree.specs.Tree.{checkAnswer};
-ghost use Rattle.lookup.specs.Answers.{findAnswer, infoAnswer, viewAnswer, copyAnswer, copyOut};
+ghost use Rattle.paths.specs.Answers.{findAnswer};
+ghost use Rattle.lookup.specs.Answers.{infoAnswer, viewAnswer, copyAnswer, copyOut};
 ghost use Rattle.listing.specs.Members.{subkeyAnswer, valueAnswer, infoAnswer as infoAt, copyAnswer as copyAt, copyOut as outAt, factsAnswer};
 ghost use Rattle.recovery.specs.Calls.{startAnswer, pageAnswer, pageHive, closeAnswer, closeHive, nextAnswer};
 ghost use Rattle.recovery.specs.AtOnce.{allAnswer, allHive, markAnswer};
@@ -249,7 +250,7 @@ fn key_answer(k: KeyFound) -> HiveAnswer
 pub extern "C" fn hive_find_key(hive: &[u8], path: &[u16]) -> HiveAnswer
     ensures { λ r. ⌜ r ≡ keyIn (findAnswer (now (hive .entry)) (now (path .entry))) ⌝ }
 {
-    key_answer(lookup::find_key(hive, path))
+    key_answer(paths::find_key(hive, path))
 }
 
 fn form_of(d: ValueData) -> u32

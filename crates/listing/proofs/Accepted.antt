@@ -27,11 +27,11 @@ use Rattle.tree.specs.Tree.{keysIn, levels, hiveOf, keysOf}
 use Rattle.tree.specs.WellFormed.{KeyStands, TreeStands, key, CleanAndWellFormed}
 use Rattle.tree.proofs.Elements.{at-in}
 use Rattle.tree.proofs.Once.{in-joined}
-use Rattle.lookup.specs.declared.Look.{Look}
-use Rattle.lookup.specs.declared.Look.the-variants.{Found, Missing}
+use Rattle.paths.specs.declared.Look.{Look}
+use Rattle.paths.specs.declared.Look.the-variants.{Found, Missing}
+use Rattle.paths.proofs.Finds.{key-good, list-head, leaves-good}
 use Rattle.lookup.specs.declared.ValueFound.the-variants as value
 use Rattle.lookup.specs.Answers.{infoOf}
-use Rattle.lookup.proofs.Finds.{key-good, list-head, leaves-good}
 use Rattle.lookup.proofs.ValueFinds.{list-good, each-good, value-good}
 use Rattle.listing.specs.declared.Member.the-variants.{At, NoMore}
 use Rattle.listing.specs.Members.{entryOf, nthIn, nthBelow, childLook, subkeyAnswer, nthOf, valueLook, valueAnswer, infoAnswer}

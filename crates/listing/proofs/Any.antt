@@ -34,14 +34,15 @@ use Rattle.values.proofs.LawsValues.{name-inside}
 use Rattle.values.proofs.Refusals.{key-fit, key-unfit, list-fit, list-unfit, leaf-unfit, value-fit, value-unfit, value-list-unfit, value-named, data-unfit}
 use Rattle.tree.specs.Told.{Because}
 use Rattle.tree.proofs.Elements.{at-in}
+use Rattle.paths.specs.declared.Look.{Look}
+use Rattle.paths.specs.declared.Look.the-variants.{Found, Missing, Faulty}
+use Rattle.paths.specs.Search.{onSound}
+use Rattle.paths.proofs.Descents.{sound-found}
+use Rattle.paths.proofs.Refusals.{Each, each-found, each-missing, each-cond, each-sound, in-children}
 use Rattle.lookup.specs.declared.Copied.the-variants as copied
-use Rattle.lookup.specs.declared.Look.{Look}
-use Rattle.lookup.specs.declared.Look.the-variants.{Found, Missing, Faulty}
 use Rattle.lookup.specs.declared.ValueFound.the-variants as value
-use Rattle.lookup.specs.Search.{onSound}
 use Rattle.lookup.specs.Answers.{infoOf, infoWhere}
-use Rattle.lookup.proofs.Descents.{sound-found}
-use Rattle.lookup.proofs.Refusals.{Each, each-found, each-missing, each-cond, each-sound, in-children, copied-refuses}
+use Rattle.lookup.proofs.Refusals.{copied-refuses}
 use Rattle.lookup.proofs.Answered.{refused-stays}
 use Rattle.listing.specs.declared.Entry.{Entry}
 use Rattle.listing.specs.declared.Facts.{Facts}

@@ -48,9 +48,9 @@ use Rattle.values.proofs.LawsValues.{lies, name-inside}
 use Rattle.values.proofs.Rooms.{entries-length}
 use Rattle.values.proofs.Segment_faults.{listed, unlisted}
 use Rattle.values.proofs.Valued_at.{is-whole, is-flawed}
+use Rattle.paths.specs.declared.Look.the-variants.{Found, Missing, Faulty}
 use Rattle.lookup.specs.declared.Copied.the-variants as copied
 use Rattle.lookup.specs.declared.Info.{Info}
-use Rattle.lookup.specs.declared.Look.the-variants.{Found, Missing, Faulty}
 use Rattle.lookup.specs.declared.ValueFound.the-variants as found
 use Rattle.lookup.specs.Answers.{infoOf, infoWhere, copiedTo, written}
 use Rattle.lookup.proofs.Answered.{where-at}

@@ -7,8 +7,8 @@ use fields::Place;
 use fields::Refusal;
 use fields::Verdict;
 use lookup::Copied;
-use lookup::Look;
 use lookup::ValueFound;
+use paths::Look;
 use records::Headed;
 use records::Key;
 use records::Keyed;
@@ -140,7 +140,7 @@ pub fn nth_subkey(hive: &[u8], key: Offset, n: usize) -> Member
 {
     match base::base_flaw(hive) {
         Verdict::Flawed(f) => Member::Refused(fields::refused(f)),
-        Verdict::Sound => subkey_in(lookup::bins_of(hive), key, n),
+        Verdict::Sound => subkey_in(paths::bins_of(hive), key, n),
     }
 }
 
@@ -199,7 +199,7 @@ pub fn nth_value(hive: &[u8], key: Offset, n: usize) -> Member
 {
     match base::base_flaw(hive) {
         Verdict::Flawed(f) => Member::Refused(fields::refused(f)),
-        Verdict::Sound => value_in(lookup::bins_of(hive), lookup::minor_of(hive), key, n),
+        Verdict::Sound => value_in(paths::bins_of(hive), paths::minor_of(hive), key, n),
     }
 }
 
@@ -209,7 +209,7 @@ pub fn info_at(hive: &[u8], v: Offset) -> ValueFound
 {
     match base::base_flaw(hive) {
         Verdict::Flawed(f) => ValueFound::Refused(fields::refused(f)),
-        Verdict::Sound => lookup::info_at(lookup::bins_of(hive), lookup::minor_of(hive), v),
+        Verdict::Sound => lookup::info_at(paths::bins_of(hive), paths::minor_of(hive), v),
     }
 }
 
@@ -273,6 +273,6 @@ pub fn key_facts(hive: &[u8], key: Offset) -> KeyFacts
 {
     match base::base_flaw(hive) {
         Verdict::Flawed(f) => KeyFacts::Refused(fields::refused(f)),
-        Verdict::Sound => facts_in(lookup::bins_of(hive), key),
+        Verdict::Sound => facts_in(paths::bins_of(hive), key),
     }
 }

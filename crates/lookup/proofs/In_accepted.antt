@@ -1,19 +1,18 @@
--- Lookup in a hive that is clean and well formed, so in every hive that the check accepts: each call answers what the tree holds, and neither 11
--- nor 12 can occur.
-use Prim.Native.Nat.{ℕ, suc, _+_, _<_, _≤_}
+-- The value calls in a hive that is clean and well formed, so in every hive that the check accepts: each answers what the key of the path holds, and
+-- neither 11 nor 12 can occur.
+use Prim.Native.Nat.{ℕ, _<_, _≤_}
 use native.Mathlib.Omega.{arith}
 use mathlib.Core.Path.{_≡_, refl, sym, ap, _∙_}
 use mathlib.Core.Bool.{Bool, true, false, cond}
-use mathlib.Core.Logic.{_↔_, _⊎_, inl, inr, ⊎-elim}
-use mathlib.Core.List.{List, [], _∷_, _++_, List·Memᴰ, List·Memᴰ·head, List·Memᴰ·tail}
+use mathlib.Core.List.{List, [], _++_, List·Memᴰ, List·Memᴰ·head, List·Memᴰ·tail}
 use lib.Dec.{eqb}
 use lib.ListN.{length, take, drop}
 use borrow.Author.Tests.{eqb-true}
-use Rattle.fields.specs.declared.Fault.the-variants.{PathParts, NoKey, NoValue, Segmented, OutputShort}
+use Rattle.fields.specs.declared.Fault.the-variants.{NoValue, Segmented, OutputShort}
 use Rattle.fields.specs.declared.Offset.{Offset}
 use Rattle.fields.specs.declared.Refusal.{Refusal}
 use Rattle.fields.specs.declared.Verdict.the-variants.{Sound}
-use Rattle.fields.specs.Faults.{numberOf, flaw, nowhere, refusalOf, _next_}
+use Rattle.fields.specs.Faults.{flaw, nowhere, refusalOf, _next_}
 use Rattle.fields.proofs.Firsts.{on}
 use Rattle.base.specs.Block.{sector, minorOf, binsData}
 use Rattle.cells.specs.declared.Rule.the-variants.{Header}
@@ -24,32 +23,24 @@ use Rattle.values.specs.declared.ValueData.the-variants.{Inline, OneCell, Segme
 use Rattle.values.specs.Records.{dataIn, valueOf}
 use Rattle.values.specs.Segments.{dataFault, segmentsOf, joinedBytes, bytesOf, lengthOf}
 use Rattle.values.specs.Lists.{valuesOf}
-use Rattle.tree.specs.declared.Checked.the-variants.{Accepted}
-use Rattle.tree.specs.declared.Hive.{Hive}
-use Rattle.tree.specs.declared.Report.{Report}
-use Rattle.tree.specs.Tree.{levels, hiveOf, keysOf, checkAnswer}
-use Rattle.tree.specs.WellFormed.{CleanAndWellFormed, ValuesStand, KeyStands, TreeStands, key}
-use Rattle.tree.proofs.Exactly.{accepted-formed}
+use Rattle.tree.specs.Tree.{levels, hiveOf}
+use Rattle.tree.specs.WellFormed.{CleanAndWellFormed, ValuesStand}
+use Rattle.paths.specs.declared.KeyFound.the-variants.{At}
+use Rattle.paths.specs.declared.Look.the-variants.{Found}
+use Rattle.paths.specs.Paths.{partsOf}
+use Rattle.paths.specs.Answers.{keyLook, findAnswer}
+use Rattle.paths.proofs.Exact.{find-exactly, found-look-is}
+use Rattle.paths.proofs.In_accepted.{holds-stands}
 use Rattle.lookup.specs.declared.Copied.the-variants.{Done, Refused as Uncopied}
 use Rattle.lookup.specs.declared.Info.{Info}
-use Rattle.lookup.specs.declared.KeyFound.the-variants.{At, Refused}
-use Rattle.lookup.specs.declared.Look.the-variants.{Found}
 use Rattle.lookup.specs.declared.ValueFound.the-variants.{At as ValueAt, Refused as Unvalued}
-use Rattle.lookup.specs.Paths.{partsOf, isPath}
-use Rattle.lookup.specs.Answers.{keyLook, findAnswer, valueLook, infoOf, viewFault, infoAnswer, viewAnswer, viewBytes, copyAnswer, copyOut}
-use Rattle.lookup.specs.Reach.{Holds, here, below, FirstNamed, first, later, FoundAgain}
-use Rattle.lookup.proofs.Exact.{find-malformed, find-exactly, find-none, find-refuses, found-look-is}
-use Rattle.lookup.proofs.Listed.{listed-found}
+use Rattle.lookup.specs.Answers.{valueLook, infoOf, viewFault, infoAnswer, viewAnswer, viewBytes, copyAnswer, copyOut}
+use Rattle.lookup.specs.Reach.{FirstNamed, first, later}
 use Rattle.lookup.proofs.ValueFinds.{value-exactly, value-none, data-good}
 use Rattle.lookup.proofs.Value_searches.{value-below}
 use Rattle.lookup.proofs.Value_answers.{info-missing}
 use Rattle.lookup.proofs.Answered.{content-as, info-answered, copy-short, copy-done, copy-written}
 use Rattle.lookup.proofs.Agree.{view-is}
-
--- a key that is held under a path stands
-holds-stands : (d : List ℕ) (hive : Hive) (n : ℕ) (o e : Offset) (xs : List (List ℕ)) → TreeStands d hive n o → Holds d o xs e → KeyStands d (hive .minor) e
-holds-stands d hive (suc n) o e xs (key s a ch tree) here = s
-holds-stands d hive (suc n) o e (x ∷ xs) (key s a ch tree) (below {c = c} i q r) = holds-stands d hive n (c .at) e xs (tree c i) r
 
 -- the first value of a name is one of the values
 first-in : {d : List ℕ} {minor : ℕ} {x : List ℕ} {vs : List Offset} {v : Offset} → FirstNamed d minor x vs v → List·Memᴰ v vs
@@ -64,26 +55,6 @@ unsegmented v (OneCell o len) f = refl
 unsegmented v (Segments o len) f = absurd (f o len refl)
 
 module _ (h : List ℕ) (w : CleanAndWellFormed h) (us : List ℕ) where
-  -- ---- keys
-
-  -- a path that is no path is 16, one under which the tree holds no key is 17; nothing else is refused
-  pub find-refused : {f : Refusal} → findAnswer h us ≡ Refused f
-      → ((isPath us ≡ false) × (f ≡ refusalOf (flaw PathParts nowhere)))
-      ⊎ ((isPath us ≡ true) × ((o : Offset) → Holds (binsData h) (hiveOf h .root) (partsOf us) o → ⊥) × (f ≡ refusalOf (flaw NoKey nowhere)))
-  unfolding findAnswer
-  find-refused {f} e = by (isPath us) refl
-    where
-      by : (t : Bool) → isPath us ≡ t
-          → ((isPath us ≡ false) × (f ≡ refusalOf (flaw PathParts nowhere)))
-          ⊎ ((isPath us ≡ true) × ((o : Offset) → Holds (binsData h) (hiveOf h .root) (partsOf us) o → ⊥) × (f ≡ refusalOf (flaw NoKey nowhere)))
-      by false p =
-          let q = sym (find-malformed h w us p) ∙ e in
-          inl (p, let z : refusalOf (flaw PathParts nowhere) ≡ f = cc in sym z)
-      by true p =
-          let none = find-refuses h w us .0 (f, e) in
-          let q = sym (find-none h w us p none) ∙ e in
-          inr (p, none, let z : refusalOf (flaw NoKey nowhere) ≡ f = cc in sym z)
-
   -- ---- values of the key that is found
   module _ (o : Offset) (found : findAnswer h us ≡ At o) where
     at : keyLook h us ≡ Found o
@@ -202,20 +173,3 @@ module _ (h : List ℕ) (w : CleanAndWellFormed h) (us : List ℕ) where
             → copyOut h us x out ≡ joinedBytes (binsData h) (segmentsOf (binsData h) a n) ++ drop n out
         unfolding bytesOf
         segments-copied a n e out p = copied out (rw e p) ∙ rw e
-
--- ---- of a hive that the check accepts
-module _ (h m : List ℕ) {r : Report} (accepted : checkAnswer h m ≡ Accepted r) where
-  formed : CleanAndWellFormed h
-  formed = accepted-formed h m accepted
-
-  pub accepted-finds : (us : List ℕ) (o : Offset) → (findAnswer h us ≡ At o) ↔ Holds (binsData h) (hiveOf h .root) (partsOf us) o
-  accepted-finds us = find-exactly h formed us
-
-  -- no 11 or 12 can occur there
-  pub accepted-refuses : (us : List ℕ) {f : Refusal} → findAnswer h us ≡ Refused f → (numberOf (f .fault) ≡ 16) ⊎ (numberOf (f .fault) ≡ 17)
-  accepted-refuses us e =
-      ⊎-elim (λ q. inl (ap (λ (g : Refusal). numberOf (g .fault)) (q .1))) (λ q. inr (ap (λ (g : Refusal). numberOf (g .fault)) (q .2)))
-      (find-refused h formed us e)
-
-  pub accepted-listed : (k : Offset) → List·Memᴰ k (keysOf h) → FoundAgain h k
-  accepted-listed k i = listed-found h formed k i

@@ -1,12 +1,11 @@
--- Every refusal of lookup and of the value calls says why.
+-- Every refusal of the value calls says why.
 use Prim.Native.Nat.{ℕ, _<_}
 use native.Mathlib.Omega.{arith}
-use mathlib.Core.Path.{_≡_, refl, sym, ap, _∙_, subst}
-use mathlib.Core.Bool.{Bool, true, false, cond}
-use mathlib.Core.Logic.{⊎-elim}
-use mathlib.Core.List.{List, [], _∷_, List·Memᴰ, List·Memᴰ·head, List·Memᴰ·tail, List·Memᴰ·cases-cons, List·Memᴰ·not-nil, Memᴰ·append-left, Memᴰ·append-right}
-use lib.Dec.{eqb, leb}
-use borrow.Author.Tests.{eqb-false, leb-false}
+use mathlib.Core.Path.{_≡_, refl, sym, _∙_, subst}
+use mathlib.Core.Bool.{Bool, true, false}
+use mathlib.Core.List.{List, []}
+use lib.Dec.{leb}
+use borrow.Author.Tests.{leb-false}
 use Rattle.fields.specs.declared.Fault.the-variants.{NoKey, NoValue, OutputShort}
 use Rattle.fields.specs.declared.Flaw.{Flaw}
 use Rattle.fields.specs.declared.Offset.{Offset}
@@ -14,40 +13,35 @@ use Rattle.fields.specs.declared.Refusal.{Refusal}
 use Rattle.fields.specs.declared.Verdict.{Verdict}
 use Rattle.fields.specs.declared.Verdict.the-variants.{Sound, Flawed}
 use Rattle.fields.specs.Faults.{flaw, nowhere, refusalOf, _next_}
-use Rattle.fields.proofs.Every.{Every, every-sound, every-flaw, every-unless, every-next}
-use Rattle.base.specs.Block.{sector, minorOf, binsData, baseFault}
-use Rattle.base.proofs.Refusals.{base-refuses}
+use Rattle.fields.proofs.Every.{Every, every-sound, every-flaw, every-next}
+use Rattle.base.specs.Block.{sector, minorOf, binsData}
 use Rattle.cells.specs.declared.Rule.the-variants.{Header}
-use Rattle.cells.specs.Named.{dataAt}
 use Rattle.cells.proofs.Refusals.{Ruled, by-header}
-use Rattle.names.specs.declared.Order.the-variants.{Same}
-use Rattle.names.specs.Comparison.{compare, sameName}
-use Rattle.records.specs.declared.Child.{Child}
-use Rattle.records.specs.Keys.{keyFault, keyOf, codesOf}
-use Rattle.records.specs.Lists.{leafFault, headFault, leafChildren, leavesOf, childrenIn, leavesBelow, childrenBelow, children}
+use Rattle.names.specs.Comparison.{sameName}
+use Rattle.records.specs.Keys.{keyOf, codesOf}
 use Rattle.values.specs.declared.ValueData.{ValueData}
 use Rattle.values.specs.declared.ValueData.the-variants.{Inline, OneCell, Segments}
 use Rattle.values.specs.Records.{valueFault, dataIn, valueOf}
 use Rattle.values.specs.Segments.{dataFault}
 use Rattle.values.specs.Lists.{valuesOf, valueListFault}
-use Rattle.values.specs.Refused.{a-key, Fit, one-of, its-list, its-leaf, its-child}
-use Rattle.values.proofs.Refusals.{key-fit, key-unfit, list-fit, list-unfit, leaf-unfit, value-fit, value-unfit, value-list-unfit, value-named, data-unfit}
-use Rattle.tree.specs.Tree.{nameAt, hiveOf}
+use Rattle.values.specs.Refused.{one-of}
+use Rattle.values.proofs.Refusals.{value-fit, value-unfit, value-list-unfit, value-named, data-unfit}
 use Rattle.tree.specs.Told.{Because}
+use Rattle.paths.specs.declared.KeyFound.the-variants.{At}
+use Rattle.paths.specs.declared.Look.{Look}
+use Rattle.paths.specs.declared.Look.the-variants.{Found, Missing, Faulty}
+use Rattle.paths.specs.Answers.{keyLook, findAnswer}
+use Rattle.paths.specs.Refused.{no-key}
+use Rattle.paths.proofs.Descents.{sound-found}
+use Rattle.paths.proofs.Opens.{find-at}
+use Rattle.paths.proofs.Refusals.{Each, each-found, each-missing, each-cond, each-sound, each-first, look-each}
 use Rattle.lookup.specs.declared.Copied.the-variants.{Refused as Uncopied}
 use Rattle.lookup.specs.declared.Info.{Info}
-use Rattle.lookup.specs.declared.KeyFound.the-variants.{At, Refused}
-use Rattle.lookup.specs.declared.Look.{Look}
-use Rattle.lookup.specs.declared.Look.the-variants.{Found, Missing, Faulty}
 use Rattle.lookup.specs.declared.ValueFound.{ValueFound}
 use Rattle.lookup.specs.declared.ValueFound.the-variants.{At as ValueAt, Refused as Unvalued}
-use Rattle.lookup.specs.Paths.{isPath, pathFault, partsOf}
-use Rattle.lookup.specs.Search.{onSound, orElse, onFound, firstOf, keyNamed, searchLeaf, searchLeaves, searchBelow, descend, lookupKey, valueNamed, lookupValue}
-use Rattle.lookup.specs.Answers.{openFault, keyLook, keyFound, findAnswer, onKey, valueLook, viewFault, infoWhere, valueFound, infoAnswer, viewAnswer, copiedTo, copyAnswer}
-use Rattle.lookup.specs.Refused.{OnWay, the-root, a-child, OfKey, of-base, no-path, of-root, of-lists, no-key, Finds, OfValue, of-key, of-values, of-data, no-value, OfView, as-value, segmented, OfCopy, as-info, too-short}
-use Rattle.lookup.proofs.Descents.{first-at, sound-found, below-tested}
-use Rattle.lookup.proofs.Finds.{named-in}
-use Rattle.lookup.proofs.Opens.{find-at}
+use Rattle.lookup.specs.Search.{valueNamed, lookupValue}
+use Rattle.lookup.specs.Answers.{onKey, valueLook, viewFault, infoWhere, valueFound, infoAnswer, viewAnswer, copiedTo, copyAnswer}
+use Rattle.lookup.specs.Refused.{Finds, OfValue, of-key, of-values, of-data, no-value, OfView, as-value, segmented, OfCopy, as-info, too-short}
 use Rattle.lookup.proofs.ValueFinds.{found-first}
 use Rattle.lookup.proofs.Value_searches.{value-facts}
 
@@ -63,210 +57,87 @@ copied-refuses P n (ValueAt i) p s {r} q = cut (leb (i .len) n) refl
         let y = rw e at q in
         (flaw OutputShort nowhere, let z : refusalOf (flaw OutputShort nowhere) ≡ r = cc in sym z, s i refl (leb-false _ _ e))
 
--- ---- all faults of a look
-module _ (P : Flaw → Type 0) where
-  abbrev pub Each : Look → Type 0
-  Each l = (f : Flaw) → l ≡ Faulty f → P f
-
-  pub each-found : (o : Offset) → Each (Found o)
-  each-found o f e = absurd (let z : _≡_ {A = ℕ} 0 1 = cc in omega arith)
-
-  pub each-missing : Each Missing
-  each-missing f e = absurd (let z : _≡_ {A = ℕ} 0 1 = cc in omega arith)
-
-  pub each-cond : (t : Bool) (a b : Look) → (t ≡ true → Each a) → (t ≡ false → Each b) → Each (cond t a b)
-  each-cond true a b p q = p refl
-  each-cond false a b p q = q refl
-
-  pub each-sound : (v : Verdict) (l : Look) → Every P v → (v ≡ Sound → Each l) → Each (onSound v l)
-  each-sound Sound l p q = q refl
-  each-sound (Flawed g) l p q = λ f e. p f (let z : g ≡ f = cc in ap Flawed z)
-
-  each-first : {A : Type 0} (each : A → Look) (xs : List A) → ((x : A) → List·Memᴰ x xs → Each (each x)) → Each (firstOf each xs)
-  unfolding firstOf orElse
-  each-first each [] p = each-missing
-  each-first each (x ∷ xs) p = by (each x) refl (each-first each xs (λ y i. p y (List·Memᴰ·tail i)))
-    where
-      by : (w : Look) → each x ≡ w → Each (firstOf each xs) → Each (orElse w (firstOf each xs))
-      by (Found o) q rest = each-found o
-      by Missing q rest = rest
-      by (Faulty g) q rest = λ f e. p x (List·Memᴰ·head refl) f (q ∙ e)
-
-  each-on : (l : Look) (go : Offset → Look) → Each l → ((o : Offset) → l ≡ Found o → Each (go o)) → Each (onFound l go)
-  unfolding onFound
-  each-on (Found o) go p q = q o refl
-  each-on Missing go p q = each-missing
-  each-on (Faulty g) go p q = p
-
--- ---- a leaf's keys are its key's
-module _ (d : List ℕ) where
-  in-leaves : (ls : List Offset) {l : Offset} {c : Child} → List·Memᴰ l ls → List·Memᴰ c (leafChildren (dataAt d l)) → List·Memᴰ c (childrenIn d ls)
-  unfolding childrenIn
-  in-leaves [] i j = absurd (List·Memᴰ·not-nil i)
-  in-leaves (b ∷ ls) {l} {c} i j =
-      ⊎-elim
-      (λ (e : l ≡ b). Memᴰ·append-left (childrenIn d ls) (subst (λ (o : Offset). List·Memᴰ c (leafChildren (dataAt d o))) e j))
-      (λ k. Memᴰ·append-right (leafChildren (dataAt d b)) (in-leaves ls k j))
-      (List·Memᴰ·cases-cons i)
-
-  below-are : (k : Offset) → eqb (keyOf d k .subkeys) 0 ≡ false → childrenIn d (leavesOf d (keyOf d k .list)) ≡ children d k
-  unfolding childrenBelow leavesBelow
-  below-are k z = rw z
-
-  pub in-children : (k : Offset) → eqb (keyOf d k .subkeys) 0 ≡ false → {c : Child} → List·Memᴰ c (childrenIn d (leavesOf d (keyOf d k .list))) → List·Memᴰ c (children d k)
-  in-children k z {c} i = subst (λ (cs : List Child). List·Memᴰ c cs) (below-are k z) i
-
 -- ---- the searches
-module _ (h us : List ℕ) where
+module _ (h us x : List ℕ) where
   ruled : Ruled Header (binsData h) []
   ruled = by-header (binsData h) []
 
-  below-each : {x : List ℕ} {xs : List (List ℕ)} (k : Offset) → OnWay h us (x ∷ xs) k → Each (OfKey h us) (searchBelow (binsData h) x (keyOf (binsData h) k))
-  unfolding searchBelow searchLeaf keyNamed
-  below-each {x} k w =
+  value-each : (k : Offset) → findAnswer h us ≡ At k → Each (OfValue h us x) (lookupValue (binsData h) (minorOf (sector h)) x (keyOf (binsData h) k))
+  unfolding lookupValue valueNamed
+  value-each k w =
       let d = binsData h in
-      let o = keyOf d k .list in
-      each-cond (OfKey h us) (eqb (keyOf d k .subkeys) 0) Missing _ (λ z. each-missing (OfKey h us))
-      (λ z. each-sound (OfKey h us) (headFault Header d [] o) _ (λ f e. of-lists w (one-of (its-list (eqb-false _ _ z)) (list-unfit Header d [] ruled o f e)))
-      (λ s. each-first (OfKey h us) (searchLeaf d x) (leavesOf d o)
-      (λ l i. each-sound (OfKey h us) (leafFault Header d [] l) _
-      (λ f e. of-lists w (one-of (its-leaf (eqb-false _ _ z) (list-fit Header d [] ruled o s) i) (leaf-unfit Header d [] ruled l f e)))
-      (λ t. each-first (OfKey h us) (keyNamed d x) (leafChildren (dataAt d l))
-      (λ c j. each-sound (OfKey h us) (keyFault Header d [] (c .at)) _
-      (λ f e. of-lists w (one-of (its-child (in-children d k z (in-leaves d (leavesOf d o) i j))) (key-unfit Header d [] ruled (c .at) f e)))
-      (λ u. each-cond (OfKey h us) (sameName (nameAt d (c .at)) x) (Found (c .at)) Missing (λ y. each-found (OfKey h us) (c .at)) (λ y. each-missing (OfKey h us))))))))
+      let P = OfValue h us x in
+      each-sound P (valueListFault Header d [] (keyOf d k)) _ (λ f e. of-values w (value-list-unfit Header d [] ruled k f e))
+      (λ s. each-first P (valueNamed d (minorOf (sector h)) x) (valuesOf d (keyOf d k))
+      (λ v i. each-sound P (valueFault Header d [] v) _ (λ f e. of-values w (one-of (value-named Header d [] ruled k v s i) (value-unfit Header d [] ruled v f e)))
+      (λ t. each-cond P (sameName (codesOf d (valueOf d (minorOf (sector h)) v .name)) x) (Found v) Missing (λ y. each-found P v) (λ y. each-missing P))))
 
-  -- what is found below a key is one of its children, of that name
-  below-found : (x : List ℕ) (k : Offset) {o : Offset} → searchBelow (binsData h) x (keyOf (binsData h) k) ≡ Found o
-      → (c : Child) × List·Memᴰ c (children (binsData h) k) × (o ≡ c .at) × (compare (nameAt (binsData h) (c .at)) x ≡ Same)
-  unfolding searchBelow searchLeaf
-  below-found x k {o} e = by (eqb (keyOf (binsData h) k .subkeys) 0) refl e
+  value-look-each : Each (OfValue h us x) (valueLook h us x)
+  unfolding valueLook
+  value-look-each = by (keyLook h us) refl
     where
-      by : (t : Bool) → eqb (keyOf (binsData h) k .subkeys) 0 ≡ t
-          → cond t Missing (onSound (headFault Header (binsData h) [] (keyOf (binsData h) k .list)) (searchLeaves (binsData h) x (leavesOf (binsData h) (keyOf (binsData h) k .list)))) ≡ Found o
-          → (c : Child) × List·Memᴰ c (children (binsData h) k) × (o ≡ c .at) × (compare (nameAt (binsData h) (c .at)) x ≡ Same)
-      by true z q = absurd (let y : _≡_ {A = ℕ} 0 1 = cc in omega arith)
-      by false z q =
-          let d = binsData h in
-          let ls = leavesOf d (keyOf d k .list) in
-          let l = first-at (searchLeaf d x) ls (sound-found (headFault Header d [] (keyOf d k .list)) _ q .1) in
-          let c = first-at (keyNamed d x) (leafChildren (dataAt d (l .0))) (sound-found (leafFault Header d [] (l .0)) _ (l .1) .1) in
-          let n = named-in d x (c .0) (c .1) in
-          (c .0, in-children d k z (in-leaves d ls (l .2) (c .2)), n .0, n .1)
+      by : (l : Look) → keyLook h us ≡ l → Each (OfValue h us x) (onKey l (λ o. lookupValue (binsData h) (minorOf (sector h)) x (keyOf (binsData h) o)))
+      by (Found o) p = value-each o (find-at h us p)
+      by Missing p = λ f q. let z : flaw NoKey nowhere ≡ f = cc in subst (λ (g : Flaw). OfValue h us x g) z (of-key (no-key p))
+      by (Faulty g) p = λ f q. of-key (look-each h us f (p ∙ q))
 
-  descend-each : (k : Offset) (xs : List (List ℕ)) → OnWay h us xs k → Each (OfKey h us) (descend (binsData h) k xs)
-  unfolding descend
-  descend-each k [] w = each-found (OfKey h us) k
-  descend-each k (x ∷ xs) w =
-      each-on (OfKey h us) (searchBelow (binsData h) x (keyOf (binsData h) k)) _ (below-each k w)
-      (λ o e. let c = below-found x k e in
-      let g = key-fit Header (binsData h) [] ruled o (below-tested (binsData h) x (keyOf (binsData h) k) e) in
-      descend-each o xs (onto (c .0) o (sym (c .2)) (λ y. a-child w (c .1) (c .3) y) g))
+  -- the value that is found
+  finds : {v : Offset} → valueLook h us x ≡ Found v → Finds h us x v
+  unfolding valueLook lookupValue
+  finds {v} e = by (keyLook h us) refl e
     where
-      onto : (c : Child) (o : Offset) → c .at ≡ o → (Fit Header (binsData h) a-key (c .at) → OnWay h us xs (c .at)) → Fit Header (binsData h) a-key o → OnWay h us xs o
-      onto c o e f g = subst (λ (y : Offset). OnWay h us xs y) e (f (subst (λ (y : Offset). Fit Header (binsData h) a-key y) (sym e) g))
+      by : (l : Look) → keyLook h us ≡ l → onKey l (λ o. lookupValue (binsData h) (minorOf (sector h)) x (keyOf (binsData h) o)) ≡ Found v → Finds h us x v
+      by (Found o) p q =
+          record {
+            key = o;
+            found = find-at h us p;
+            first-of = found-first (binsData h) (minorOf (sector h)) x (valuesOf (binsData h) (keyOf (binsData h) o)) (sound-found (valueListFault Header (binsData h) [] (keyOf (binsData h) o)) _ q .1);
+            fit = value-fit Header (binsData h) [] ruled v (value-facts h us x e .1);
+          }
+      by Missing p q = absurd (let z : _≡_ {A = ℕ} 0 1 = cc in omega arith)
+      by (Faulty g) p q = absurd (let z : _≡_ {A = ℕ} 0 1 = cc in omega arith)
 
-  open-each : Every (OfKey h us) (openFault h us)
-  unfolding openFault pathFault
-  open-each =
-      every-next (OfKey h us) (baseFault h) _ (λ f e. of-base (base-refuses h f e))
-      (λ s. every-unless (OfKey h us) (isPath us) _ (λ e. no-path e))
-
-  look-each : Each (OfKey h us) (keyLook h us)
-  unfolding keyLook lookupKey
-  look-each =
-      each-sound (OfKey h us) (openFault h us) _ open-each
-      (λ a. each-sound (OfKey h us) (keyFault Header (binsData h) [] (hiveOf h .root)) _ (λ f e. of-root (key-unfit Header (binsData h) [] ruled (hiveOf h .root) f e))
-      (λ b. descend-each (hiveOf h .root) (partsOf us) (the-root (key-fit Header (binsData h) [] ruled (hiveOf h .root) b))))
-
-  -- find_key
-  pub find-refuses : {r : Refusal} → findAnswer h us ≡ Refused r → Because (OfKey h us) r
-  unfolding findAnswer
-  find-refuses {r} e = by (keyLook h us) refl e
+  -- the answers, by the value that is found
+  found-refuses : (P : Flaw → Type 0) → ((f : Flaw) → OfValue h us x f → P f) → (go : Offset → ValueFound)
+      → ((v : Offset) → Finds h us x v → (r : Refusal) → go v ≡ Unvalued r → Because P r) → (r : Refusal) → valueFound (valueLook h us x) go ≡ Unvalued r → Because P r
+  found-refuses P up go each r e = by (valueLook h us x) refl e
     where
-      by : (l : Look) → keyLook h us ≡ l → keyFound l ≡ Refused r → Because (OfKey h us) r
-      by (Found o) p q = absurd (let z : _≡_ {A = ℕ} 0 1 = cc in omega arith)
-      by Missing p q = (flaw NoKey nowhere, let z : refusalOf (flaw NoKey nowhere) ≡ r = cc in sym z, no-key p)
-      by (Faulty g) p q = (g, let z : refusalOf g ≡ r = cc in sym z, look-each g p)
+      by : (l : Look) → valueLook h us x ≡ l → valueFound l go ≡ Unvalued r → Because P r
+      by (Found v) p q = each v (finds p) r q
+      by Missing p q = (flaw NoValue nowhere, let z : refusalOf (flaw NoValue nowhere) ≡ r = cc in sym z, up (flaw NoValue nowhere) (no-value p))
+      by (Faulty g) p q = (g, let z : refusalOf g ≡ r = cc in sym z, up g (value-look-each g p))
 
-  -- ---- values
-  module _ (x : List ℕ) where
-    value-each : (k : Offset) → findAnswer h us ≡ At k → Each (OfValue h us x) (lookupValue (binsData h) (minorOf (sector h)) x (keyOf (binsData h) k))
-    unfolding lookupValue valueNamed
-    value-each k w =
-        let d = binsData h in
-        let P = OfValue h us x in
-        each-sound P (valueListFault Header d [] (keyOf d k)) _ (λ f e. of-values w (value-list-unfit Header d [] ruled k f e))
-        (λ s. each-first P (valueNamed d (minorOf (sector h)) x) (valuesOf d (keyOf d k))
-        (λ v i. each-sound P (valueFault Header d [] v) _ (λ f e. of-values w (one-of (value-named Header d [] ruled k v s i) (value-unfit Header d [] ruled v f e)))
-        (λ t. each-cond P (sameName (codesOf d (valueOf d (minorOf (sector h)) v .name)) x) (Found v) Missing (λ y. each-found P v) (λ y. each-missing P))))
+  where-refuses : (P : Flaw → Type 0) (v : Verdict) (i : Info) → Every P v → (r : Refusal) → infoWhere v i ≡ Unvalued r → Because P r
+  where-refuses P Sound i p r q = absurd (let z : _≡_ {A = ℕ} 0 1 = cc in omega arith)
+  where-refuses P (Flawed g) i p r q = (g, let z : refusalOf g ≡ r = cc in sym z, p g refl)
 
-    value-look-each : Each (OfValue h us x) (valueLook h us x)
-    unfolding valueLook
-    value-look-each = by (keyLook h us) refl
-      where
-        by : (l : Look) → keyLook h us ≡ l → Each (OfValue h us x) (onKey l (λ o. lookupValue (binsData h) (minorOf (sector h)) x (keyOf (binsData h) o)))
-        by (Found o) p = value-each o (find-at h us p)
-        by Missing p = λ f q. let z : flaw NoKey nowhere ≡ f = cc in subst (λ (g : Flaw). OfValue h us x g) z (of-key (no-key p))
-        by (Faulty g) p = λ f q. of-key (look-each f (p ∙ q))
+  data-each : (v : Offset) → Finds h us x v → Every (OfValue h us x) (dataFault Header (binsData h) [] (dataIn (binsData h) (minorOf (sector h)) v))
+  data-each v w f e = of-data w (data-unfit Header (binsData h) [] ruled (dataIn (binsData h) (minorOf (sector h)) v) f e)
 
-    -- the value that is found
-    finds : {v : Offset} → valueLook h us x ≡ Found v → Finds h us x v
-    unfolding valueLook lookupValue
-    finds {v} e = by (keyLook h us) refl e
-      where
-        by : (l : Look) → keyLook h us ≡ l → onKey l (λ o. lookupValue (binsData h) (minorOf (sector h)) x (keyOf (binsData h) o)) ≡ Found v → Finds h us x v
-        by (Found o) p q =
-            record {
-              key = o;
-              found = find-at h us p;
-              first-of = found-first (binsData h) (minorOf (sector h)) x (valuesOf (binsData h) (keyOf (binsData h) o)) (sound-found (valueListFault Header (binsData h) [] (keyOf (binsData h) o)) _ q .1);
-              fit = value-fit Header (binsData h) [] ruled v (value-facts h us x e .1);
-            }
-        by Missing p q = absurd (let z : _≡_ {A = ℕ} 0 1 = cc in omega arith)
-        by (Faulty g) p q = absurd (let z : _≡_ {A = ℕ} 0 1 = cc in omega arith)
+  -- value_info
+  pub info-refuses : {r : Refusal} → infoAnswer h us x ≡ Unvalued r → Because (OfValue h us x) r
+  unfolding infoAnswer
+  info-refuses {r} =
+      found-refuses (OfValue h us x) (λ f p. p) _
+      (λ v w. where-refuses (OfValue h us x) (dataFault Header (binsData h) [] (dataIn (binsData h) (minorOf (sector h)) v)) _ (data-each v w)) r
 
-    -- the answers, by the value that is found
-    found-refuses : (P : Flaw → Type 0) → ((f : Flaw) → OfValue h us x f → P f) → (go : Offset → ValueFound)
-        → ((v : Offset) → Finds h us x v → (r : Refusal) → go v ≡ Unvalued r → Because P r) → (r : Refusal) → valueFound (valueLook h us x) go ≡ Unvalued r → Because P r
-    found-refuses P up go each r e = by (valueLook h us x) refl e
-      where
-        by : (l : Look) → valueLook h us x ≡ l → valueFound l go ≡ Unvalued r → Because P r
-        by (Found v) p q = each v (finds p) r q
-        by Missing p q = (flaw NoValue nowhere, let z : refusalOf (flaw NoValue nowhere) ≡ r = cc in sym z, up (flaw NoValue nowhere) (no-value p))
-        by (Faulty g) p q = (g, let z : refusalOf g ≡ r = cc in sym z, up g (value-look-each g p))
+  view-each : (v : Offset) → Finds h us x v → (y : ValueData) → dataIn (binsData h) (minorOf (sector h)) v ≡ y → Every (OfView h us x) (viewFault v y)
+  unfolding viewFault
+  view-each v w (Inline at len) e = every-sound (OfView h us x)
+  view-each v w (OneCell o len) e = every-sound (OfView h us x)
+  view-each v w (Segments o len) e = every-flaw (OfView h us x) (segmented w e)
 
-    where-refuses : (P : Flaw → Type 0) (v : Verdict) (i : Info) → Every P v → (r : Refusal) → infoWhere v i ≡ Unvalued r → Because P r
-    where-refuses P Sound i p r q = absurd (let z : _≡_ {A = ℕ} 0 1 = cc in omega arith)
-    where-refuses P (Flawed g) i p r q = (g, let z : refusalOf g ≡ r = cc in sym z, p g refl)
+  -- view_info
+  pub view-refuses : {r : Refusal} → viewAnswer h us x ≡ Unvalued r → Because (OfView h us x) r
+  unfolding viewAnswer
+  view-refuses {r} =
+      found-refuses (OfView h us x) (λ f p. as-value p) _
+      (λ v w. let y = dataIn (binsData h) (minorOf (sector h)) v in
+      where-refuses (OfView h us x) (viewFault v y next dataFault Header (binsData h) [] y) _
+      (every-next (OfView h us x) (viewFault v y) _ (view-each v w y refl) (λ s f e. as-value (data-each v w f e)))) r
 
-    data-each : (v : Offset) → Finds h us x v → Every (OfValue h us x) (dataFault Header (binsData h) [] (dataIn (binsData h) (minorOf (sector h)) v))
-    data-each v w f e = of-data w (data-unfit Header (binsData h) [] ruled (dataIn (binsData h) (minorOf (sector h)) v) f e)
-
-    -- value_info
-    pub info-refuses : {r : Refusal} → infoAnswer h us x ≡ Unvalued r → Because (OfValue h us x) r
-    unfolding infoAnswer
-    info-refuses {r} =
-        found-refuses (OfValue h us x) (λ f p. p) _
-        (λ v w. where-refuses (OfValue h us x) (dataFault Header (binsData h) [] (dataIn (binsData h) (minorOf (sector h)) v)) _ (data-each v w)) r
-
-    view-each : (v : Offset) → Finds h us x v → (y : ValueData) → dataIn (binsData h) (minorOf (sector h)) v ≡ y → Every (OfView h us x) (viewFault v y)
-    unfolding viewFault
-    view-each v w (Inline at len) e = every-sound (OfView h us x)
-    view-each v w (OneCell o len) e = every-sound (OfView h us x)
-    view-each v w (Segments o len) e = every-flaw (OfView h us x) (segmented w e)
-
-    -- view_info
-    pub view-refuses : {r : Refusal} → viewAnswer h us x ≡ Unvalued r → Because (OfView h us x) r
-    unfolding viewAnswer
-    view-refuses {r} =
-        found-refuses (OfView h us x) (λ f p. as-value p) _
-        (λ v w. let y = dataIn (binsData h) (minorOf (sector h)) v in
-        where-refuses (OfView h us x) (viewFault v y next dataFault Header (binsData h) [] y) _
-        (every-next (OfView h us x) (viewFault v y) _ (view-each v w y refl) (λ s f e. as-value (data-each v w f e)))) r
-
-    -- value_copy
-    pub copy-refuses : (n : ℕ) {r : Refusal} → copyAnswer h us x n ≡ Uncopied r → Because (OfCopy h us x n) r
-    unfolding copyAnswer
-    copy-refuses n =
-        copied-refuses (OfCopy h us x n) n (infoAnswer h us x) (λ g p. let w = info-refuses p in (w .0, w .1, as-info (w .2))) (λ i p s. too-short p s)
+  -- value_copy
+  pub copy-refuses : (n : ℕ) {r : Refusal} → copyAnswer h us x n ≡ Uncopied r → Because (OfCopy h us x n) r
+  unfolding copyAnswer
+  copy-refuses n =
+      copied-refuses (OfCopy h us x n) n (infoAnswer h us x) (λ g p. let w = info-refuses p in (w .0, w .1, as-info (w .2))) (λ i p s. too-short p s)

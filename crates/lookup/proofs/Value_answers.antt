@@ -17,8 +17,8 @@ use Rattle.values.specs.Records.{valueFault, dataIn, fieldsOf, valueOf, valued}
 use Rattle.values.specs.Segments.{dataFault}
 use Rattle.values.specs.Lists.{wholeValueFault}
 use Rattle.values.proofs.Valued_at.{is-whole, is-flawed, whole-stop, whole-on}
+use Rattle.paths.specs.declared.Look.the-variants.{Found, Missing, Faulty}
 use Rattle.lookup.specs.declared.Info.{Info}
-use Rattle.lookup.specs.declared.Look.the-variants.{Found, Missing, Faulty}
 use Rattle.lookup.specs.declared.ValueFound.the-variants.{At, Refused}
 use Rattle.lookup.specs.Answers.{valueLook, infoOf, viewFault, viewedFault, infoWhere, infoAnswer, viewAnswer}
 use Rattle.lookup.proofs.Value_searches.{value-facts}

@@ -26,12 +26,13 @@ use Rattle.values.proofs.LawsLists.{list-room, list-values}
 use Rattle.values.proofs.LawsValues.{name-inside}
 use Rattle.values.proofs.Segment_faults.{listed, unlisted}
 use Rattle.values.proofs.Valued_at.{is-whole, is-flawed}
-use Rattle.lookup.specs.declared.Look.{Look}
-use Rattle.lookup.specs.declared.Look.the-variants.{Found, Missing, Faulty}
+use Rattle.paths.specs.declared.Look.{Look}
+use Rattle.paths.specs.declared.Look.the-variants.{Found, Missing, Faulty}
+use Rattle.paths.specs.Answers.{keyLook}
+use Rattle.paths.proofs.Descents.{first-at, sound-found, picked}
+use Rattle.paths.proofs.Opens.{look-facts}
 use Rattle.lookup.specs.Search.{valueNamed, searchValues, lookupValue}
-use Rattle.lookup.specs.Answers.{onKey, keyLook, valueLook}
-use Rattle.lookup.proofs.Descents.{first-at, sound-found, picked}
-use Rattle.lookup.proofs.Opens.{look-facts}
+use Rattle.lookup.specs.Answers.{onKey, valueLook}
 
 -- one value
 module _ (d : List ℕ) (minor : ℕ) (x : List ℕ) (v : Offset) where

@@ -1,4 +1,4 @@
--- The answers of the calls: "Order: 1 to 7; 16; then the records in list order up to the first match [..]; 17; 18; for a view 19 before any data cell
+-- The answers of the value calls: "Order: 1 to 7; 16; then the records in list order up to the first match [..]; 17; 18; for a view 19 before any data cell
 -- is read; then the data's own 11 or 12." h is the hive, us the path, x the value's name.
 use Prim.Native.Nat.{ℕ, _+_}
 use mathlib.Core.Bool.{cond}
@@ -12,7 +12,7 @@ use Rattle.fields.specs.declared.Verdict.the-variants.{Sound, Flawed}
 use Rattle.fields.specs.declared.Fault.the-variants.{NoKey, NoValue, Segmented, OutputShort}
 use Rattle.fields.specs.Faults.{flaw, nowhere, _next_, refusalOf}
 use Rattle.fields.specs.Position.{placeOf}
-use Rattle.base.specs.Block.{sector, minorOf, binsData, baseFault}
+use Rattle.base.specs.Block.{sector, minorOf, binsData}
 use Rattle.cells.specs.declared.Rule.the-variants.{Header}
 use Rattle.records.specs.Keys.{keyOf}
 use Rattle.values.specs.declared.Value.{Value}
@@ -20,36 +20,15 @@ use Rattle.values.specs.declared.ValueData.{ValueData}
 use Rattle.values.specs.declared.ValueData.the-variants.{Inline, OneCell, Segments}
 use Rattle.values.specs.Records.{valueFault, dataIn, valueOf}
 use Rattle.values.specs.Segments.{dataFault, bytesOf, lengthOf}
-use Rattle.tree.specs.Tree.{hiveOf}
+use Rattle.paths.specs.declared.Look.{Look}
+use Rattle.paths.specs.declared.Look.the-variants.{Found, Missing, Faulty}
+use Rattle.paths.specs.Answers.{keyLook}
 use Rattle.lookup.specs.declared.Copied.{Copied}
 use Rattle.lookup.specs.declared.Copied.the-variants.{Done, Refused as Uncopied}
 use Rattle.lookup.specs.declared.Info.{Info}
-use Rattle.lookup.specs.declared.KeyFound.{KeyFound}
-use Rattle.lookup.specs.declared.KeyFound.the-variants.{At, Refused}
-use Rattle.lookup.specs.declared.Look.{Look}
-use Rattle.lookup.specs.declared.Look.the-variants.{Found, Missing, Faulty}
 use Rattle.lookup.specs.declared.ValueFound.{ValueFound}
 use Rattle.lookup.specs.declared.ValueFound.the-variants.{At as ValueAt, Refused as Unvalued}
-use Rattle.lookup.specs.Paths.{partsOf, pathFault}
-use Rattle.lookup.specs.Search.{onSound, lookupKey, lookupValue}
-
--- 1 to 7, then 16
-unfoldable pub openFault : List ℕ → List ℕ → Verdict
-openFault h us = baseFault h next pathFault us
-
--- the key of that path
-unfoldable pub keyLook : List ℕ → List ℕ → Look
-keyLook h us = onSound (openFault h us) (lookupKey (binsData h) (hiveOf h .root) (partsOf us))
-
--- "17: no such key"
-abbrev pub keyFound : Look → KeyFound
-keyFound (Found o) = At o
-keyFound Missing = Refused (refusalOf (flaw NoKey nowhere))
-keyFound (Faulty f) = Refused (refusalOf f)
-
--- find_key
-unfoldable pub findAnswer : List ℕ → List ℕ → KeyFound
-findAnswer h us = keyFound (keyLook h us)
+use Rattle.lookup.specs.Search.{lookupValue}
 
 -- what a value call does with the key: where there is none, 17
 abbrev pub onKey : Look → (Offset → Look) → Look

@@ -1,4 +1,3 @@
-pub mod Paths
 pub mod Search
 pub mod Answers
 pub mod Reach

@@ -1,51 +1,27 @@
--- What a refusal of lookup and of the value calls says: the table's rows 1 to 7, 11, 12 and 16 to 20, each with its reason. h is the hive, us the path,
--- x the value's name.
+-- What a refusal of the value calls says: of the table's rows those of a key's lookup, 11, 12 and 18 to 20, each with its reason. h is the hive, us the
+-- path, x the value's name.
 use Prim.Native.Nat.{ℕ, _<_}
 use mathlib.Core.Path.{_≡_}
-use mathlib.Core.Bool.{false}
-use mathlib.Core.List.{List, _∷_, List·Memᴰ}
-use Rattle.fields.specs.declared.Fault.the-variants.{PathParts, NoKey, NoValue, Segmented, OutputShort}
+use mathlib.Core.List.{List}
+use Rattle.fields.specs.declared.Fault.the-variants.{NoValue, Segmented, OutputShort}
 use Rattle.fields.specs.declared.Flaw.{Flaw}
 use Rattle.fields.specs.declared.Offset.{Offset}
 use Rattle.fields.specs.Faults.{flaw, nowhere}
 use Rattle.base.specs.Block.{sector, minorOf, binsData}
-use Rattle.base.specs.Refused.{OfBase}
 use Rattle.cells.specs.declared.Rule.the-variants.{Header}
-use Rattle.names.specs.declared.Order.the-variants.{Same}
-use Rattle.names.specs.Comparison.{compare}
-use Rattle.records.specs.declared.Child.{Child}
 use Rattle.records.specs.Keys.{keyOf}
-use Rattle.records.specs.Lists.{children}
 use Rattle.values.specs.declared.ValueData.the-variants.{Segments}
 use Rattle.values.specs.Records.{dataIn}
 use Rattle.values.specs.Lists.{valuesOf}
-use Rattle.values.specs.Refused.{a-key, a-value, Fit, Unfit, Among, Lists, Values, Data}
-use Rattle.tree.specs.Tree.{nameAt, hiveOf}
+use Rattle.values.specs.Refused.{a-value, Fit, Among, Values, Data}
+use Rattle.paths.specs.declared.KeyFound.the-variants.{At}
+use Rattle.paths.specs.declared.Look.the-variants.{Missing}
+use Rattle.paths.specs.Answers.{findAnswer}
+use Rattle.paths.specs.Refused.{OfKey}
 use Rattle.lookup.specs.declared.Info.{Info}
-use Rattle.lookup.specs.declared.KeyFound.the-variants.{At}
-use Rattle.lookup.specs.declared.Look.the-variants.{Missing}
 use Rattle.lookup.specs.declared.ValueFound.the-variants.{At as ValueAt}
-use Rattle.lookup.specs.Paths.{partsOf, isPath}
-use Rattle.lookup.specs.Answers.{keyLook, findAnswer, valueLook, infoAnswer}
+use Rattle.lookup.specs.Answers.{valueLook, infoAnswer}
 use Rattle.lookup.specs.Reach.{FirstNamed}
-
--- the keys on the way of a path, each with the parts that are still to go
-pub data OnWay (h us : List ℕ) : List (List ℕ) → Offset → Type 0 where
-  the-root : Fit Header (binsData h) a-key (hiveOf h .root) → OnWay h us (partsOf us) (hiveOf h .root)
-  a-child : {x : List ℕ} {xs : List (List ℕ)} {k : Offset} {c : Child} → OnWay h us (x ∷ xs) k → List·Memᴰ c (children (binsData h) k)
-      → compare (nameAt (binsData h) (c .at)) x ≡ Same → Fit Header (binsData h) a-key (c .at) → OnWay h us xs (c .at)
-
--- find_key
-pub data OfKey (h us : List ℕ) : Flaw → Type 0 where
-  of-base : {f : Flaw} → OfBase h f → OfKey h us f
-  -- 16: "path: empty part, part over 255 units, over 512 parts"
-  no-path : isPath us ≡ false → OfKey h us (flaw PathParts nowhere)
-  -- 11 and 12: the root, and what a key on the way lists
-  of-root : {f : Flaw} → Unfit Header (binsData h) a-key (hiveOf h .root) f → OfKey h us f
-  of-lists : {x : List ℕ} {xs : List (List ℕ)} {k : Offset} {f : Flaw} → OnWay h us (x ∷ xs) k → Among Header (binsData h) (Lists Header (binsData h) k) f
-      → OfKey h us f
-  -- 17: "no such key"
-  no-key : keyLook h us ≡ Missing → OfKey h us (flaw NoKey nowhere)
 
 -- the value that lookup finds: of the key of that path, the first of its values that has the name
 pub record Finds (h us x : List ℕ) (v : Offset) : Type 0 where

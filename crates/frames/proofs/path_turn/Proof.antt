@@ -2,7 +2,7 @@ use Prim.Native.Nat.{ℕ, _/_}
 use lib.ListN.{length}
 use mathlib.Core.Path.{refl, ap₂, _∙_}
 use mathlib.Core.List.{List}
-use Rattle.lookup.specs.Answers.{findAnswer}
+use Rattle.paths.specs.Answers.{findAnswer}
 use Rattle.frames.specs.Frames.{foundLine}
 use Rattle.frames.proofs.Units.{units-part, all-units}
 use Rattle.frames.proofs.Holds.{lent}

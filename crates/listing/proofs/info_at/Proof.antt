@@ -1,6 +1,6 @@
 use Rattle.listing.proofs.Members.{info-stop, info-in}
+use Rattle.paths.proofs.Opens.{bins-small}
 use Rattle.lookup.specs.declared.ValueFound.the-variants.{Refused}
-use Rattle.lookup.proofs.Opens.{bins-small}
 use mathlib.Core.Path.{sym, ap, _∙_}
 use borrow.Author.Needs.{needs}
 use Rattle.listing.proofs.info_at.Statement.{statement}

@@ -1,6 +1,6 @@
 use Rattle.listing.proofs.Members.{facts-stop, facts-in}
 use Rattle.listing.specs.declared.KeyFacts.the-variants.{Refused}
-use Rattle.lookup.proofs.Opens.{bins-small}
+use Rattle.paths.proofs.Opens.{bins-small}
 use mathlib.Core.Path.{sym, ap, _∙_}
 use borrow.Author.Needs.{needs}
 use Rattle.listing.proofs.key_facts.Statement.{statement}

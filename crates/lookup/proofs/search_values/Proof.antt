@@ -1,5 +1,6 @@
-use Rattle.lookup.proofs.Turns.{turn-found, turn-faulty, turn-on, turn-end}
-use Rattle.lookup.specs.Search.{valueNamed, firstOf}
+use Rattle.paths.proofs.Turns.{turn-found, turn-faulty, turn-on, turn-end}
+use Rattle.paths.specs.Search.{firstOf}
+use Rattle.lookup.specs.Search.{valueNamed}
 use Rattle.values.proofs.Rooms.{entries-length}
 use Rattle.values.specs.Entries.{entriesOf}
 use Rattle.fields.specs.Faults.{nowhere}

@@ -1,5 +1,5 @@
 use Rattle.lookup.proofs.Value_searches.{value-faulty, value-keyless, value-below}
-use Rattle.lookup.proofs.Opens.{bins-small, look-facts}
+use Rattle.paths.proofs.Opens.{bins-small, look-facts}
 use Rattle.records.proofs.LawsKey.{key-room}
 use Prim.Native.Nat.{_-_}
 use mathlib.Core.Path.{sym, _∙_}

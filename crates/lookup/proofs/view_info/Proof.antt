@@ -1,6 +1,6 @@
 use Rattle.lookup.proofs.Value_answers.{view-found, view-missing, view-faulty}
 use Rattle.lookup.proofs.Value_searches.{value-facts}
-use Rattle.lookup.proofs.Opens.{bins-small}
+use Rattle.paths.proofs.Opens.{bins-small}
 use Rattle.lookup.specs.declared.ValueFound.the-variants.{Refused}
 use Prim.Native.Nat.{_-_}
 use mathlib.Core.Path.{sym, ap, _∙_}

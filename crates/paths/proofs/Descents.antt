@@ -1,0 +1,161 @@
+-- Along the parts of a path, by a loop: what stands before a turn, and a law for each way out. A key that is found has passed its tests.
+use Prim.Native.Nat.{ℕ, _+_, _-_, _<_, _≤_}
+use native.Mathlib.Omega.{arith}
+use mathlib.Core.Path.{_≡_, refl, sym, ap, _∙_, subst}
+use mathlib.Core.Bool.{Bool, true, false, cond}
+use mathlib.Core.List.{List, [], _∷_, List·Memᴰ, List·Memᴰ·head, List·Memᴰ·tail}
+use lib.Dec.{eqb}
+use lib.ListN.{length, take, drop}
+use Rattle.fields.specs.declared.Flaw.{Flaw}
+use Rattle.fields.specs.declared.Offset.{Offset}
+use Rattle.fields.specs.declared.Verdict.{Verdict}
+use Rattle.fields.specs.declared.Verdict.the-variants.{Sound, Flawed}
+use Rattle.fields.proofs.Bools.{and-inv}
+use Rattle.fields.proofs.Loops.{drop-all}
+use Rattle.cells.specs.declared.Rule.the-variants.{Header}
+use Rattle.cells.specs.Named.{dataAt}
+use Rattle.names.specs.Comparison.{sameName}
+use Rattle.records.specs.declared.Child.{Child}
+use Rattle.records.specs.declared.Key.{Key}
+use Rattle.records.specs.declared.Keyed.the-variants as key
+use Rattle.records.specs.Keys.{keyFault, keyOf, keyed}
+use Rattle.records.specs.Lists.{leafFault, headFault, leafChildren, leavesOf}
+use Rattle.records.proofs.LawsAnswer.{keyed-whole, keyed-flawed}
+use Rattle.tree.specs.Tree.{nameAt}
+use Rattle.paths.specs.declared.Look.{Look}
+use Rattle.paths.specs.declared.Look.the-variants.{Found, Missing, Faulty}
+use Rattle.paths.specs.Paths.{firstPart, partsOf, areParts, isPath}
+use Rattle.paths.specs.Search.{onSound, orElse, onFound, firstOf, keyNamed, searchLeaf, searchLeaves, searchBelow, descend, lookupKey}
+use Rattle.paths.proofs.Parts.{behind, part-first, Next, next-cut, next-end}
+
+-- ---- what is found
+
+-- a search that finds has found it at one of its things
+pub first-at : {A : Type 0} (each : A → Look) (xs : List A) {o : Offset} → firstOf each xs ≡ Found o → (x : A) × (each x ≡ Found o) × List·Memᴰ x xs
+unfolding firstOf orElse
+first-at each [] e = absurd (let z : _≡_ {A = ℕ} 0 1 = cc in omega arith)
+first-at {A} each (x ∷ xs) {o} e = by (first-at each xs) (each x) refl e
+  where
+    by : (firstOf each xs ≡ Found o → (y : A) × (each y ≡ Found o) × List·Memᴰ y xs) → (w : Look) → each x ≡ w → orElse w (firstOf each xs) ≡ Found o
+        → (y : A) × (each y ≡ Found o) × List·Memᴰ y (x ∷ xs)
+    by rest (Found p) q e = (x, q ∙ e, List·Memᴰ·head refl)
+    by rest Missing q e = let r = rest e in (r .0, r .1, List·Memᴰ·tail (r .2))
+    by rest (Faulty f) q e = absurd (let z : _≡_ {A = ℕ} 0 1 = cc in omega arith)
+
+pub sound-found : (v : Verdict) (l : Look) {o : Offset} → onSound v l ≡ Found o → (v ≡ Sound) × (l ≡ Found o)
+sound-found Sound l e = (refl, e)
+sound-found (Flawed f) l e = absurd (let z : _≡_ {A = ℕ} 0 1 = cc in omega arith)
+
+pub picked : (t : Bool) (c : Offset) {o : Offset} → cond t (Found c) Missing ≡ Found o → (t ≡ true) × (c ≡ o)
+picked true c e = (refl, cc)
+picked false c e = absurd (let z : _≡_ {A = ℕ} 0 1 = cc in omega arith)
+
+-- so has passed its tests
+module _ (d x : List ℕ) where
+  named-tested : (c : Child) {o : Offset} → keyNamed d x c ≡ Found o → keyFault Header d [] o ≡ Sound
+  unfolding keyNamed
+  named-tested c e =
+      let s = sound-found (keyFault Header d [] (c .at)) _ e in
+      subst (λ (y : Offset). keyFault Header d [] y ≡ Sound) (picked (sameName (nameAt d (c .at)) x) (c .at) (s .1) .1) (s .0)
+
+  leaf-tested : (l : Offset) {o : Offset} → searchLeaf d x l ≡ Found o → keyFault Header d [] o ≡ Sound
+  unfolding searchLeaf
+  leaf-tested l e =
+      let c = first-at (keyNamed d x) (leafChildren (dataAt d l)) (sound-found (leafFault Header d [] l) _ e .1) in
+      named-tested (c .0) (c .1)
+
+  pub below-tested : (k : Key) {o : Offset} → searchBelow d x k ≡ Found o → keyFault Header d [] o ≡ Sound
+  unfolding searchBelow
+  below-tested k {o} e = by (eqb (k .subkeys) 0) e
+    where
+      by : (t : Bool) → cond t Missing (onSound (headFault Header d [] (k .list)) (searchLeaves d x (leavesOf d (k .list)))) ≡ Found o → keyFault Header d [] o ≡ Sound
+      by true q = absurd (let z : _≡_ {A = ℕ} 0 1 = cc in omega arith)
+      by false q =
+          let l = first-at (searchLeaf d x) (leavesOf d (k .list)) (sound-found (headFault Header d [] (k .list)) _ q .1) in
+          leaf-tested (l .0) (l .1)
+
+pub descend-tested : (d : List ℕ) (o : Offset) (xs : List (List ℕ)) {e : Offset} → keyFault Header d [] o ≡ Sound → descend d o xs ≡ Found e
+    → keyFault Header d [] e ≡ Sound
+unfolding descend onFound
+descend-tested d o [] t p = subst (λ (y : Offset). keyFault Header d [] y ≡ Sound) (cc) t
+descend-tested d o (x ∷ xs) {e} t p = by (searchBelow d x (keyOf d o)) refl (λ c. descend-tested d c xs) p
+  where
+    by : (w : Look) → searchBelow d x (keyOf d o) ≡ w
+        → ((c : Offset) → keyFault Header d [] c ≡ Sound → descend d c xs ≡ Found e → keyFault Header d [] e ≡ Sound)
+        → onFound w (λ c. descend d c xs) ≡ Found e → keyFault Header d [] e ≡ Sound
+    by (Found c) q rest p = rest c (below-tested d x (keyOf d o) q) p
+    by Missing q rest p = absurd (let z : _≡_ {A = ℕ} 0 1 = cc in omega arith)
+    by (Faulty f) q rest p = absurd (let z : _≡_ {A = ℕ} 0 1 = cc in omega arith)
+
+pub lookup-tested : (d : List ℕ) (root : Offset) (xs : List (List ℕ)) {e : Offset} → lookupKey d root xs ≡ Found e → keyFault Header d [] e ≡ Sound
+unfolding lookupKey
+lookup-tested d root xs p = let s = sound-found (keyFault Header d [] root) _ p in descend-tested d root xs (s .0) (s .1)
+
+-- ---- the loop
+
+-- the parts before `start` led to `key`, and the rest answers for the whole
+pub record Descended (d : List ℕ) (from : Offset) (us : List ℕ) (key : Offset) (start : ℕ) : Type 0 where
+  pub within : start ≤ length us
+  pub good : areParts (partsOf (drop start us)) ≡ true
+  pub tested : keyFault Header d [] key ≡ Sound
+  pub same : descend d from (partsOf us) ≡ descend d key (partsOf (drop start us))
+
+descend-cons : (d : List ℕ) (o : Offset) (x : List ℕ) (xs : List (List ℕ)) → descend d o (x ∷ xs) ≡ onFound (searchBelow d x (keyOf d o)) (λ c. descend d c xs)
+unfolding descend
+descend-cons d o x xs = refl
+
+module _ (d : List ℕ) (from : Offset) (us : List ℕ) where
+  pub descended-start : isPath us ≡ true → keyFault Header d [] from ≡ Sound → Descended d from us from 0
+  unfolding isPath
+  descended-start p t = record { within = omega arith; good = and-inv (areParts (partsOf us)) _ p .0; tested = t; same = refl }
+
+  module _ (key : Offset) (start : ℕ) (w : Descended d from us key start) where
+    pub descended-end : length us ≤ start → descend d from (partsOf us) ≡ Found key
+    unfolding partsOf descend
+    descended-end p = w .same ∙ rw (drop-all us start p)
+
+    -- the part from `start` to `end`, searched below the key
+    module _ (end : ℕ) (more : start < length us) (ends : end ≡ start + length (firstPart (drop start us))) (k : Key) (is : k ≡ keyOf d key) (l : Look)
+        (looked : l ≡ searchBelow d (take (end - start) (drop start us)) k) where
+      turn : (xs : List (List ℕ)) → partsOf (drop start us) ≡ take (end - start) (drop start us) ∷ xs
+          → descend d from (partsOf us) ≡ onFound l (λ c. descend d c xs)
+      turn xs e = w .same ∙ ap (descend d key) e ∙ descend-cons d key _ xs ∙ rw (← is, ← looked)
+
+      pub descended-missing : l ≡ Missing → descend d from (partsOf us) ≡ Missing
+      unfolding onFound
+      descended-missing e = turn (behind (drop start us)) (part-first us start end more ends (w .good)) ∙ rw e
+
+      pub descended-faulty : {f : Flaw} → l ≡ Faulty f → descend d from (partsOf us) ≡ Faulty f
+      unfolding onFound
+      descended-faulty e = turn (behind (drop start us)) (part-first us start end more ends (w .good)) ∙ rw e
+
+      module _ {o : Offset} (found : l ≡ Found o) where
+        onward : (next : ℕ) → Next us start end more ends (w .good) next → Descended d from us o next
+        unfolding onFound
+        onward next n =
+            record {
+              within = n .within;
+              good = n .rest-good;
+              tested = below-tested d (take (end - start) (drop start us)) k (sym looked ∙ found);
+              same = turn (partsOf (drop next us)) (n .parts) ∙ rw found;
+            }
+
+        pub descended-cut : end < length us → Descended d from us o (end + 1)
+        descended-cut p = onward (end + 1) (next-cut us start end more ends (w .good) (end + 1) p refl)
+
+        pub descended-last : length us ≤ end → Descended d from us o end
+        descended-last p = onward end (next-end us start end more ends (w .good) end p refl)
+
+-- ---- from the root
+module _ (d : List ℕ) (root : Offset) (xs : List (List ℕ)) where
+  pub root-bad : {f : Flaw} → keyed (keyFault Header d [] root) (keyOf d root) ≡ key.Flawed f → lookupKey d root xs ≡ Faulty f
+  unfolding lookupKey
+  root-bad e = rw (keyed-flawed (keyFault Header d [] root) _ e)
+
+  module _ {k : Key} (e : keyed (keyFault Header d [] root) (keyOf d root) ≡ key.Whole k) where
+    pub root-tested : keyFault Header d [] root ≡ Sound
+    root-tested = keyed-whole (keyFault Header d [] root) _ e .0
+
+    pub root-is : lookupKey d root xs ≡ descend d root xs
+    unfolding lookupKey
+    root-is = rw root-tested

@@ -1,0 +1,13 @@
+pub mod Finds
+pub mod Splits
+pub mod Parts
+pub mod Passes
+pub mod Turns
+pub mod Searches
+pub mod Descents
+pub mod Opens
+pub mod Held
+pub mod Exact
+pub mod Listed
+pub mod In_accepted
+pub mod Refusals

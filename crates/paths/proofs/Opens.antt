@@ -1,0 +1,73 @@
+-- 1 to 7, 16, and the key: a law for each way out, and what is known where a key is found.
+use Prim.Native.Nat.{ℕ, _≤_}
+use native.Mathlib.Omega.{arith}
+use mathlib.Core.Path.{_≡_, _∙_}
+use mathlib.Core.Bool.{true, false}
+use mathlib.Core.List.{List, []}
+use lib.ListN.{length, length-take, length-drop}
+use Rattle.fields.specs.declared.Fault.the-variants.{PathParts, NoKey}
+use Rattle.fields.specs.declared.Flaw.{Flaw}
+use Rattle.fields.specs.declared.Offset.{Offset}
+use Rattle.fields.specs.declared.Verdict.the-variants.{Sound, Flawed}
+use Rattle.fields.specs.Faults.{flaw, nowhere, refusalOf}
+use Rattle.fields.proofs.Firsts.{on, stop, both, sound, held, holds, fails}
+use Rattle.base.specs.Block.{binsLimit, binsData, baseFault}
+use Rattle.base.proofs.Laws.{base-facts}
+use Rattle.cells.specs.declared.Rule.the-variants.{Header}
+use Rattle.records.specs.Keys.{keyFault}
+use Rattle.tree.specs.Tree.{hiveOf}
+use Rattle.paths.specs.declared.KeyFound.the-variants.{At, Refused}
+use Rattle.paths.specs.declared.Look.the-variants.{Found, Missing, Faulty}
+use Rattle.paths.specs.Paths.{partsOf, isPath, pathFault}
+use Rattle.paths.specs.Search.{lookupKey}
+use Rattle.paths.specs.Answers.{openFault, keyLook, findAnswer}
+use Rattle.paths.proofs.Descents.{sound-found, lookup-tested}
+
+-- the bins data of a hive that passes 1 to 7
+pub bins-small : (h : List ℕ) → baseFault h ≡ Sound → length (binsData h) ≤ binsLimit
+bins-small h e = let b = base-facts h e in simp (length-take, length-drop) (omega arith)
+
+module _ (h us : List ℕ) where
+  pub open-base : {f : Flaw} → baseFault h ≡ Flawed f → openFault h us ≡ Flawed f
+  unfolding openFault
+  open-base e = stop _ _ e
+
+  pub open-path : baseFault h ≡ Sound → isPath us ≡ true → openFault h us ≡ Sound
+  unfolding openFault pathFault
+  open-path e p = sound _ _ e (holds _ p)
+
+  pub open-bad : baseFault h ≡ Sound → isPath us ≡ false → openFault h us ≡ Flawed (flaw PathParts nowhere)
+  unfolding openFault pathFault
+  open-bad e p = on _ _ e ∙ fails _ p
+
+  pub open-facts : openFault h us ≡ Sound → (baseFault h ≡ Sound) × (isPath us ≡ true)
+  unfolding openFault pathFault
+  open-facts e = let b = both (baseFault h) _ e in (b .0, held (isPath us) (flaw PathParts nowhere) (b .1))
+
+  pub look-stop : {f : Flaw} → openFault h us ≡ Flawed f → keyLook h us ≡ Faulty f
+  unfolding keyLook
+  look-stop e = rw e
+
+  pub look-on : openFault h us ≡ Sound → keyLook h us ≡ lookupKey (binsData h) (hiveOf h .root) (partsOf us)
+  unfolding keyLook
+  look-on e = rw e
+
+  -- the key that is found
+  pub look-facts : {o : Offset} → keyLook h us ≡ Found o → (baseFault h ≡ Sound) × (keyFault Header (binsData h) [] o ≡ Sound)
+  unfolding keyLook
+  look-facts e =
+      let s = sound-found (openFault h us) _ e in
+      (open-facts (s .0) .0, lookup-tested (binsData h) (hiveOf h .root) (partsOf us) (s .1))
+
+  -- find_key
+  pub find-at : {o : Offset} → keyLook h us ≡ Found o → findAnswer h us ≡ At o
+  unfolding findAnswer
+  find-at e = rw e
+
+  pub find-missing : keyLook h us ≡ Missing → findAnswer h us ≡ Refused (refusalOf (flaw NoKey nowhere))
+  unfolding findAnswer
+  find-missing e = rw e
+
+  pub find-faulty : {f : Flaw} → keyLook h us ≡ Faulty f → findAnswer h us ≡ Refused (refusalOf f)
+  unfolding findAnswer
+  find-faulty e = rw e

@@ -1,0 +1,73 @@
+use Rattle.paths.proofs.Passes.{Passed, path-empty, passed-start, passed-short, passed-end, cut-short, cut-on, unit-long, unit-on}
+use mathlib.Core.Logic.{⊎-elim}
+use lib.ListN.{length}
+use Prim.Native.Nat.{_-_}
+use borrow.Author.Needs.{needs}
+use Rattle.paths.proofs.is_path.Statement.{statement}
+use Rattle.paths.proofs.is_path.Tie as tie
+
+abbrev Inv-loop : tie.InvT-loop
+Inv-loop path units₀ cuts₀ i₀ units cuts i = Passed path units cuts i
+
+abbrev μ-loop : tie.MeasureT-loop
+μ-loop path units₀ cuts₀ i₀ units cuts i = length path - i
+
+returns : tie.Need-returns Inv-loop μ-loop
+returns c = path-empty _ (c .if1 .taken)
+
+loop-holds : tie.Need-loop-holds Inv-loop μ-loop
+loop-holds c = passed-start _
+
+mul-if2 : tie.Need-mul-if2 Inv-loop μ-loop
+mul-if2 c = search needs
+
+shared-slice-read-if2 : tie.Need-shared-slice-read-if2 Inv-loop μ-loop
+shared-slice-read-if2 c = search needs
+
+returns-2 : tie.Need-returns-2 Inv-loop μ-loop
+returns-2 c = cut-short _ _ _ _ (c .before .before .before .before .loop .inv) (c .before .before .before .loop-test .taken) (c .before .if2 .taken) (c .before .before .before .before .before .if1 .left) (c .if3 .taken)
+
+add-cuts : tie.Need-add-cuts Inv-loop μ-loop
+add-cuts c = search needs
+
+returns-3 : tie.Need-returns-3 Inv-loop μ-loop
+returns-3 c = unit-long _ _ _ _ (c .before .before .before .before .loop .inv) (c .before .before .before .loop-test .taken) (c .before .if2 .left) (c .before .before .before .before .before .if1 .left) (c .if4 .taken)
+
+add-units : tie.Need-add-units Inv-loop μ-loop
+add-units c = search needs
+
+add-i : tie.Need-add-i Inv-loop μ-loop
+add-i c = search needs
+
+loop-less : tie.Need-loop-less Inv-loop μ-loop
+loop-less c = search needs
+
+loop-again : tie.Need-loop-again Inv-loop μ-loop
+loop-again c = let l = c .before .before .before .loop in let m = c .before .before .loop-test .taken in
+    ⊎-elim (λ w. rw (w .2, w .3) (cut-on _ _ _ _ (l .inv) m (w .0 .taken) (w .1 .left))) (λ w. rw (w .2, w .3) (unit-on _ _ _ _ (l .inv) m (w .0 .left) (w .1 .left))) (c .if2 .came)
+
+returns-4 : tie.Need-returns-4 Inv-loop μ-loop
+returns-4 c = passed-short _ _ _ _ (c .before .before .loop .inv) (c .before .before .before .if1 .left) (c .before .loop-test .left) (c .if5 .taken)
+
+returns-5 : tie.Need-returns-5 Inv-loop μ-loop
+returns-5 c = passed-end _ _ _ _ (c .before .before .loop .inv) (c .before .before .before .if1 .left) (c .before .loop-test .left) (c .if5 .left)
+
+pub is-path-spec : {M : Type 1} → statement M
+is-path-spec =
+    tie.close
+    (tie.spec
+    Inv-loop
+    μ-loop
+    returns
+    loop-holds
+    mul-if2
+    shared-slice-read-if2
+    returns-2
+    add-cuts
+    returns-3
+    add-units
+    add-i
+    loop-less
+    loop-again
+    returns-4
+    returns-5)

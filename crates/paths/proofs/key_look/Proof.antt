@@ -1,0 +1,43 @@
+use Rattle.paths.proofs.Opens.{open-facts, look-stop, look-on}
+use Prim.Native.Nat.{_-_}
+use mathlib.Core.Path.{sym, _∙_}
+use borrow.Author.Needs.{needs}
+use Rattle.paths.proofs.key_look.Statement.{statement}
+use Rattle.paths.proofs.key_look.Tie as tie
+
+open-flaw-requires : tie.Need-open-flaw-requires
+open-flaw-requires c κs = search needs
+
+enum-known-f : tie.Need-enum-known-f
+enum-known-f c = search needs
+
+enum-told : tie.Need-enum-told
+enum-told c = search needs
+
+bins-of-requires : tie.Need-bins-of-requires
+bins-of-requires c κs = open-facts _ _ (sym (c .before .before .open-flaw .ensures) ∙ c .enum-told .given .1) .0
+
+root-of-requires : tie.Need-root-of-requires
+root-of-requires c κs = open-facts _ _ (sym (c .before .before .before .open-flaw .ensures) ∙ c .before .enum-told .given .1) .0
+
+lookup-key-requires : tie.Need-lookup-key-requires
+lookup-key-requires c κs = open-facts _ _ (sym (c .before .before .before .before .open-flaw .ensures) ∙ c .before .before .enum-told .given .1) .1
+
+returns : tie.Need-returns
+returns c = sym (look-stop _ _ (sym (c .before .before .before .open-flaw .ensures) ∙ c .before .f .given .1))
+
+returns-2 : tie.Need-returns-2
+returns-2 c = c .lookup-key .ensures ∙ rw (c .before .before .bins-of .ensures, c .before .root-of .ensures) (sym (look-on _ _ (sym (c .before .before .before .before .before .open-flaw .ensures) ∙ c .before .before .before .enum-told .given .1)))
+
+pub key-look-spec : {M : Type 1} → statement M
+key-look-spec =
+    tie.close
+    (tie.spec
+    open-flaw-requires
+    enum-known-f
+    enum-told
+    bins-of-requires
+    root-of-requires
+    lookup-key-requires
+    returns
+    returns-2)

@@ -1,0 +1,39 @@
+use mathlib.Core.List.{[]}
+use Rattle.paths.proofs.Descents.{root-bad, root-tested, root-is}
+use mathlib.Core.Path.{sym, _∙_}
+use borrow.Author.Needs.{needs}
+use Rattle.paths.proofs.lookup_key.Statement.{statement}
+use Rattle.paths.proofs.lookup_key.Tie as tie
+
+slice-aggregate-key-at : tie.Need-slice-aggregate-key-at
+slice-aggregate-key-at c = search needs
+
+key-at-requires : tie.Need-key-at-requires
+key-at-requires c κs = search needs
+
+enum-known-f : tie.Need-enum-known-f
+enum-known-f c = search needs
+
+enum-told : tie.Need-enum-told
+enum-told c = search needs
+
+descend-requires : tie.Need-descend-requires
+descend-requires c κs = (c .before .before .before .before .before .before .pre, root-tested _ _ [] (sym (c .before .before .key-at .ensures) ∙ c .enum-told .given .1))
+
+returns : tie.Need-returns
+returns c = sym (root-bad _ _ _ (sym (c .before .before .before .key-at .ensures) ∙ c .before .f .given .1))
+
+returns-2 : tie.Need-returns-2
+returns-2 c = c .descend .ensures ∙ sym (root-is _ _ _ (sym (c .before .before .before .key-at .ensures) ∙ c .before .enum-told .given .1))
+
+pub lookup-key-spec : {M : Type 1} → statement M
+lookup-key-spec =
+    tie.close
+    (tie.spec
+    slice-aggregate-key-at
+    key-at-requires
+    enum-known-f
+    enum-told
+    descend-requires
+    returns
+    returns-2)

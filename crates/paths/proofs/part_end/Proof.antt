@@ -1,0 +1,54 @@
+use Rattle.paths.proofs.Parts.{part-cut, part-on, part-over}
+use Rattle.paths.specs.Paths.{firstPart}
+use lib.ListN.{length, drop}
+use Prim.Native.Nat.{_+_, _-_, _≤_}
+use mathlib.Core.Path.{_≡_, refl}
+use native.Mathlib.Omega.{arith}
+use borrow.Author.Needs.{needs}
+use Rattle.paths.proofs.part_end.Statement.{statement}
+use Rattle.paths.proofs.part_end.Tie as tie
+
+abbrev Inv-loop : tie.InvT-loop
+Inv-loop path start i₀ i = (i ≤ length path) × (start + length (firstPart (drop start path)) ≡ i + length (firstPart (drop i path)))
+
+abbrev μ-loop : tie.MeasureT-loop
+μ-loop path start i₀ i = length path - i
+
+loop-holds : tie.Need-loop-holds Inv-loop μ-loop
+loop-holds c = (c .pre, refl)
+
+mul-if1 : tie.Need-mul-if1 Inv-loop μ-loop
+mul-if1 c = search needs
+
+shared-slice-read-if1 : tie.Need-shared-slice-read-if1 Inv-loop μ-loop
+shared-slice-read-if1 c = search needs
+
+returns : tie.Need-returns Inv-loop μ-loop
+returns c = part-cut _ _ _ (c .before .before .before .loop .inv .1) (c .before .before .loop-test .taken) (c .if1 .taken)
+
+add-i : tie.Need-add-i Inv-loop μ-loop
+add-i c = search needs
+
+loop-less : tie.Need-loop-less Inv-loop μ-loop
+loop-less c = search needs
+
+loop-again : tie.Need-loop-again Inv-loop μ-loop
+loop-again c = (omega arith, part-on _ _ _ (c .before .before .before .loop .inv .1) (c .before .before .loop-test .taken) (c .if1 .left))
+
+returns-2 : tie.Need-returns-2 Inv-loop μ-loop
+returns-2 c = part-over _ _ _ (c .before .loop .inv .1) (c .loop-test .left)
+
+pub part-end-spec : {M : Type 1} → statement M
+part-end-spec =
+    tie.close
+    (tie.spec
+    Inv-loop
+    μ-loop
+    loop-holds
+    mul-if1
+    shared-slice-read-if1
+    returns
+    add-i
+    loop-less
+    loop-again
+    returns-2)

@@ -1,0 +1,72 @@
+use Rattle.records.specs.Places.{elementsOf, noChild}
+use Rattle.records.proofs.LawsElements.{elements-length, element-at}
+use Rattle.paths.proofs.Turns.{turn-found, turn-faulty, turn-on, turn-end}
+use Rattle.paths.specs.Search.{keyNamed, firstOf}
+use lib.ListN.{drop}
+use Prim.Native.Nat.{_-_, _≤_}
+use mathlib.Core.Path.{_≡_, refl, sym, _∙_}
+use native.Mathlib.Omega.{arith}
+use borrow.Author.Needs.{needs}
+use Rattle.paths.proofs.search_keys.Statement.{statement}
+use Rattle.paths.proofs.search_keys.Tie as tie
+
+abbrev Inv-loop : tie.InvT-loop
+Inv-loop bins name leaf count i₀ i = (i ≤ leaf .count) × (count ≡ leaf .count) × (firstOf (keyNamed bins name) (elementsOf bins leaf) ≡ firstOf (keyNamed bins name) (drop i (elementsOf bins leaf)))
+
+abbrev μ-loop : tie.MeasureT-loop
+μ-loop bins name leaf count i₀ i = count - i
+
+loop-holds : tie.Need-loop-holds Inv-loop μ-loop
+loop-holds c = (omega arith, refl, refl)
+
+child-of-requires : tie.Need-child-of-requires Inv-loop μ-loop
+child-of-requires c κs = search needs
+
+key-named-requires : tie.Need-key-named-requires Inv-loop μ-loop
+key-named-requires c κs = search needs
+
+enum-told : tie.Need-enum-told Inv-loop μ-loop
+enum-told c = search needs
+
+enum-known-o : tie.Need-enum-known-o Inv-loop μ-loop
+enum-known-o c = search needs
+
+returns : tie.Need-returns Inv-loop μ-loop
+returns c = let l = c .before .before .before .before .before .before .loop in let a = c .before .before .before .before .before .before .before .before .before .args in sym (turn-found _ _ (l .i) _ (l .inv .2) _ (omega (arith, elements-length (a .bins .now) (a .leaf))) (element-at _ _ _ (omega arith) (c .before .before .before .before .child-of .ensures)) (sym (c .before .before .before .key-named .ensures) ∙ c .before .o .given .1))
+
+enum-known-f : tie.Need-enum-known-f Inv-loop μ-loop
+enum-known-f c = search needs
+
+returns-2 : tie.Need-returns-2 Inv-loop μ-loop
+returns-2 c = let l = c .before .before .before .before .before .before .loop in let a = c .before .before .before .before .before .before .before .before .before .args in sym (turn-faulty _ _ (l .i) _ (l .inv .2) _ (omega (arith, elements-length (a .bins .now) (a .leaf))) (element-at _ _ _ (omega arith) (c .before .before .before .before .child-of .ensures)) (sym (c .before .before .before .key-named .ensures) ∙ c .before .f .given .1))
+
+add-i : tie.Need-add-i Inv-loop μ-loop
+add-i c = search needs
+
+loop-less : tie.Need-loop-less Inv-loop μ-loop
+loop-less c = search needs
+
+loop-again : tie.Need-loop-again Inv-loop μ-loop
+loop-again c = let l = c .before .before .before .before .before .loop in let a = c .before .before .before .before .before .before .before .before .args in (omega arith, l .inv .1, turn-on _ _ (l .i) _ (l .inv .2) _ (omega (arith, elements-length (a .bins .now) (a .leaf))) (element-at _ _ _ (omega arith) (c .before .before .before .child-of .ensures)) (sym (c .before .before .key-named .ensures) ∙ c .enum-told .given .1))
+
+returns-3 : tie.Need-returns-3 Inv-loop μ-loop
+returns-3 c = let l = c .before .loop in let a = c .before .before .before .before .args in sym (turn-end _ _ (l .i) noChild (l .inv .2) (omega (arith, elements-length (a .bins .now) (a .leaf))))
+
+pub search-keys-spec : {M : Type 1} → statement M
+search-keys-spec =
+    tie.close
+    (tie.spec
+    Inv-loop
+    μ-loop
+    loop-holds
+    child-of-requires
+    key-named-requires
+    enum-told
+    enum-known-o
+    returns
+    enum-known-f
+    returns-2
+    add-i
+    loop-less
+    loop-again
+    returns-3)

@@ -1,0 +1,39 @@
+use Rattle.paths.proofs.Searches.{leaf-bad, leaf-room, leaf-is}
+use Prim.Native.Nat.{_-_}
+use mathlib.Core.Path.{sym, _∙_}
+use borrow.Author.Needs.{needs}
+use Rattle.paths.proofs.search_leaf.Statement.{statement}
+use Rattle.paths.proofs.search_leaf.Tie as tie
+
+slice-aggregate-leaf-at : tie.Need-slice-aggregate-leaf-at
+slice-aggregate-leaf-at c = search needs
+
+leaf-at-requires : tie.Need-leaf-at-requires
+leaf-at-requires c κs = search needs
+
+enum-known-f : tie.Need-enum-known-f
+enum-known-f c = search needs
+
+enum-known-leaf : tie.Need-enum-known-leaf
+enum-known-leaf c = search needs
+
+search-keys-requires : tie.Need-search-keys-requires
+search-keys-requires c κs = leaf-room _ (c .before .before .before .before .before .before .before .args .name .now) _ (sym (c .before .before .before .leaf-at .ensures) ∙ c .before .leaf .given .1)
+
+returns : tie.Need-returns
+returns c = sym (leaf-bad _ _ _ (sym (c .before .before .before .leaf-at .ensures) ∙ c .before .f .given .1))
+
+returns-2 : tie.Need-returns-2
+returns-2 c = c .search-keys .ensures ∙ sym (leaf-is _ _ _ (sym (c .before .before .before .before .leaf-at .ensures) ∙ c .before .before .leaf .given .1))
+
+pub search-leaf-spec : {M : Type 1} → statement M
+search-leaf-spec =
+    tie.close
+    (tie.spec
+    slice-aggregate-leaf-at
+    leaf-at-requires
+    enum-known-f
+    enum-known-leaf
+    search-keys-requires
+    returns
+    returns-2)

@@ -1,0 +1,32 @@
+-- The answer of the call for a key: "Order: 1 to 7; 16; then the records in list order up to the first match [..]; 17". h is the hive, us the path.
+use Prim.Native.Nat.{ℕ}
+use mathlib.Core.List.{List}
+use Rattle.fields.specs.declared.Verdict.{Verdict}
+use Rattle.fields.specs.declared.Fault.the-variants.{NoKey}
+use Rattle.fields.specs.Faults.{flaw, nowhere, _next_, refusalOf}
+use Rattle.base.specs.Block.{binsData, baseFault}
+use Rattle.tree.specs.Tree.{hiveOf}
+use Rattle.paths.specs.declared.KeyFound.{KeyFound}
+use Rattle.paths.specs.declared.KeyFound.the-variants.{At, Refused}
+use Rattle.paths.specs.declared.Look.{Look}
+use Rattle.paths.specs.declared.Look.the-variants.{Found, Missing, Faulty}
+use Rattle.paths.specs.Paths.{partsOf, pathFault}
+use Rattle.paths.specs.Search.{onSound, lookupKey}
+
+-- 1 to 7, then 16
+unfoldable pub openFault : List ℕ → List ℕ → Verdict
+openFault h us = baseFault h next pathFault us
+
+-- the key of that path
+unfoldable pub keyLook : List ℕ → List ℕ → Look
+keyLook h us = onSound (openFault h us) (lookupKey (binsData h) (hiveOf h .root) (partsOf us))
+
+-- "17: no such key"
+abbrev pub keyFound : Look → KeyFound
+keyFound (Found o) = At o
+keyFound Missing = Refused (refusalOf (flaw NoKey nowhere))
+keyFound (Faulty f) = Refused (refusalOf f)
+
+-- find_key
+unfoldable pub findAnswer : List ℕ → List ℕ → KeyFound
+findAnswer h us = keyFound (keyLook h us)

@@ -1,0 +1,5 @@
+pub mod Paths
+pub mod Search
+pub mod Answers
+pub mod Reach
+pub mod Refused
