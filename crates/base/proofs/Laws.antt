@@ -1,7 +1,7 @@
 -- What the crates above may know of a base block: what its soundness says, and that a file that is not clean is refused by the reader.
 use Prim.Native.Nat.{ℕ, _+_, _%_, _^_, _<_, _≤_}
 use native.Mathlib.Omega.{arith}
-use mathlib.Core.Path.{_≡_, refl}
+use mathlib.Core.Path.{_≡_, refl, ap}
 use mathlib.Core.Bool.{Bool, true, false, cond, not}
 use mathlib.Core.List.{List}
 use lib.Dec.{eqb, leb, lit<}
@@ -11,8 +11,8 @@ use Rattle.fields.specs.declared.Flaw.{Flaw}
 use Rattle.fields.specs.declared.Verdict.{Verdict}
 use Rattle.fields.specs.declared.Fault.the-variants.{HiveShort, NoRegf, Checksum, Version, BinsSize, BinsCut, Sequences}
 use Rattle.fields.specs.declared.Verdict.the-variants.{Sound, Flawed}
-use Rattle.fields.specs.Faults.{flaw, nowhere, unless}
-use Rattle.fields.proofs.Firsts.{both, held, holds, sound}
+use Rattle.fields.specs.Faults.{flaw, nowhere, unless, isSound}
+use Rattle.fields.proofs.Firsts.{both, held, holds, sound, is-sound}
 use Rattle.fields.proofs.Bools.{and-inv, and-both, never}
 use Rattle.base.specs.Block.{sector, isRegf, asStored, isSummed, isVersion, binsOf, binsLimit, isBinsSize, usable, isSettled, clean, blockFault, baseFault}
 
@@ -40,32 +40,31 @@ sized n e =
     let z = eqb-false n 0 (not-true (eqb n 0) (a .0)) in
     record { some = omega arith; pages = eqb-true (n % 4096) 0 (b .0); limit = leb-true n binsLimit (b .1) }
 
-module _ (s : List ℕ) where
-  pub usable-sized : (type : ℕ) → usable s type ≡ true → Sized (binsOf s)
-  unfolding usable
-  usable-sized type e =
-      let a = and-inv (isRegf s) _ e in
-      let b = and-inv (isSummed s) _ (a .1) in
-      sized (binsOf s) (and-inv (isVersion s type) _ (b .1) .1)
-
+module _ (s : List ℕ) (type : ℕ) where
   -- the tests 2 to 5 pass exactly when the block is usable
-  pub usable-block : usable s 0 ≡ true → blockFault s ≡ Sound
-  unfolding usable blockFault
-  usable-block e =
-      let a = and-inv (isRegf s) _ e in
-      let b = and-inv (isSummed s) _ (a .1) in
-      let d = and-inv (isVersion s 0) _ (b .1) in
-      sound _ _ (holds _ (a .0)) (sound _ _ (holds _ (b .0)) (sound _ _ (holds _ (d .0)) (holds _ (d .1))))
+  pub usable-block : usable s type ≡ true → blockFault s type ≡ Sound
+  unfolding usable
+  usable-block e = is-sound (blockFault s type) e
 
-  pub block-usable : blockFault s ≡ Sound → usable s 0 ≡ true
-  unfolding usable blockFault
-  block-usable e =
-      let a = both (unless (isRegf s) (flaw NoRegf nowhere)) _ e in
+  pub block-usable : blockFault s type ≡ Sound → usable s type ≡ true
+  unfolding usable
+  block-usable e = ap isSound e
+
+  -- what a usable block is, test by test
+  pub usable-facts : usable s type ≡ true → (isRegf s ≡ true) × (isSummed s ≡ true) × (isVersion s type ≡ true) × (isBinsSize (binsOf s) ≡ true)
+  unfolding blockFault
+  usable-facts e =
+      let a = both (unless (isRegf s) (flaw NoRegf nowhere)) _ (usable-block e) in
       let b = both (unless (isSummed s) (flaw Checksum nowhere)) _ (a .1) in
-      let d = both (unless (isVersion s 0) (flaw Version nowhere)) _ (b .1) in
-      and-both (held (isRegf s) (flaw NoRegf nowhere) (a .0))
-      (and-both (held (isSummed s) (flaw Checksum nowhere) (b .0))
-      (and-both (held (isVersion s 0) (flaw Version nowhere) (d .0)) (held (isBinsSize (binsOf s)) (flaw BinsSize nowhere) (d .1))))
+      let d = both (unless (isVersion s type) (flaw Version nowhere)) _ (b .1) in
+      (held (isRegf s) _ (a .0), held (isSummed s) _ (b .0), held (isVersion s type) _ (d .0), held (isBinsSize (binsOf s)) _ (d .1))
+
+  pub facts-usable : isRegf s ≡ true → isSummed s ≡ true → isVersion s type ≡ true → isBinsSize (binsOf s) ≡ true → usable s type ≡ true
+  unfolding blockFault
+  facts-usable p q r t = block-usable (sound _ _ (holds _ p) (sound _ _ (holds _ q) (sound _ _ (holds _ r) (holds _ t))))
+
+  pub usable-sized : usable s type ≡ true → Sized (binsOf s)
+  usable-sized e = sized (binsOf s) (usable-facts e .3)
 
 -- a hive that passes the tests 1 to 7
 pub record Base (h : List ℕ) : Type 0 where
@@ -78,9 +77,9 @@ module _ (h : List ℕ) where
   unfolding baseFault clean
   base-facts e =
       let a = both (unless (leb 4096 (length h)) (flaw HiveShort nowhere)) _ e in
-      let b = both (blockFault (sector h)) _ (a .1) in
+      let b = both (blockFault (sector h) 0) _ (a .1) in
       let d = both (unless (leb (4096 + binsOf (sector h)) (length h)) (flaw BinsCut nowhere)) _ (b .1) in
-      let u = block-usable (sector h) (b .0) in
+      let u = block-usable (sector h) 0 (b .0) in
       record {
         is-clean = and-both u (held (isSettled (sector h)) (flaw Sequences nowhere) (d .1));
         size = usable-sized (sector h) 0 u;
@@ -93,7 +92,7 @@ module _ (h : List ℕ) where
   facts-base e p =
       let a = and-inv (usable (sector h) 0) _ e in
       sound _ _ (holds _ (le-leb 4096 (length h) (omega arith)))
-      (sound _ _ (usable-block (sector h) (a .0)) (sound _ _ (holds _ (le-leb _ _ p)) (holds _ (a .1))))
+      (sound _ _ (usable-block (sector h) 0 (a .0)) (sound _ _ (holds _ (le-leb _ _ p)) (holds _ (a .1))))
 
   -- a file that is not clean is refused by the reader, with one of 1 to 7
   pub unclean-refused : clean (sector h) ≡ false → (f : Flaw) × (baseFault h ≡ Flawed f)

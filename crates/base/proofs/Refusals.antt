@@ -13,7 +13,7 @@ use Rattle.base.specs.Block.{sector, isRegf, isSummed, isVersion, binsOf
 use Rattle.base.specs.Refused.{OfBase, hive-short, no-regf, other-checksum, other-version, no-bins-size, bins-cut, sequences-differ}
 
 module _ (h : List ℕ) where
-  block-refuses : Every (OfBase h) (blockFault (sector h))
+  block-refuses : Every (OfBase h) (blockFault (sector h) 0)
   unfolding blockFault
   block-refuses =
       every-next (OfBase h) (unless (isRegf (sector h)) (flaw NoRegf nowhere)) _ (every-unless (OfBase h) _ _ (λ e. no-regf e)) (λ a.
@@ -25,7 +25,7 @@ module _ (h : List ℕ) where
   unfolding baseFault
   base-refuses =
       every-next (OfBase h) (unless (leb 4096 (length h)) (flaw HiveShort nowhere)) _ (every-unless (OfBase h) _ _ (λ e. hive-short (leb-false _ _ e))) (λ a.
-      every-next (OfBase h) (blockFault (sector h)) _ block-refuses (λ b.
+      every-next (OfBase h) (blockFault (sector h) 0) _ block-refuses (λ b.
       every-next (OfBase h) (unless (leb (4096 + binsOf (sector h)) (length h)) (flaw BinsCut nowhere)) _
       (every-unless (OfBase h) _ _ (λ e. bins-cut (leb-false _ _ e)))
       (λ c. every-unless (OfBase h) (isSettled (sector h)) _ (λ e. sequences-differ (eqb-false _ _ e)))))

@@ -49,16 +49,16 @@ module _ (h : List ℕ) where
   short p = stop _ _ (fails _ (lt-leb _ _ p))
 
   module _ (long : 4096 ≤ length h) where
-    past : baseFault h ≡ blockFault (sector h)
+    past : baseFault h ≡ blockFault (sector h) 0
         next unless (leb (4096 + binsOf (sector h)) (length h)) (flaw BinsCut nowhere)
         next unless (isSettled (sector h)) (flaw Sequences nowhere)
     unfolding baseFault
     past = on _ _ (holds _ (le-leb _ _ long))
 
-    pub block : {f : Flaw} → blockFault (sector h) ≡ Flawed f → baseFault h ≡ Flawed f
+    pub block : {f : Flaw} → blockFault (sector h) 0 ≡ Flawed f → baseFault h ≡ Flawed f
     block e = past ∙ stop _ _ e
 
-    module _ (good : blockFault (sector h) ≡ Sound) where
+    module _ (good : blockFault (sector h) 0 ≡ Sound) where
       pub cut : length h < 4096 + binsOf (sector h) → baseFault h ≡ Flawed (flaw BinsCut nowhere)
       cut p = past ∙ on _ _ good ∙ stop _ _ (fails _ (lt-leb _ _ p))
 

@@ -6,10 +6,11 @@ use lib.Bits.{bitXor}
 use lib.Dec.{eqb, leb}
 use lib.ListN.{length, take, drop}
 use Rattle.fields.specs.declared.Fault.the-variants.{HiveShort, NoRegf, Checksum, Version, BinsSize, BinsCut, Sequences}
+use Rattle.fields.specs.declared.Offset.{Offset}
 use Rattle.fields.specs.declared.Verdict.{Verdict}
 use Rattle.fields.specs.Number.{u32At}
 use Rattle.fields.specs.Bytes.{standsAt}
-use Rattle.fields.specs.Faults.{flaw, nowhere, unless, _next_}
+use Rattle.fields.specs.Faults.{flaw, nowhere, unless, _next_, isSound}
 
 -- the first 512 bytes of a file
 abbrev pub sector : List ℕ → List ℕ
@@ -57,9 +58,17 @@ binsLimit = 67108864
 unfoldable pub isBinsSize : ℕ → Bool
 isBinsSize n = not (eqb n 0) && (eqb (n % 4096) 0 && leb n binsLimit)
 
+-- the tests 2 to 5, with the file type that is asked for
+unfoldable pub blockFault : List ℕ → ℕ → Verdict
+blockFault s type =
+    unless (isRegf s) (flaw NoRegf nowhere)
+    next unless (isSummed s) (flaw Checksum nowhere)
+    next unless (isVersion s type) (flaw Version nowhere)
+    next unless (isBinsSize (binsOf s)) (flaw BinsSize nowhere)
+
 -- "A base block is *usable* when all this holds"
 unfoldable pub usable : List ℕ → ℕ → Bool
-usable s type = isRegf s && (isSummed s && (isVersion s type && isBinsSize (binsOf s)))
+usable s type = isSound (blockFault s type)
 
 -- "sequence numbers at 4 and 8"
 abbrev pub isSettled : List ℕ → Bool
@@ -70,21 +79,14 @@ unfoldable pub clean : List ℕ → Bool
 clean s = usable s 0 && isSettled s
 
 -- "root offset at 36"
-abbrev pub rootOf : List ℕ → ℕ
-rootOf s = u32At s 36
+abbrev pub rootOf : List ℕ → Offset
+rootOf s = record { 0 = u32At s 36 }
 
 -- The reader's tests 1 to 7: "The first fault in this order answers."
-unfoldable pub blockFault : List ℕ → Verdict
-blockFault s =
-    unless (isRegf s) (flaw NoRegf nowhere)
-    next unless (isSummed s) (flaw Checksum nowhere)
-    next unless (isVersion s 0) (flaw Version nowhere)
-    next unless (isBinsSize (binsOf s)) (flaw BinsSize nowhere)
-
 unfoldable pub baseFault : List ℕ → Verdict
 baseFault h =
     unless (leb 4096 (length h)) (flaw HiveShort nowhere)
-    next blockFault (sector h)
+    next blockFault (sector h) 0
     next unless (leb (4096 + binsOf (sector h)) (length h)) (flaw BinsCut nowhere)
     next unless (isSettled (sector h)) (flaw Sequences nowhere)
 

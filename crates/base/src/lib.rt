@@ -3,9 +3,10 @@ use fields::Fault;
 use fields::Offset;
 use fields::Verdict;
 ghost use mathlib.Core.Path.{_≡_};
-ghost use Prim.Native.Nat.{_+_, _≤_};
+ghost use Prim.Native.Nat.{_+_, _≤_, _<_};
 ghost use lib.ListN.{length};
-ghost use Rattle.base.specs.Block.{isRegf, xors, asStored, storedChecksum, isSummed, isVersion, isBinsSize, usable as usableAs, isSettled, clean as cleanOf, blockFault, baseFault};
+ghost use Rattle.fields.specs.declared.Verdict.the-variants.{Sound};
+ghost use Rattle.base.specs.Block.{isRegf, xors, asStored, storedChecksum, isSummed, isVersion, minorOf, binsOf, isBinsSize, usable as usableAs, isSettled, clean as cleanOf, rootOf, blockFault, baseFault, sector, binsData};
 
 // The most bytes that bins data may have.
 pub const BINS_LIMIT: u32 = 67108864;
@@ -96,21 +97,43 @@ fn is_bins_size(n: u32) -> bool
     n <= BINS_LIMIT
 }
 
-// Whether the base block is usable, as a file of the given type: 0 for a hive, 1 or 2 for a log.
+// The tests 2 to 5 of a file's first sector, as a file of the given type: 0 for a hive, 1 or 2 for a log.
+fn block_flaw(s: &[u8], kind: u32) -> Verdict
+    requires { ⌜ 512 ≤ length (now s) ⌝ }
+    ensures { λ r. ⌜ r ≡ blockFault (now (s .entry)) kind ⌝ }
+{
+    if !is_regf(s) {
+        return fields::flawed(Fault::NoRegf, Offset(0));
+    }
+    if !is_summed(s) {
+        return fields::flawed(Fault::Checksum, Offset(0));
+    }
+    if !is_version(s, kind) {
+        return fields::flawed(Fault::Version, Offset(0));
+    }
+    if !is_bins_size(fields::u32_at(s, 40)) {
+        return fields::flawed(Fault::BinsSize, Offset(0));
+    }
+    Verdict::Sound
+}
+
+// "A base block is *usable* when all this holds"
 pub fn usable(s: &[u8], kind: u32) -> bool
     requires { ⌜ 512 ≤ length (now s) ⌝ }
     ensures { λ r. ⌜ r ≡ usableAs (now (s .entry)) kind ⌝ }
 {
-    if !is_regf(s) {
-        return false;
+    match block_flaw(s, kind) {
+        Verdict::Sound => true,
+        Verdict::Flawed(_) => false,
     }
-    if !is_summed(s) {
-        return false;
-    }
-    if !is_version(s, kind) {
-        return false;
-    }
-    is_bins_size(fields::u32_at(s, 40))
+}
+
+// "bins size at 40"
+pub fn bins_size(s: &[u8]) -> usize
+    requires { ⌜ 512 ≤ length (now s) ⌝ }
+    ensures { λ r. ⌜ (r ≡ binsOf (now (s .entry))) × (r < 4294967296) ⌝ }
+{
+    fields::u32_at(s, 40) as usize
 }
 
 // Whether the two sequence numbers are equal.
@@ -131,26 +154,6 @@ pub fn clean(s: &[u8]) -> bool
     is_settled(s)
 }
 
-// The tests 2 to 5 of a hive's first sector.
-fn block_flaw(s: &[u8]) -> Verdict
-    requires { ⌜ 512 ≤ length (now s) ⌝ }
-    ensures { λ r. ⌜ r ≡ blockFault (now (s .entry)) ⌝ }
-{
-    if !is_regf(s) {
-        return fields::flawed(Fault::NoRegf, Offset(0));
-    }
-    if !is_summed(s) {
-        return fields::flawed(Fault::Checksum, Offset(0));
-    }
-    if !is_version(s, 0) {
-        return fields::flawed(Fault::Version, Offset(0));
-    }
-    if !is_bins_size(fields::u32_at(s, 40)) {
-        return fields::flawed(Fault::BinsSize, Offset(0));
-    }
-    Verdict::Sound
-}
-
 // The reader's tests 1 to 7.
 pub fn base_flaw(hive: &[u8]) -> Verdict
     ensures { λ r. ⌜ r ≡ baseFault (now (hive .entry)) ⌝ }
@@ -159,11 +162,10 @@ pub fn base_flaw(hive: &[u8]) -> Verdict
         return fields::flawed(Fault::HiveShort, Offset(0));
     }
     let s = &hive[0..512];
-    match block_flaw(s) {
+    match block_flaw(s, 0) {
         Verdict::Flawed(f) => Verdict::Flawed(f),
         Verdict::Sound => {
-            let bins = fields::u32_at(s, 40) as usize;
-            if hive.len() - 4096 < bins {
+            if hive.len() - 4096 < bins_size(s) {
                 return fields::flawed(Fault::BinsCut, Offset(0));
             }
             if !is_settled(s) {
@@ -172,4 +174,29 @@ pub fn base_flaw(hive: &[u8]) -> Verdict
             Verdict::Sound
         }
     }
+}
+
+// The bins data of a hive that passed the tests 1 to 7.
+pub fn bins_of(hive: &[u8]) -> &[u8]
+    requires { ⌜ baseFault (now hive) ≡ Sound ⌝ }
+    ensures { λ r. ⌜ now r ≡ binsData (now (hive .entry)) ⌝ }
+{
+    let end = 4096 + bins_size(&hive[0..512]);
+    &hive[4096..end]
+}
+
+// "minor 3, 4 or 5 at 24"
+pub fn minor_of(hive: &[u8]) -> u32
+    requires { ⌜ baseFault (now hive) ≡ Sound ⌝ }
+    ensures { λ r. ⌜ r ≡ minorOf (sector (now (hive .entry))) ⌝ }
+{
+    fields::u32_at(&hive[0..512], 24)
+}
+
+// "root offset at 36"
+pub fn root_of(hive: &[u8]) -> Offset
+    requires { ⌜ baseFault (now hive) ≡ Sound ⌝ }
+    ensures { λ r. ⌜ r ≡ rootOf (sector (now (hive .entry))) ⌝ }
+{
+    Offset(fields::u32_at(&hive[0..512], 36))
 }

@@ -1,9 +1,10 @@
 -- The tests 1 to 8, a law for each way out.
 use Prim.Native.Nat.{ℕ, _/_, _≤_, _<_}
+use native.Mathlib.Omega.{arith}
 use mathlib.Core.Path.{_≡_, _∙_}
 use mathlib.Core.List.{List}
 use lib.Dec.{leb}
-use lib.ListN.{length}
+use lib.ListN.{length, length-take, length-drop}
 use borrow.Author.Tests.{le-leb, lt-leb, leb-true}
 use Rattle.fields.specs.declared.Flaw.{Flaw}
 use Rattle.fields.specs.declared.Fault.the-variants.{MapSmall}
@@ -11,9 +12,10 @@ use Rattle.fields.specs.declared.Verdict.the-variants.{Sound, Flawed}
 use Rattle.fields.specs.Faults.{flaw, nowhere}
 use Rattle.fields.proofs.Firsts.{on, stop, both, held, holds, fails}
 use Rattle.base.specs.Block.{sector, binsOf, baseFault, binsData}
+use Rattle.base.proofs.Laws.{base-facts}
 use Rattle.cells.specs.declared.Surveyed.{Surveyed}
 use Rattle.cells.specs.declared.Surveyed.the-variants.{Refused}
-use Rattle.cells.specs.Tiling.{layout, surveyOf}
+use Rattle.cells.specs.Tiling.{layout, surveyOf, Data}
 use Rattle.cells.specs.Map.{mapAfter}
 use Rattle.cells.specs.Survey.{frontFault, surveyAnswer, mapLeft}
 
@@ -35,6 +37,18 @@ module _ (h : List ℕ) (room : ℕ) where
   front-facts e =
       let a = both (baseFault h) _ e in
       (a .0, leb-true _ _ (held (leb (binsOf (sector h) / 64) room) (flaw MapSmall nowhere) (a .1)))
+
+-- what a pass over the bins asks
+pub front-data : (h m : List ℕ) → frontFault h (length m) ≡ Sound → Data (binsData h) m
+front-data h m e =
+    let f = front-facts h (length m) e in
+    let b = base-facts h (f .0) in
+    let room = f .1 in
+    record {
+      pages = simp (length-take, length-drop) (omega arith);
+      small = simp (length-take, length-drop) (omega arith);
+      room = simp (length-take, length-drop) (omega arith);
+    }
 
 -- The survey: refused by 1 to 8 with the map untouched, or as the bins data say.
 module _ (h m : List ℕ) where

@@ -3,6 +3,7 @@ pub mod Total
 pub mod Bit
 pub mod Beyond
 pub mod Naming
+pub mod Parts
 pub mod Marked
 pub mod Fronts
 pub mod Turns

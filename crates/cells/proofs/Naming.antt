@@ -22,7 +22,7 @@ use Rattle.cells.specs.declared.Rule.{Rule}
 use Rattle.cells.specs.declared.Rule.the-variants.{Map, Header}
 use Rattle.cells.specs.Tiling.{goodSize}
 use Rattle.cells.specs.Map.{isMarked}
-use Rattle.cells.specs.Named.{isNamed, cellAt, byHeader, cellOf, lengthNamed, lengthBy, cellFault, dataOf, dataAt}
+use Rattle.cells.specs.Named.{isNamed, cellAt, byHeader, cellOf, lengthNamed, lengthBy, cellFault, dataOf, dataAt, Inside}
 use Rattle.cells.specs.Tiled.{Good}
 use Rattle.cells.proofs.Steps.{good}
 
@@ -110,20 +110,15 @@ module _ (d : List ℕ) (o : Offset) where
       by false f = rw f
 
   pub length-some : (r : Rule) (m : List ℕ) (n : ℕ) → n ≡ lengthBy r d m (o .0) → (n ≡ 0 → ⊥)
-      → (cellOf r d m o ≡ Named (record { at = record { 0 = o .0 + 4 }; len = n - 4 })) × Names d (o .0) × (n ≡ sizeAt d (o .0) .bytes)
+      → (cellOf r d m o ≡ Named (record { at = o; len = n - 4 })) × Names d (o .0) × (n ≡ sizeAt d (o .0) .bytes)
   unfolding lengthBy cellOf byHeader
   length-some Header m n e z = let s = some-there n e z in (rw (s .0, s .1), names d (o .0) (s .0), s .1)
   length-some Map m n e z = by (isMarked m (o .0)) refl
     where
       by : (t : Bool) → isMarked m (o .0) ≡ t
-          → (cellOf Map d m o ≡ Named (record { at = record { 0 = o .0 + 4 }; len = n - 4 })) × Names d (o .0) × (n ≡ sizeAt d (o .0) .bytes)
+          → (cellOf Map d m o ≡ Named (record { at = o; len = n - 4 })) × Names d (o .0) × (n ≡ sizeAt d (o .0) .bytes)
       by true f = let s = some-there n (rw f at e) z in (rw (f, s .0, s .1), names d (o .0) (s .0), s .1)
       by false f = absurd (z (rw f at e))
-
--- a cell's data lie inside the bins data, past the size field of a bin's first cell
-pub record Inside (d : List ℕ) (c : Cell) : Type 0 where
-  pub low : 36 ≤ c .at .0
-  pub high : c .at .0 + c .len ≤ length d
 
 module _ (d : List ℕ) (o : Offset) where
   -- a cell that is found is the one that stands there
@@ -150,7 +145,7 @@ module _ (d : List ℕ) (o : Offset) where
       let f = found (by-either r m e) in
       let n = names d (o .0) (f .0) in
       let s = n .sized in
-      rw (f .1) (record { low = omega arith; high = omega arith })
+      rw (f .1) (record { ends = omega arith })
 
   -- what is not found is missing at the offset itself
   pub missing : (r : Rule) (m : List ℕ) {f : Flaw} → cellOf r d m o ≡ Missing f → f ≡ flaw NoCell o
@@ -167,9 +162,9 @@ module _ (d : List ℕ) (o : Offset) where
       by true g false k = let q : flaw NoCell o ≡ f = cc in sym q
       by false g s k = let q : flaw NoCell o ≡ f = cc in sym q
 
-pub data-length : (d : List ℕ) (c : Cell) → c .at .0 + c .len ≤ length d → length (dataOf d c) ≡ c .len
+pub data-length : (d : List ℕ) (c : Cell) → Inside d c → length (dataOf d c) ≡ c .len
 unfolding dataOf
-data-length d c p = simp (length-take, length-drop) (omega arith)
+data-length d c p = simp (length-take, length-drop) (omega (arith, p .ends))
 
 -- What the upper crates' proofs use where `find_cell` answered: a cell that is found passes the test, and its data are those at the offset.
 module _ (r : Rule) (d m : List ℕ) (o : Offset) where
@@ -184,6 +179,15 @@ module _ (r : Rule) (d m : List ℕ) (o : Offset) where
   pub cell-data-at : {c : Cell} → cellOf r d m o ≡ Named c → dataOf d c ≡ dataAt d o
   unfolding dataAt
   cell-data-at e = ap (dataOf d) (found d o (by-either d o r m e) .1)
+
+  -- by its header it is found too, whatever the map
+  pub header-cell : cellFault r d m o ≡ Sound → (m′ : List ℕ) → cellFault Header d m′ o ≡ Sound
+  unfolding cellFault cellOf
+  header-cell e m′ = by (cellOf r d m o) refl
+    where
+      by : (x : Found) → cellOf r d m o ≡ x → cellFault Header d m′ o ≡ Sound
+      by (Named c) p = rw (by-either d o r m p)
+      by (Missing f) p = let z : _≡_ {A = ℕ} 0 1 = cc in absurd (omega arith)
 
   pub sound-names : cellFault r d m o ≡ Sound → Names d (o .0)
   unfolding cellFault
@@ -201,7 +205,3 @@ module _ (r : Rule) (d m : List ℕ) (o : Offset) where
       by : (x : Found) → cellOf r d m o ≡ x → f ≡ flaw NoCell o
       by (Named c) p = let z : _≡_ {A = ℕ} 0 1 = cc in absurd (omega arith)
       by (Missing g) p = let q : g ≡ f = cc in sym q ∙ missing d o r m p
-
-pub data-at-length : (d : List ℕ) (o : Offset) → Names d (o .0) → length (dataAt d o) ≡ sizeAt d (o .0) .bytes - 4
-unfolding dataAt
-data-at-length d o n = let s = n .sized in data-length d (cellAt d o) (omega arith)

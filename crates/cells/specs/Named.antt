@@ -1,15 +1,17 @@
 -- The cell in use that an offset names: by the work map in the check, and by the cell's own header in lookup.
-use Prim.Native.Nat.{ℕ, _+_, _-_, _%_}
+use Prim.Native.Nat.{ℕ, _+_, _-_, _%_, _≤_, _<_}
 use mathlib.Core.Bool.{Bool, cond, _&&_}
 use mathlib.Core.List.{List}
 use lib.Dec.{eqb, leb}
 use lib.ListN.{length, take, drop}
 use Rattle.fields.specs.declared.Offset.{Offset}
+use Rattle.fields.specs.declared.Place.{Place}
 use Rattle.fields.specs.declared.Fault.the-variants.{NoCell}
 use Rattle.fields.specs.declared.Verdict.{Verdict}
 use Rattle.fields.specs.declared.Verdict.the-variants.{Sound, Flawed}
 use Rattle.fields.specs.Number.{sizeAt}
 use Rattle.fields.specs.Faults.{flaw}
+use Rattle.fields.specs.Position.{placeOf}
 use Rattle.cells.specs.declared.Cell.{Cell}
 use Rattle.cells.specs.declared.Found.{Found}
 use Rattle.cells.specs.declared.Found.the-variants.{Named, Missing}
@@ -24,9 +26,9 @@ unfoldable pub isNamed : List ℕ → ℕ → Bool
 isNamed d o =
     leb 32 o && (eqb (o % 8) 0 && (leb (o + 4) (length d) && (sizeAt d o .used && goodSize (sizeAt d o .bytes) (length d - o))))
 
--- the data of the cell at an offset: what follows its size field
+-- the cell at an offset: its data are what follows its size field
 abbrev pub cellAt : List ℕ → Offset → Cell
-cellAt d o = record { at = record { 0 = o .0 + 4 }; len = sizeAt d (o .0) .bytes - 4 }
+cellAt d o = record { at = o; len = sizeAt d (o .0) .bytes - 4 }
 
 unfoldable pub byHeader : List ℕ → Offset → Found
 byHeader d o = cond (isNamed d (o .0)) (Named (cellAt d o)) (Missing (flaw NoCell o))
@@ -52,10 +54,28 @@ verdictOf (Missing f) = Flawed f
 unfoldable pub cellFault : Rule → List ℕ → List ℕ → Offset → Verdict
 cellFault r d m o = verdictOf (cellOf r d m o)
 
--- the bytes of a cell's data
+-- the bytes of a cell's data: "A cell starts with a signed 32-bit size", and what follows it are its data
 unfoldable pub dataOf : List ℕ → Cell → List ℕ
-dataOf d c = take (c .len) (drop (c .at .0) d)
+dataOf d c = take (c .len) (drop (c .at .0 + 4) d)
 
 -- the data of the cell at an offset, which upper definitions read
 unfoldable pub dataAt : List ℕ → Offset → List ℕ
 dataAt d o = dataOf d (cellAt d o)
+
+-- a cell's data lie inside the bins data
+pub record Inside (d : List ℕ) (c : Cell) : Type 0 where
+  pub ends : c .at .0 + 4 + c .len ≤ length d
+
+-- a part of a cell's data, so many bytes from a position on, lies inside them. No bytes from the start on would lie in the data of any offset, whether
+-- or not it names a cell: nothing is read there, so that is no part.
+pub record PartIn (d : List ℕ) (o : Offset) (at len : ℕ) : Type 0 where
+  pub some : 0 < at + len
+  pub ends : at + len ≤ length (dataAt d o)
+
+-- the bytes of such a part
+abbrev pub partIn : List ℕ → Offset → ℕ → ℕ → List ℕ
+partIn d o at len = take len (drop at (dataAt d o))
+
+-- where in the file such a part stands; what is no part, at 0
+unfoldable pub partPlace : Offset → ℕ → ℕ → Place
+partPlace o at len = cond (eqb (at + len) 0) (record { 0 = 0 }) (record { 0 = placeOf o .0 + 4 + at })

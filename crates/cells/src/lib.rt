@@ -1,16 +1,18 @@
-// Bins, cells and the work map. What the crates above may cite: `survey`, and the bounded cell that an offset names.
+// Bins, cells and the work map. What the crates above may cite: `survey`, the bounded cell that an offset names, and the reads inside its data.
 //
 // Everything below the survey speaks of the bins data, the part of the hive from 4096 on, at offsets in it.
 use fields::Fault;
 use fields::Flaw;
 use fields::Offset;
+use fields::Place;
 use fields::Verdict;
 ghost use mathlib.Core.Path.{_≡_};
 ghost use Prim.Native.Nat.{_+_, _-_, _*_, _/_, _%_, _≤_, _<_};
 ghost use lib.ListN.{length};
+ghost use Rattle.fields.specs.Number.{u32At};
 ghost use Rattle.cells.specs.Tiling.{goodSize, tiling, rowOf, binSize, layout, surveyOf, Bin, Data};
 ghost use Rattle.cells.specs.Map.{markAt, marks, marksAll, zeros, isMarked, mapAfter};
-ghost use Rattle.cells.specs.Named.{lengthNamed, lengthBy, cellOf, dataOf};
+ghost use Rattle.cells.specs.Named.{lengthNamed, lengthBy, cellOf, dataOf, dataAt, Inside, PartIn, partIn, partPlace};
 ghost use Rattle.cells.specs.Survey.{frontFault, surveyAnswer, mapLeft};
 
 // "the absolute value is a nonzero multiple of 8 and stays inside the bin", of which room bytes are left.
@@ -180,9 +182,7 @@ fn front_flaw(hive: &[u8], room: usize) -> Verdict
     match base::base_flaw(hive) {
         Verdict::Flawed(f) => Verdict::Flawed(f),
         Verdict::Sound => {
-            let s = &hive[0..512];
-            let n = fields::u32_at(s, 40) as usize;
-            if room < n / 64 {
+            if room < base::bins_size(&hive[0..512]) / 64 {
                 return fields::flawed(Fault::MapSmall, Offset(0));
             }
             Verdict::Sound
@@ -197,15 +197,14 @@ pub fn survey(hive: &[u8], map: &mut [u8]) -> Surveyed
 {
     match front_flaw(hive, map.len()) {
         Verdict::Flawed(f) => Surveyed::Refused(f),
-        Verdict::Sound => {
-            let s = &hive[0..512];
-            let end = 4096 + fields::u32_at(s, 40) as usize;
-            scan(&hive[4096..end], map)
-        }
+        Verdict::Sound => scan(base::bins_of(hive), map),
     }
 }
 
-// A cell's data: so many bytes from an offset.
+// "A cell starts with a signed 32-bit size": the data follow it.
+const SIZE_FIELD: usize = 4;
+
+// The bounded cell: its offset, and how many bytes of data follow its size field.
 pub struct Cell {
     pub at: Offset,
     pub len: usize,
@@ -274,7 +273,7 @@ fn named_length(bins: &[u8], map: &[u8], rule: Rule, o: Offset) -> usize
     }
 }
 
-// The data of the cell in use that an offset names, or 11 at that offset.
+// The cell in use that an offset names, or 11 at that offset.
 pub fn find_cell(bins: &[u8], map: &[u8], rule: Rule, o: Offset) -> Found
     ensures { λ r. ⌜ r ≡ cellOf rule (now (bins .entry)) (now (map .entry)) o ⌝ }
 {
@@ -286,17 +285,49 @@ pub fn find_cell(bins: &[u8], map: &[u8], rule: Rule, o: Offset) -> Found
         });
     }
     Found::Named(Cell {
-        at: Offset(o.0 + 4),
-        len: n - 4,
+        at: o,
+        len: n - SIZE_FIELD,
     })
 }
 
 // A cell's data, as a part of the bins data.
 pub fn cell_data(bins: &[u8], c: Cell) -> &[u8]
-    requires { ⌜ c .at .0 + c .len ≤ length (now bins) ⌝ }
+    requires { ⌜ Inside (now bins) c ⌝ }
     ensures { λ r. ⌜ now r ≡ dataOf (now (bins .entry)) c ⌝ }
 {
-    let at = c.at.0 as usize;
-    let end = at + c.len;
-    &bins[at..end]
+    let start = c.at.0 as usize + SIZE_FIELD;
+    let end = start + c.len;
+    &bins[start..end]
+}
+
+// A part of the data of a cell that was tested.
+pub fn part_in(bins: &[u8], o: Offset, at: usize, len: usize) -> &[u8]
+    requires { ⌜ PartIn (now bins) o at len ⌝ }
+    ensures { λ r. ⌜ now r ≡ partIn (now (bins .entry)) o at len ⌝ }
+{
+    let start = o.0 as usize + SIZE_FIELD + at;
+    let end = start + len;
+    &bins[start..end]
+}
+
+// A number in the data of a cell that was tested.
+pub fn word_in(bins: &[u8], o: Offset, at: usize) -> u32
+    requires { ⌜ at + 4 ≤ length (dataAt (now bins) o) ⌝ }
+    ensures { λ r. ⌜ r ≡ u32At (dataAt (now (bins .entry)) o) at ⌝ }
+{
+    fields::u32_at(bins, o.0 as usize + SIZE_FIELD + at)
+}
+
+// Where in the file a part of a cell's data stands; what is no part, at 0.
+pub fn part_place(o: Offset, at: usize, len: usize) -> Place
+    requires { ⌜ at < 4294967296 ⌝ }
+    ensures { λ r. ⌜ r ≡ partPlace o at len ⌝ }
+{
+    if 0 < at {
+        return Place(fields::to_place(o).0 + SIZE_FIELD + at);
+    }
+    if 0 < len {
+        return Place(fields::to_place(o).0 + SIZE_FIELD);
+    }
+    Place(0)
 }

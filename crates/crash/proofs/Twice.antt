@@ -10,7 +10,7 @@ use Rattle.fields.specs.Number.{u16At, u32At, u64At}
 use Rattle.fields.specs.Bytes.{sameBytes, standsAt}
 use Rattle.fields.specs.Faults.{_next_}
 use Rattle.fields.proofs.Bools.{and-inv}
-use Rattle.base.specs.Block.{xors, asStored, storedChecksum, isVersion, isBinsSize, usable, clean}
+use Rattle.base.specs.Block.{xors, asStored, storedChecksum, isVersion, isBinsSize, usable, clean, blockFault}
 use Rattle.bitmap.specs.Bits.{bitsBefore}
 use Rattle.sectors.specs.Sector.{sectorAt, stored, page, Bytes}
 use Rattle.old_log.specs.Layout.{bitmap, isLogged, logged}
@@ -75,7 +75,7 @@ unfolding afterPages
 may-store o p e = running hive l 2 ok bytes o .pages [] p e
 
 pub cut-twice : Cut hive l
-unfolding failures landedIn times closeAnswer startAnswer pageHive pageAnswer testFault hiveFault clean stampsAgree inBelow page logged log head hive logFault headFault isLogBase usable isVersion isBinsSize storedChecksum asStored xors u64At u32At u16At standsAt sameBytes bitmap bitsBefore _next_
+unfolding failures landedIn times closeAnswer startAnswer pageHive pageAnswer testFault hiveFault clean stampsAgree inBelow page logged log head hive logFault headFault isLogBase usable blockFault isVersion isBinsSize storedChecksum asStored xors u64At u32At u16At standsAt sameBytes bitmap bitsBefore _next_
 cut-twice =
     let o₀ : Open hive l false hive [] [] hive = Trace.begin in
     let o₁ = Trace.stores 0 (may-store o₀ 0 zero-logged) o₀ in

@@ -55,11 +55,11 @@ nothing-found = refl
 
 -- the first call of the small repair: a byte of page 0 is the log's, and one of page 15 is still the hive's
 page-zero : getD (pageHive hive (log 512) 0) 4124 0 ≡ 7
-unfolding pageHive pageAnswer startAnswer testFault hiveFault clean hive stampsAgree page logged log head logFault headFault isLogBase usable isVersion isBinsSize storedChecksum asStored xors u64At u32At u16At standsAt sameBytes bitmap bitsBefore nextAmong _next_
+unfolding pageHive pageAnswer startAnswer testFault hiveFault clean hive stampsAgree page logged log head logFault headFault isLogBase usable blockFault isVersion isBinsSize storedChecksum asStored xors u64At u32At u16At standsAt sameBytes bitmap bitsBefore nextAmong _next_
 page-zero = refl
 
 page-fifteen : getD (page (pageHive hive (log 512) 0) 15) 0 0 ≡ 0
-unfolding pageHive pageAnswer startAnswer testFault hiveFault clean hive stampsAgree page logged log head logFault headFault isLogBase usable isVersion isBinsSize storedChecksum asStored xors u64At u32At u16At standsAt sameBytes bitmap bitsBefore nextAmong _next_
+unfolding pageHive pageAnswer startAnswer testFault hiveFault clean hive stampsAgree page logged log head logFault headFault isLogBase usable blockFault isVersion isBinsSize storedChecksum asStored xors u64At u32At u16At standsAt sameBytes bitmap bitsBefore nextAmong _next_
 page-fifteen = refl
 
 is-fifteen : (isLogged (log 512) 15 ≡ true) × (getD (logged (log 512) 15) 0 0 ≡ 9)

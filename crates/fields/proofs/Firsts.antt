@@ -6,7 +6,7 @@ use mathlib.Core.Bool.{Bool, true, false}
 use Rattle.fields.specs.declared.Flaw.{Flaw}
 use Rattle.fields.specs.declared.Verdict.{Verdict}
 use Rattle.fields.specs.declared.Verdict.the-variants.{Sound, Flawed}
-use Rattle.fields.specs.Faults.{_next_, unless}
+use Rattle.fields.specs.Faults.{_next_, unless, isSound}
 
 -- a sound test hands on to the next
 pub on : (a b : Verdict) → a ≡ Sound → a next b ≡ b
@@ -36,3 +36,8 @@ holds f e = rw e
 
 pub fails : {t : Bool} (f : Flaw) → t ≡ false → unless t f ≡ Flawed f
 fails f e = rw e
+
+-- what was found is nothing
+pub is-sound : (v : Verdict) → isSound v ≡ true → v ≡ Sound
+is-sound Sound e = refl
+is-sound (Flawed f) e = absurd (let z : _≡_ {A = ℕ} 0 1 = cc in omega arith)

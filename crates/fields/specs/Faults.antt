@@ -54,6 +54,11 @@ abbrev pub unless : Bool → Flaw → Verdict
 unless true f = Sound
 unless false f = Flawed f
 
+-- whether a test found nothing
+abbrev pub isSound : Verdict → Bool
+isSound Sound = true
+isSound (Flawed f) = false
+
 -- "The first fault in this order answers."
 infixr 60 _next_
 unfoldable pub _next_ : Verdict → Verdict → Verdict

@@ -257,7 +257,7 @@ fn form_of(d: ValueData) -> u32
     ensures { λ r. ⌜ r ≡ formOf d ⌝ }
 {
     match d {
-        ValueData::Inline { at: _, len: _ } => INLINE,
+        ValueData::Inline { cell: _, len: _ } => INLINE,
         ValueData::OneCell { cell: _, len: _ } => ONE_CELL,
         ValueData::Segments { cell: _, len: _ } => SEGMENTS,
     }

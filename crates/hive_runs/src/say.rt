@@ -21,7 +21,7 @@ pub fn sum(before: &[u8], s: &[u8]) {
 fn info(i: Info) {
     let content = i.content;
     match content {
-        ValueData::Inline { at: _, len: _ } => io::write_all(1, b"inline"),
+        ValueData::Inline { cell: _, len: _ } => io::write_all(1, b"inline"),
         ValueData::OneCell { cell: _, len: _ } => io::write_all(1, b"cell"),
         ValueData::Segments { cell: _, len: _ } => io::write_all(1, b"segments"),
     }

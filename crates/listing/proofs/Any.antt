@@ -5,7 +5,7 @@ use mathlib.Core.Path.{_≡_, refl, ap, sym, subst}
 use mathlib.Core.Bool.{Bool, true, false, cond}
 use mathlib.Core.List.{List, [], _∷_, _++_, List·Memᴰ, List·Memᴰ·head, List·Memᴰ·tail, Memᴰ·append-left, Memᴰ·append-right}
 use lib.Dec.{eqb, leb}
-use lib.ListN.{length, getD, length-take, length-drop}
+use lib.ListN.{length, getD}
 use borrow.Author.Tests.{eqb-false, leb-false}
 use Rattle.fields.specs.declared.Flaw.{Flaw}
 use Rattle.fields.specs.declared.Offset.{Offset}
@@ -15,15 +15,16 @@ use Rattle.fields.specs.declared.Verdict.the-variants.{Sound, Flawed}
 use Rattle.fields.specs.Faults.{nowhere, refusalOf, _next_}
 use Rattle.fields.proofs.Every.{Every, every-next}
 use Rattle.fields.proofs.Firsts.{both}
-use Rattle.base.specs.Block.{sector, binsOf, minorOf, binsData, baseFault}
-use Rattle.base.proofs.Laws.{base-facts}
+use Rattle.base.specs.Block.{sector, minorOf, binsData, baseFault}
 use Rattle.base.proofs.Refusals.{base-refuses}
 use Rattle.cells.specs.declared.Rule.the-variants.{Header}
 use Rattle.cells.specs.Named.{dataAt}
+use Rattle.cells.proofs.Parts.{place-room}
 use Rattle.cells.proofs.Refusals.{Ruled, by-header}
 use Rattle.records.specs.declared.Child.{Child}
+use Rattle.records.specs.declared.Key.{Key}
 use Rattle.records.specs.declared.Name.{Name}
-use Rattle.records.specs.Keys.{keyFault, keyOf}
+use Rattle.records.specs.Keys.{keyFault, keyOf, NameIn}
 use Rattle.records.specs.Lists.{leafFault, headFault, leafChildren, leavesOf, childrenIn, children}
 use Rattle.records.specs.Places.{noChild}
 use Rattle.records.proofs.LawsKey.{name-room}
@@ -69,13 +70,9 @@ hive-at Sound a p = (refl, p)
 hive-at (Flawed f) a p = absurd (let z : _≡_ {A = ℕ} 0 1 = cc in omega arith)
 
 module _ (h : List ℕ) where
-  name-lies : baseFault h ≡ Sound → (o : Offset) (n : Name) (e : Entry) → n .at + n .len ≤ length (binsData h) → entryOf o n ≡ e
-      → e .name .0 + e .len ≤ length h
+  name-lies : baseFault h ≡ Sound → (o : Offset) (n : Name) (e : Entry) → NameIn (binsData h) n → entryOf o n ≡ e → e .name .0 + e .len ≤ length h
   unfolding entryOf
-  name-lies b o n e p q =
-      let f = base-facts h b in
-      let l : length (binsData h) ≡ binsOf (sector h) = simp (length-take, length-drop) (omega arith) in
-      rw (← q) (omega arith)
+  name-lies b o n e p q = rw (← q) (place-room (n .cell) (n .at) (n .len) h b (p .ends))
 
   -- a key by its offset
   facts-at : (v : Verdict) (x : Facts) {k : Facts} → factsWhere v x ≡ facts.At k → (v ≡ Sound) × (x ≡ k)

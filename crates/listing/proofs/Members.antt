@@ -12,13 +12,14 @@ use Rattle.fields.specs.declared.Offset.{Offset}
 use Rattle.fields.specs.declared.Verdict.{Verdict}
 use Rattle.fields.specs.declared.Verdict.the-variants.{Sound, Flawed}
 use Rattle.fields.specs.declared.Refusal.{Refusal}
-use Rattle.fields.specs.Number.{u32At, u64At}
+use Rattle.fields.specs.Number.{u64At}
 use Rattle.fields.specs.Faults.{nowhere, refusalOf, _next_}
 use Rattle.fields.proofs.Firsts.{on, stop, both}
 use Rattle.fields.proofs.Loops.{drop-all}
-use Rattle.base.specs.Block.{sector, minorOf, binsLimit, binsData, baseFault}
+use Rattle.base.specs.Block.{sector, minorOf, binsData, baseFault}
 use Rattle.cells.specs.declared.Rule.the-variants.{Header}
-use Rattle.cells.specs.Named.{dataAt}
+use Rattle.cells.specs.Named.{dataAt, partIn}
+use Rattle.cells.proofs.Parts.{part-length, u64-part}
 use Rattle.records.specs.declared.Child.{Child}
 use Rattle.records.specs.declared.Headed.the-variants as head
 use Rattle.records.specs.declared.Key.{Key}
@@ -26,14 +27,13 @@ use Rattle.records.specs.declared.Keyed.the-variants as key
 use Rattle.records.specs.declared.Leaf.{Leaf}
 use Rattle.records.specs.declared.Leafed.the-variants as leaf
 use Rattle.records.specs.declared.Leaves.{Leaves}
-use Rattle.records.specs.Keys.{keyFault, keyOf, keyed}
+use Rattle.records.specs.Keys.{keyFault, keyIn, keyOf, keyed}
 use Rattle.records.specs.Lists.{leafChildren, leafFault, headFault}
 use Rattle.records.specs.Places.{leafOf, leafed, ElementsLie, childNamed, leavesAt, headed, LeavesLie, leavesNamed}
+use Rattle.records.proofs.LawsKey.{key-room}
 use Rattle.records.proofs.LawsAnswer.{keyed-whole, keyed-flawed, leafed-whole, leafed-flawed, headed-whole, headed-flawed}
 use Rattle.records.proofs.LawsElements.{elements-length, element-at, elements-are}
-use Rattle.records.proofs.LawsKey.{key-room, name-room}
 use Rattle.records.proofs.LawsPlaces.{elements-lie, leaves-lie, leaves-are}
-use Rattle.records.proofs.Parts.{data-room, data-u32}
 use Rattle.values.specs.declared.Entries.{Entries}
 use Rattle.values.specs.declared.Listing.the-variants as listedAs
 use Rattle.values.specs.declared.Value.{Value}
@@ -44,7 +44,7 @@ use Rattle.values.specs.Segments.{lengthOf}
 use Rattle.values.specs.Lists.{valuesOf, valueListFault, valueEntries, wholeValueFault}
 use Rattle.values.specs.Parts.{Lies}
 use Rattle.values.proofs.LawsLists.{list-room, list-values}
-use Rattle.values.proofs.LawsValues.{lies, name-inside}
+use Rattle.values.proofs.LawsValues.{lies}
 use Rattle.values.proofs.Rooms.{entries-length}
 use Rattle.values.proofs.Segment_faults.{listed, unlisted}
 use Rattle.values.proofs.Valued_at.{is-whole, is-flawed}
@@ -69,21 +69,18 @@ module _ (d : List ℕ) (o : Offset) where
     pub key-is : memberWhere (keyFault Header d [] o) (entryOf o (keyOf d o .name)) ≡ At (entryOf o (k .name))
     key-is = let w = keyed-whole (keyFault Header d [] o) _ e in rw (w .0, w .1)
 
-    pub key-name : length d ≤ binsLimit → k .name .at ≤ binsLimit
-    key-name p = let w = keyed-whole (keyFault Header d [] o) _ e in let r = name-room Header d [] o (w .0) in rw (w .1) (omega arith)
+    pub key-name : k .name .at < 4294967296
+    unfolding keyOf keyIn
+    key-name = let w = keyed-whole (keyFault Header d [] o) _ e in rw (w .1) (omega arith)
 
--- what a key's record says of it; its stamp stands 8 bytes past its offset
+-- what a key's record says of it; its stamp stands at 4
 module _ (d : List ℕ) (o : Offset) where
   module _ (r : 76 ≤ length (dataAt d o)) where
-    pub stamp-room : o .0 + 8 + 8 ≤ length d
-    stamp-room = let h = data-room d o 12 (omega arith) (omega arith) in omega arith
+    pub stamp-room : length (partIn d o 4 8) ≡ 8
+    stamp-room = part-length (dataAt d o) 4 8 (omega arith)
 
-    pub stamp-is : u64At d (o .0 + 8) ≡ u64At (dataAt d o) 4
-    unfolding u64At
-    stamp-is =
-        let p : o .0 + 4 + 4 ≡ o .0 + 8 = omega arith in
-        let q : o .0 + 4 + 8 ≡ o .0 + 8 + 4 = omega arith in
-        sym (ap₂ (λ (x y : ℕ). x + y * 0x1_0000_0000) (data-u32 d o 4 (omega arith) ∙ ap (u32At d) p) (data-u32 d o 8 (omega arith) ∙ ap (u32At d) q))
+    pub stamp-is : u64At (partIn d o 4 8) 0 ≡ u64At (dataAt d o) 4
+    stamp-is = u64-part (dataAt d o) 4 8 0 (omega arith)
 
   pub facts-bad : {f : Flaw} → keyed (keyFault Header d [] o) (keyOf d o) ≡ key.Flawed f
       → factsWhere (keyFault Header d [] o) (factsOf d o) ≡ facts.Refused (refusalOf f)
@@ -107,11 +104,9 @@ module _ (d : List ℕ) (minor : ℕ) (v : Offset) where
     pub value-is : memberWhere (valueFault Header d [] v) (entryOf v (valueOf d minor v .name)) ≡ At (entryOf v (x .name))
     value-is = let w = is-whole (valueFault Header d [] v) _ e in rw (w .0, w .1)
 
-    pub value-name : length d ≤ binsLimit → x .name .at ≤ binsLimit
-    value-name p =
-        let w = is-whole (valueFault Header d [] v) _ e in
-        let r = name-inside Header d [] minor v (w .0) in
-        rw (← w .1) (omega arith)
+    pub value-name : x .name .at < 4294967296
+    unfolding valueOf fieldsOf
+    value-name = let w = is-whole (valueFault Header d [] v) _ e in rw (← w .1) (omega arith)
 
 -- the leaves from j on: what is left of n among them answers as n among all of them does
 module _ (d : List ℕ) (ls : List Offset) (n j left : ℕ) (inv : nthIn d ls n ≡ nthIn d (drop j ls) left) where
@@ -131,7 +126,7 @@ module _ (d : List ℕ) (ls : List Offset) (n j left : ℕ) (inv : nthIn d ls n 
       has : length (leafChildren (dataAt d o)) ≡ l .count
       has =
           let w = leafed-whole (leafFault Header d [] o) _ e in
-          ap length (elements-are Header d [] o (w .0) (w .1)) ∙ elements-length d l
+          ap length (elements-are d o (w .1)) ∙ elements-length d l
 
       pub turn-here : left < l .count → {c : Child} → c ≡ childNamed d l left → nthIn d ls n ≡ Found (c .at)
       unfolding nthIn
@@ -139,7 +134,7 @@ module _ (d : List ℕ) (ls : List Offset) (n j left : ℕ) (inv : nthIn d ls n 
           let w = leafed-whole (leafFault Header d [] o) _ e in
           let s = element-at d l left p q in
           inv
-          ∙ rw (drop-cons ls j nowhere more, ← is, w .0, lt-leb (length (leafChildren (dataAt d o))) left (omega (arith, has)), elements-are Header d [] o (w .0) (w .1), ← s)
+          ∙ rw (drop-cons ls j nowhere more, ← is, w .0, lt-leb (length (leafChildren (dataAt d o))) left (omega (arith, has)), elements-are d o (w .1), ← s)
 
       pub turn-on : l .count ≤ left → nthIn d ls n ≡ nthIn d (drop (j + 1) ls) (left - l .count)
       unfolding nthIn
@@ -167,7 +162,7 @@ module _ (d : List ℕ) (k : Key) (n : ℕ) where
     unfolding nthBelow
     below-is z =
         let w = headed-whole (headFault Header d [] (k .list)) _ e in
-        rw (ne-eqb (k .subkeys) 0 z, w .0, w .1, leaves-are Header d [] (k .list) (w .0))
+        rw (ne-eqb (k .subkeys) 0 z, w .0, w .1, leaves-are d (k .list))
 
   -- the values of a key
   pub list-bad : {f : Flaw} → listing (valueListFault Header d [] k) (valueEntries k) ≡ listedAs.Flawed f → nthOf d k n ≡ Faulty f

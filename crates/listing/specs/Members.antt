@@ -1,7 +1,7 @@
 -- What a key holds, one by one, for a host that lists it. The tests are lookup's, in its order: 1 to 7; the key's own record; its list's head; "one leaf of
 -- an `ri` at a time", each tested when it is reached, up to the one that has the element; then the element's own record. Each is tested "only for 11
 -- and 12 (not order, hash, parent or total)". h is the hive, d its bins data, o the key's offset, n counts from 0.
-use Prim.Native.Nat.{ℕ, _+_, _-_}
+use Prim.Native.Nat.{ℕ, _-_}
 use mathlib.Core.Bool.{cond}
 use mathlib.Core.List.{List, [], _∷_}
 use lib.Dec.{eqb, leb}
@@ -13,7 +13,7 @@ use Rattle.fields.specs.Number.{u64At}
 use Rattle.fields.specs.Faults.{nowhere, refusalOf, _next_}
 use Rattle.base.specs.Block.{sector, minorOf, binsData, baseFault}
 use Rattle.cells.specs.declared.Rule.the-variants.{Header}
-use Rattle.cells.specs.Named.{dataAt}
+use Rattle.cells.specs.Named.{dataAt, partPlace}
 use Rattle.records.specs.declared.Key.{Key}
 use Rattle.records.specs.declared.Name.{Name}
 use Rattle.records.specs.Keys.{keyFault, keyOf}
@@ -36,7 +36,7 @@ use Rattle.listing.specs.declared.Member.the-variants.{At, NoMore, Refus
 
 -- a record that a list names, and where in the file its name stands
 unfoldable pub entryOf : Offset → Name → Entry
-entryOf o n = record { at = o; name = record { 0 = n .at + 4096 }; len = n .len; narrow = n .narrow }
+entryOf o n = record { at = o; name = partPlace (n .cell) (n .at) (n .len); len = n .len; narrow = n .narrow }
 
 abbrev pub memberWhere : Verdict → Entry → Member
 memberWhere Sound e = At e

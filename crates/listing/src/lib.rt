@@ -20,10 +20,9 @@ use values::Listing;
 use values::Valued;
 ghost use mathlib.Core.Path.{_≡_};
 ghost use mathlib.Core.List.{[]};
-ghost use Prim.Native.Nat.{_≤_};
+ghost use Prim.Native.Nat.{_≤_, _<_};
 ghost use lib.ListN.{length};
 ghost use Rattle.fields.specs.Number.{u64At};
-ghost use Rattle.base.specs.Block.{binsLimit};
 ghost use Rattle.cells.specs.declared.Rule.the-variants.{Header};
 ghost use Rattle.cells.specs.Named.{dataAt};
 ghost use Rattle.records.specs.Keys.{keyFault, keyOf};
@@ -46,12 +45,12 @@ pub enum Member {
 }
 
 fn entry_of(o: Offset, n: Name) -> Entry
-    requires { ⌜ n .at ≤ binsLimit ⌝ }
+    requires { ⌜ n .at < 4294967296 ⌝ }
     ensures { λ r. ⌜ r ≡ entryOf o n ⌝ }
 {
     Entry {
         at: o,
-        name: Place(n.at + 4096),
+        name: cells::part_place(n.cell, n.at, n.len),
         len: n.len,
         narrow: n.narrow,
     }
@@ -59,7 +58,6 @@ fn entry_of(o: Offset, n: Name) -> Entry
 
 // A key by its offset.
 fn key_entry(bins: &[u8], o: Offset) -> Member
-    requires { ⌜ length (now bins) ≤ binsLimit ⌝ }
     ensures { λ r. ⌜ r ≡ memberWhere (keyFault Header (now (bins .entry)) [] o) (entryOf o (keyOf (now (bins .entry)) o .name)) ⌝ }
 {
     match records::key_at(bins, b"", Rule::Header, o) {
@@ -124,7 +122,6 @@ fn child_look(bins: &[u8], key: Offset, n: usize) -> Look
 }
 
 fn subkey_in(bins: &[u8], key: Offset, n: usize) -> Member
-    requires { ⌜ length (now bins) ≤ binsLimit ⌝ }
     ensures { λ r. ⌜ r ≡ subkeyIn (now (bins .entry)) key n ⌝ }
 {
     match child_look(bins, key, n) {
@@ -140,13 +137,12 @@ pub fn nth_subkey(hive: &[u8], key: Offset, n: usize) -> Member
 {
     match base::base_flaw(hive) {
         Verdict::Flawed(f) => Member::Refused(fields::refused(f)),
-        Verdict::Sound => subkey_in(paths::bins_of(hive), key, n),
+        Verdict::Sound => subkey_in(base::bins_of(hive), key, n),
     }
 }
 
 // A value by its offset.
 fn value_entry(bins: &[u8], minor: u32, v: Offset) -> Member
-    requires { ⌜ length (now bins) ≤ binsLimit ⌝ }
     ensures { λ r. ⌜ r ≡ memberWhere (valueFault Header (now (bins .entry)) [] v) (entryOf v (valueOf (now (bins .entry)) minor v .name)) ⌝ }
 {
     match values::value_at(bins, b"", Rule::Header, minor, v) {
@@ -183,7 +179,6 @@ fn value_look(bins: &[u8], key: Offset, n: usize) -> Look
 }
 
 fn value_in(bins: &[u8], minor: u32, key: Offset, n: usize) -> Member
-    requires { ⌜ length (now bins) ≤ binsLimit ⌝ }
     ensures { λ r. ⌜ r ≡ valueIn (now (bins .entry)) minor key n ⌝ }
 {
     match value_look(bins, key, n) {
@@ -199,7 +194,7 @@ pub fn nth_value(hive: &[u8], key: Offset, n: usize) -> Member
 {
     match base::base_flaw(hive) {
         Verdict::Flawed(f) => Member::Refused(fields::refused(f)),
-        Verdict::Sound => value_in(paths::bins_of(hive), paths::minor_of(hive), key, n),
+        Verdict::Sound => value_in(base::bins_of(hive), base::minor_of(hive), key, n),
     }
 }
 
@@ -209,7 +204,7 @@ pub fn info_at(hive: &[u8], v: Offset) -> ValueFound
 {
     match base::base_flaw(hive) {
         Verdict::Flawed(f) => ValueFound::Refused(fields::refused(f)),
-        Verdict::Sound => lookup::info_at(paths::bins_of(hive), paths::minor_of(hive), v),
+        Verdict::Sound => lookup::info_at(base::bins_of(hive), base::minor_of(hive), v),
     }
 }
 
@@ -243,12 +238,10 @@ fn stamp_of(bins: &[u8], o: Offset) -> u64
     requires { ⌜ 76 ≤ length (dataAt (now bins) o) ⌝ }
     ensures { λ r. ⌜ r ≡ u64At (dataAt (now (bins .entry)) o) 4 ⌝ }
 {
-    let at = o.0 as usize + 8;
-    fields::u64_at(bins, at)
+    fields::u64_at(cells::part_in(bins, o, 4, 8), 0)
 }
 
 fn facts_in(bins: &[u8], o: Offset) -> KeyFacts
-    requires { ⌜ length (now bins) ≤ binsLimit ⌝ }
     ensures { λ r. ⌜ r ≡ factsWhere (keyFault Header (now (bins .entry)) [] o) (factsOf (now (bins .entry)) o) ⌝ }
 {
     match records::key_at(bins, b"", Rule::Header, o) {
@@ -273,6 +266,6 @@ pub fn key_facts(hive: &[u8], key: Offset) -> KeyFacts
 {
     match base::base_flaw(hive) {
         Verdict::Flawed(f) => KeyFacts::Refused(fields::refused(f)),
-        Verdict::Sound => facts_in(paths::bins_of(hive), key),
+        Verdict::Sound => facts_in(base::bins_of(hive), key),
     }
 }

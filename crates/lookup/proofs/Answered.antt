@@ -1,12 +1,12 @@
 -- What is known where a value call answers: the data lie in the bins data, and those of a view in one part of the hive.
 use Prim.Native.Nat.{ℕ, _+_, _≤_, _<_}
 use native.Mathlib.Omega.{arith}
-use mathlib.Core.Path.{_≡_, refl, sym, ap, ap₂, _∙_}
+use mathlib.Core.Path.{_≡_, refl, sym, ap, _∙_}
 use mathlib.Core.Bool.{Bool, true, false}
 use mathlib.Core.List.{List, [], _++_}
-use lib.Dec.{eqb, leb}
-use lib.ListN.{length, take, drop, length-take, length-drop}
-use borrow.Author.Tests.{le-leb, lt-leb, eqb-true}
+use lib.Dec.{leb}
+use lib.ListN.{length, take, drop}
+use borrow.Author.Tests.{le-leb, lt-leb}
 use Rattle.fields.specs.declared.Fault.the-variants.{OutputShort}
 use Rattle.fields.specs.declared.Offset.{Offset}
 use Rattle.fields.specs.declared.Refusal.{Refusal}
@@ -14,16 +14,15 @@ use Rattle.fields.specs.declared.Verdict.{Verdict}
 use Rattle.fields.specs.declared.Verdict.the-variants.{Sound, Flawed}
 use Rattle.fields.specs.Faults.{flaw, nowhere, refusalOf, _next_}
 use Rattle.fields.proofs.Firsts.{both}
-use Rattle.base.specs.Block.{sector, binsOf, minorOf, binsData, baseFault}
-use Rattle.base.proofs.Laws.{base-facts}
+use Rattle.base.specs.Block.{sector, minorOf, binsData, baseFault}
 use Rattle.cells.specs.declared.Rule.the-variants.{Header}
-use Rattle.records.proofs.Parts.{part-part}
+use Rattle.cells.proofs.Parts.{place-room, place-bytes}
 use Rattle.values.specs.declared.ValueData.{ValueData}
 use Rattle.values.specs.declared.ValueData.the-variants.{Inline, OneCell, Segments}
 use Rattle.values.specs.Records.{dataIn, fieldsOf, valueOf}
 use Rattle.values.specs.Segments.{dataFault, bytesOf, lengthOf}
 use Rattle.values.specs.Parts.{partOf, Lies}
-use Rattle.values.proofs.LawsData.{isOne, PartLies, part-lies}
+use Rattle.values.proofs.LawsData.{isOne, part-whole, part-lies}
 use Rattle.values.proofs.LawsValues.{lies as data-lies}
 use Rattle.paths.specs.declared.Look.{Look}
 use Rattle.paths.specs.declared.Look.the-variants.{Found, Missing, Faulty}
@@ -77,7 +76,7 @@ answered-as h us x i v e s q =
 
 one-case : (v : Offset) (y : ValueData) → viewFault v y ≡ Sound → isOne y ≡ true
 unfolding viewFault
-one-case v (Inline at len) e = refl
+one-case v (Inline o len) e = refl
 one-case v (OneCell o len) e = refl
 one-case v (Segments o len) e = absurd (let z : _≡_ {A = ℕ} 0 1 = cc in omega arith)
 
@@ -114,45 +113,16 @@ pub record Shown (h : List ℕ) (i : Info) : Type 0 where
   pub ends : i .at .0 + i .len ≤ length h
   pub bytes : take (i .len) (drop (i .at .0) h) ≡ bytesOf (binsData h) (i .content)
 
--- a part of the bins data is a part of the hive, 4096 further on
-bins-part : (h : List ℕ) → baseFault h ≡ Sound → (p n : ℕ) → p + n ≤ length (binsData h)
-    → (4096 + p + n ≤ length h) × (take n (drop p (binsData h)) ≡ take n (drop (4096 + p) h))
-bins-part h e p n r =
-    let b = base-facts h e in
-    let l : length (binsData h) ≡ binsOf (sector h) = simp (length-take, length-drop) (omega arith) in
-    (omega arith, part-part h 4096 (binsOf (sector h)) p n r)
-
-shown-at : (h : List ℕ) (i : Info) (x : ValueData) → baseFault h ≡ Sound → PartLies (binsData h) x → i .content ≡ x → i .len ≡ lengthOf x → (p : ℕ)
-    → partOf x .at ≡ p → i .at .0 ≡ p + 4096 → Shown h i
-shown-at h i x b w c n p q a =
-    let len : partOf x .len ≡ i .len = w .whole ∙ sym n in
-    let s = bins-part h b (partOf x .at) (partOf x .len) (w .ends) in
-    let k : 4096 + partOf x .at ≡ i .at .0 = omega arith in
-    record {
-      ends = omega (arith, s .0);
-      bytes = sym (ap (bytesOf (binsData h)) c ∙ w .bytes ∙ s .1 ∙ ap₂ (λ (y z : ℕ). take y (drop z h)) len k);
-    }
-
-shown-empty : (h : List ℕ) (i : Info) → bytesOf (binsData h) (i .content) ≡ [] → i .at .0 ≡ 0 → i .len ≡ 0 → Shown h i
-shown-empty h i b a n = record { ends = omega arith; bytes = rw (n, b) }
-
 pub view-shown : (h us x : List ℕ) (i : Info) → Answered h us x i → isOne (i .content) ≡ true → Shown h i
-unfolding partOf placeIn bytesOf
-view-shown h us x i a t = by (i .content) refl (eqb (lengthOf (i .content)) 0) refl
-  where
-    lies : PartLies (binsData h) (i .content)
-    lies = part-lies (binsData h) (i .content) t (a .lies)
-
-    by : (y : ValueData) → i .content ≡ y → (z : Bool) → eqb (lengthOf (i .content)) 0 ≡ z → Shown h i
-    by (Inline at len) e z f = shown-at h i (Inline at len) (a .base) (rw e at lies) e (a .long ∙ ap lengthOf e) (at .0) refl (rw (a .place, e))
-    by (OneCell o len) e true f =
-        let n : eqb len 0 ≡ true = rw e at f in
-        shown-empty h i (rw (e, n)) (rw (a .place, e, n)) (a .long ∙ rw e (eqb-true len 0 n))
-    by (OneCell o len) e false f =
-        let n : eqb len 0 ≡ false = rw e at f in
-        let q : o .0 + 4096 + 4 ≡ o .0 + 4 + 4096 = omega arith in
-        shown-at h i (OneCell o len) (a .base) (rw e at lies) e (a .long ∙ ap lengthOf e) (o .0 + 4) (rw n) (rw (a .place, e, n) q)
-    by (Segments o len) e z f = absurd (let s = rw e at t in let q : _≡_ {A = ℕ} 0 1 = cc in omega arith)
+unfolding placeIn
+view-shown h us x i a t =
+    let p = partOf (i .content) in
+    let w = part-lies (binsData h) (i .content) t (a .lies) in
+    let len : i .len ≡ p .len = a .long ∙ sym (part-whole (i .content)) in
+    record {
+      ends = rw (a .place, len) (place-room (p .cell) (p .at) (p .len) h (a .base) (w .ends));
+      bytes = rw (a .place, len) (place-bytes (p .cell) (p .at) (p .len) h (a .base) (w .ends) ∙ sym (w .bytes));
+    }
 
 -- the ways out of a copy of what was told
 module _ (out : List ℕ) (i : Info) where

@@ -128,7 +128,7 @@ module _ (h : List ℕ) (w : CleanAndWellFormed h) (us : List ℕ) where
         viewed f = let q = unsegmented v (dataIn (binsData h) (minorOf (sector h)) v) f in (view-sound q, shows q)
 
         -- inline: the bytes at 8 of the record
-        pub inline-viewed : (a : Offset) (n : ℕ) → dataIn (binsData h) (minorOf (sector h)) v ≡ Inline a n → viewBytes h us x ≡ take n (drop (a .0) (binsData h))
+        pub inline-viewed : (a : Offset) (n : ℕ) → dataIn (binsData h) (minorOf (sector h)) v ≡ Inline a n → viewBytes h us x ≡ take n (drop 8 (dataAt (binsData h) a))
         unfolding viewFault bytesOf
         inline-viewed a n e = shows (rw e) ∙ rw e
 

@@ -1,10 +1,9 @@
 -- The search among values: a law for each way out, and what is known where a value is found.
-use Prim.Native.Nat.{ℕ, _+_, _≤_}
+use Prim.Native.Nat.{ℕ}
 use native.Mathlib.Omega.{arith}
 use mathlib.Core.Path.{_≡_, refl, subst}
 use mathlib.Core.Bool.{Bool, cond}
 use mathlib.Core.List.{List, []}
-use lib.ListN.{length}
 use Rattle.fields.specs.declared.Fault.the-variants.{NoKey}
 use Rattle.fields.specs.declared.Flaw.{Flaw}
 use Rattle.fields.specs.declared.Offset.{Offset}
@@ -14,7 +13,7 @@ use Rattle.base.specs.Block.{sector, minorOf, binsData, baseFault}
 use Rattle.cells.specs.declared.Rule.the-variants.{Header}
 use Rattle.names.specs.Comparison.{sameName}
 use Rattle.records.specs.declared.Key.{Key}
-use Rattle.records.specs.Keys.{keyOf, codesOf}
+use Rattle.records.specs.Keys.{keyOf, codesOf, NameIn}
 use Rattle.values.specs.declared.Entries.{Entries}
 use Rattle.values.specs.declared.Listing.the-variants as listedAs
 use Rattle.values.specs.declared.Value.{Value}
@@ -44,7 +43,7 @@ module _ (d : List ℕ) (minor : ℕ) (x : List ℕ) (v : Offset) where
     whole : (valueFault Header d [] v ≡ Sound) × (valueOf d minor v ≡ y)
     whole = is-whole (valueFault Header d [] v) _ e
 
-    pub value-room : y .name .at + y .name .len ≤ length d
+    pub value-room : NameIn d (y .name)
     value-room = rw (← whole .1) (name-inside Header d [] minor v (whole .0))
 
     pub value-is : {t : Bool} → t ≡ sameName (codesOf d (y .name)) x → valueNamed d minor x v ≡ cond t (Found v) Missing

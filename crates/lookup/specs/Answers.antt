@@ -1,9 +1,9 @@
 -- The answers of the value calls: "Order: 1 to 7; 16; then the records in list order up to the first match [..]; 17; 18; for a view 19 before any data cell
 -- is read; then the data's own 11 or 12." h is the hive, us the path, x the value's name.
-use Prim.Native.Nat.{ℕ, _+_}
+use Prim.Native.Nat.{ℕ}
 use mathlib.Core.Bool.{cond}
 use mathlib.Core.List.{List, [], _++_}
-use lib.Dec.{eqb, leb}
+use lib.Dec.{leb}
 use lib.ListN.{length, take, drop}
 use Rattle.fields.specs.declared.Offset.{Offset}
 use Rattle.fields.specs.declared.Place.{Place}
@@ -11,15 +11,16 @@ use Rattle.fields.specs.declared.Verdict.{Verdict}
 use Rattle.fields.specs.declared.Verdict.the-variants.{Sound, Flawed}
 use Rattle.fields.specs.declared.Fault.the-variants.{NoKey, NoValue, Segmented, OutputShort}
 use Rattle.fields.specs.Faults.{flaw, nowhere, _next_, refusalOf}
-use Rattle.fields.specs.Position.{placeOf}
 use Rattle.base.specs.Block.{sector, minorOf, binsData}
 use Rattle.cells.specs.declared.Rule.the-variants.{Header}
+use Rattle.cells.specs.Named.{partPlace}
 use Rattle.records.specs.Keys.{keyOf}
 use Rattle.values.specs.declared.Value.{Value}
 use Rattle.values.specs.declared.ValueData.{ValueData}
 use Rattle.values.specs.declared.ValueData.the-variants.{Inline, OneCell, Segments}
 use Rattle.values.specs.Records.{valueFault, dataIn, valueOf}
 use Rattle.values.specs.Segments.{dataFault, bytesOf, lengthOf}
+use Rattle.values.specs.Parts.{partOf}
 use Rattle.paths.specs.declared.Look.{Look}
 use Rattle.paths.specs.declared.Look.the-variants.{Found, Missing, Faulty}
 use Rattle.paths.specs.Answers.{keyLook}
@@ -40,15 +41,9 @@ onKey (Faulty f) go = Faulty f
 unfoldable pub valueLook : List ℕ → List ℕ → List ℕ → Look
 valueLook h us x = onKey (keyLook h us) (λ o. lookupValue (binsData h) (minorOf (sector h)) x (keyOf (binsData h) o))
 
--- what follows the size field of a cell
-abbrev pub dataPlace : Offset → Place
-dataPlace o = record { 0 = placeOf o .0 + 4 }
-
--- where in the file the data lie: inline data inside the record, else what follows the size field of their cell; no data lie at 0
+-- where in the file the data lie: where their part stands, or the `db` of segments; no data lie at 0
 unfoldable pub placeIn : ValueData → Place
-placeIn (Inline at len) = placeOf at
-placeIn (OneCell o len) = cond (eqb len 0) (record { 0 = 0 }) (dataPlace o)
-placeIn (Segments o len) = dataPlace o
+placeIn x = let p = partOf x in partPlace (p .cell) (p .at) (p .len)
 
 -- "The sister call of the view gives refusal or the data's place, length and case, and the value's registry type"
 unfoldable pub infoOf : Value → Info
@@ -56,7 +51,7 @@ infoOf x = record { kind = x .kind; content = x .content; at = placeIn (x .conte
 
 -- "19: view asked of segmented data", at the value
 unfoldable pub viewFault : Offset → ValueData → Verdict
-viewFault v (Inline at len) = Sound
+viewFault v (Inline o len) = Sound
 viewFault v (OneCell o len) = Sound
 viewFault v (Segments o len) = Flawed (flaw Segmented v)
 

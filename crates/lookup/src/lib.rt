@@ -19,7 +19,7 @@ ghost use Prim.Native.Nat.{_+_, _≤_};
 ghost use lib.ListN.{length};
 ghost use denote.Ref.{ptr};
 ghost use Rattle.fields.specs.declared.Verdict.the-variants.{Sound};
-ghost use Rattle.base.specs.Block.{binsLimit, binsData, baseFault};
+ghost use Rattle.base.specs.Block.{binsData, baseFault};
 ghost use Rattle.cells.specs.declared.Rule.the-variants.{Header};
 ghost use Rattle.values.specs.Entries.{Room, entriesOf};
 ghost use Rattle.values.specs.Records.{valueOf};
@@ -27,11 +27,10 @@ ghost use Rattle.values.specs.Segments.{dataFault, lengthOf};
 ghost use Rattle.values.specs.Lists.{wholeValueFault};
 ghost use Rattle.values.specs.Parts.{Lies};
 ghost use Rattle.lookup.specs.Search.{valueNamed, searchValues, lookupValue};
-ghost use Rattle.lookup.specs.Answers.{valueLook, dataPlace, placeIn, infoOf, viewFault, viewedFault, infoWhere, infoAnswer, viewAnswer, viewStart, viewBytes, copiedTo, copyAnswer, written, copyOut};
+ghost use Rattle.lookup.specs.Answers.{valueLook, infoOf, viewFault, viewedFault, infoWhere, infoAnswer, viewAnswer, viewStart, viewBytes, copiedTo, copyAnswer, written, copyOut};
 
 // One value, against a name, which is compared in place.
 fn value_named(bins: &[u8], minor: u32, name: &[u16], v: Offset) -> Look
-    requires { ⌜ length (now bins) ≤ binsLimit ⌝ }
     ensures { λ r. ⌜ r ≡ valueNamed (now (bins .entry)) minor (now (name .entry)) v ⌝ }
 {
     match values::value_at(bins, b"", Rule::Header, minor, v) {
@@ -49,7 +48,6 @@ fn value_named(bins: &[u8], minor: u32, name: &[u16], v: Offset) -> Look
 
 // The values of a list, in order, up to the first match.
 fn search_values(bins: &[u8], minor: u32, name: &[u16], e: Entries) -> Look
-    requires { ⌜ length (now bins) ≤ binsLimit ⌝ }
     requires { ⌜ Room (now bins) e ⌝ }
     ensures { λ r. ⌜ r ≡ searchValues (now (bins .entry)) minor (now (name .entry)) (entriesOf (now (bins .entry)) e) ⌝ }
 {
@@ -73,7 +71,6 @@ fn search_values(bins: &[u8], minor: u32, name: &[u16], e: Entries) -> Look
 
 // The first value of a key that has the name.
 fn lookup_value(bins: &[u8], minor: u32, name: &[u16], k: Key) -> Look
-    requires { ⌜ length (now bins) ≤ binsLimit ⌝ }
     ensures { λ r. ⌜ r ≡ lookupValue (now (bins .entry)) minor (now (name .entry)) k ⌝ }
 {
     match values::value_list(bins, b"", Rule::Header, k) {
@@ -93,43 +90,10 @@ fn value_look(hive: &[u8], path: &[u16], name: &[u16]) -> Look
             place: Offset(0),
         }),
         Look::Found(o) => {
-            let bins = paths::bins_of(hive);
+            let bins = base::bins_of(hive);
             let k = records::key_fields(bins, o);
-            lookup_value(bins, paths::minor_of(hive), name, k)
+            lookup_value(bins, base::minor_of(hive), name, k)
         }
-    }
-}
-
-// A cell's data follow its size field.
-fn data_place(cell: Offset) -> Place
-    ensures { λ r. ⌜ r ≡ dataPlace cell ⌝ }
-{
-    Place(fields::to_place(cell).0 + 4)
-}
-
-// Where in the file the data lie.
-fn place_in(x: ValueData) -> Place
-    ensures { λ r. ⌜ r ≡ placeIn x ⌝ }
-{
-    match x {
-        ValueData::Inline { at, len: _ } => Place(fields::to_place(at).0),
-        ValueData::OneCell { cell, len } => {
-            if len == 0 {
-                return Place(0);
-            }
-            data_place(cell)
-        }
-        ValueData::Segments { cell, len: _ } => data_place(cell),
-    }
-}
-
-fn length_of(x: ValueData) -> usize
-    ensures { λ r. ⌜ r ≡ lengthOf x ⌝ }
-{
-    match x {
-        ValueData::Inline { at: _, len } => len as usize,
-        ValueData::OneCell { cell: _, len } => len as usize,
-        ValueData::Segments { cell: _, len } => len as usize,
     }
 }
 
@@ -145,11 +109,12 @@ fn info_of(x: Value) -> Info
     ensures { λ r. ⌜ r ≡ infoOf x ⌝ }
 {
     let content = x.content;
+    let p = values::part_of(content);
     Info {
         kind: x.kind,
         content,
-        at: place_in(content),
-        len: length_of(content),
+        at: cells::part_place(p.cell, p.at, p.len),
+        len: p.len,
     }
 }
 
@@ -171,7 +136,6 @@ fn info_where(bins: &[u8], x: Value) -> ValueFound
 
 // The value at an offset: its record, then its data.
 pub fn info_at(bins: &[u8], minor: u32, v: Offset) -> ValueFound
-    requires { ⌜ length (now bins) ≤ binsLimit ⌝ }
     ensures { λ r. ⌜ r ≡ infoWhere (wholeValueFault Header (now (bins .entry)) [] minor v) (infoOf (valueOf (now (bins .entry)) minor v)) ⌝ }
 {
     match values::value_at(bins, b"", Rule::Header, minor, v) {
@@ -185,7 +149,7 @@ fn view_flaw(v: Offset, x: ValueData) -> Verdict
     ensures { λ r. ⌜ r ≡ viewFault v x ⌝ }
 {
     match x {
-        ValueData::Inline { at: _, len: _ } => Verdict::Sound,
+        ValueData::Inline { cell: _, len: _ } => Verdict::Sound,
         ValueData::OneCell { cell: _, len: _ } => Verdict::Sound,
         ValueData::Segments { cell: _, len: _ } => fields::flawed(Fault::Segmented, v),
     }
@@ -193,7 +157,6 @@ fn view_flaw(v: Offset, x: ValueData) -> Verdict
 
 // The same for a view: 19 before any data cell is read.
 fn view_at(bins: &[u8], minor: u32, v: Offset) -> ValueFound
-    requires { ⌜ length (now bins) ≤ binsLimit ⌝ }
     ensures { λ r. ⌜ r ≡ infoWhere (viewedFault (now (bins .entry)) minor v) (infoOf (valueOf (now (bins .entry)) minor v)) ⌝ }
 {
     match values::value_at(bins, b"", Rule::Header, minor, v) {
@@ -213,7 +176,7 @@ pub fn value_info(hive: &[u8], path: &[u16], name: &[u16]) -> ValueFound
     ensures { λ r. ⌜ r ≡ infoAnswer (now (hive .entry)) (now (path .entry)) (now (name .entry)) ⌝ }
 {
     match value_look(hive, path, name) {
-        Look::Found(v) => info_at(paths::bins_of(hive), paths::minor_of(hive), v),
+        Look::Found(v) => info_at(base::bins_of(hive), base::minor_of(hive), v),
         Look::Missing => ValueFound::Refused(fields::refused(Flaw {
             fault: Fault::NoValue,
             place: Offset(0),
@@ -227,7 +190,7 @@ pub fn view_info(hive: &[u8], path: &[u16], name: &[u16]) -> ValueFound
     ensures { λ r. ⌜ r ≡ viewAnswer (now (hive .entry)) (now (path .entry)) (now (name .entry)) ⌝ }
 {
     match value_look(hive, path, name) {
-        Look::Found(v) => view_at(paths::bins_of(hive), paths::minor_of(hive), v),
+        Look::Found(v) => view_at(base::bins_of(hive), base::minor_of(hive), v),
         Look::Missing => ValueFound::Refused(fields::refused(Flaw {
             fault: Fault::NoValue,
             place: Offset(0),
@@ -272,7 +235,7 @@ pub fn copy_info(hive: &[u8], i: Info, out: &mut [u8]) -> Copied
         }));
     }
     let content = i.content;
-    values::copy_data(paths::bins_of(hive), content, out);
+    values::copy_data(base::bins_of(hive), content, out);
     Copied::Done(len)
 }
 

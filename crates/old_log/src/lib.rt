@@ -23,7 +23,7 @@ pub fn bins_size(log: &[u8]) -> usize
     requires { ⌜ 512 ≤ length (now log) ⌝ }
     ensures { λ r. ⌜ (r ≡ logBins (now (log .entry))) × (r < 4294967296) ⌝ }
 {
-    fields::u32_at(&log[0..512], 40) as usize
+    base::bins_size(&log[0..512])
 }
 
 // s is the log's first 512 bytes.

@@ -30,7 +30,7 @@ use Rattle.paths.proofs.Finds.{key-good}
 pub part-name : (d : List ℕ) (o : Offset) → keyFault Header d [] o ≡ Sound → PartName (nameAt d o)
 part-name d o s =
     let f = key-facts Header d [] o s in
-    rw (name-codes Header d [] o s) (record { some = f .some; most = f .few; plain = f .no-backslash })
+    rw (name-codes d o) (record { some = f .some; most = f .few; plain = f .no-backslash })
 
 -- and so may every name that is the same
 same-part : (x y : List ℕ) → compare x y ≡ Same → PartName x → isPart y ≡ true

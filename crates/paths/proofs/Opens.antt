@@ -1,18 +1,15 @@
 -- 1 to 7, 16, and the key: a law for each way out, and what is known where a key is found.
-use Prim.Native.Nat.{ℕ, _≤_}
-use native.Mathlib.Omega.{arith}
+use Prim.Native.Nat.{ℕ}
 use mathlib.Core.Path.{_≡_, _∙_}
 use mathlib.Core.Bool.{true, false}
 use mathlib.Core.List.{List, []}
-use lib.ListN.{length, length-take, length-drop}
 use Rattle.fields.specs.declared.Fault.the-variants.{PathParts, NoKey}
 use Rattle.fields.specs.declared.Flaw.{Flaw}
 use Rattle.fields.specs.declared.Offset.{Offset}
 use Rattle.fields.specs.declared.Verdict.the-variants.{Sound, Flawed}
 use Rattle.fields.specs.Faults.{flaw, nowhere, refusalOf}
 use Rattle.fields.proofs.Firsts.{on, stop, both, sound, held, holds, fails}
-use Rattle.base.specs.Block.{binsLimit, binsData, baseFault}
-use Rattle.base.proofs.Laws.{base-facts}
+use Rattle.base.specs.Block.{binsData, baseFault}
 use Rattle.cells.specs.declared.Rule.the-variants.{Header}
 use Rattle.records.specs.Keys.{keyFault}
 use Rattle.tree.specs.Tree.{hiveOf}
@@ -22,10 +19,6 @@ use Rattle.paths.specs.Paths.{partsOf, isPath, pathFault}
 use Rattle.paths.specs.Search.{lookupKey}
 use Rattle.paths.specs.Answers.{openFault, keyLook, findAnswer}
 use Rattle.paths.proofs.Descents.{sound-found, lookup-tested}
-
--- the bins data of a hive that passes 1 to 7
-pub bins-small : (h : List ℕ) → baseFault h ≡ Sound → length (binsData h) ≤ binsLimit
-bins-small h e = let b = base-facts h e in simp (length-take, length-drop) (omega arith)
 
 module _ (h us : List ℕ) where
   pub open-base : {f : Flaw} → baseFault h ≡ Flawed f → openFault h us ≡ Flawed f

@@ -1,9 +1,8 @@
 -- The searches: a law for each way out of a key, a leaf and a list.
-use Prim.Native.Nat.{ℕ, _+_, _≤_}
+use Prim.Native.Nat.{ℕ}
 use mathlib.Core.Path.{_≡_}
 use mathlib.Core.Bool.{Bool, cond}
 use mathlib.Core.List.{List, []}
-use lib.ListN.{length}
 use borrow.Author.Tests.{eq-eqb, ne-eqb}
 use Rattle.fields.specs.declared.Flaw.{Flaw}
 use Rattle.fields.specs.declared.Offset.{Offset}
@@ -17,7 +16,7 @@ use Rattle.records.specs.declared.Keyed.the-variants as key
 use Rattle.records.specs.declared.Leaf.{Leaf}
 use Rattle.records.specs.declared.Leafed.the-variants as leaf
 use Rattle.records.specs.declared.Leaves.{Leaves}
-use Rattle.records.specs.Keys.{keyFault, keyOf, keyed, codesOf}
+use Rattle.records.specs.Keys.{keyFault, keyOf, keyed, codesOf, NameIn}
 use Rattle.records.specs.Lists.{leafFault, headFault}
 use Rattle.records.specs.Places.{leafOf, leafed, ElementsLie, elementsOf, leavesAt, headed, LeavesLie, leavesNamed}
 use Rattle.records.proofs.LawsAnswer.{keyed-whole, keyed-flawed, leafed-whole, leafed-flawed, headed-whole, headed-flawed}
@@ -37,7 +36,7 @@ module _ (d x : List ℕ) (c : Child) where
     whole : (keyFault Header d [] (c .at) ≡ Sound) × (k ≡ keyOf d (c .at))
     whole = keyed-whole (keyFault Header d [] (c .at)) _ e
 
-    pub key-room : k .name .at + k .name .len ≤ length d
+    pub key-room : NameIn d (k .name)
     key-room = rw (whole .1) (name-room Header d [] (c .at) (whole .0))
 
     pub key-is : {t : Bool} → t ≡ sameName (codesOf d (k .name)) x → keyNamed d x c ≡ cond t (Found (c .at)) Missing
@@ -55,7 +54,7 @@ module _ (d x : List ℕ) (o : Offset) where
 
     pub leaf-is : searchLeaf d x o ≡ searchKeys d x (elementsOf d l)
     unfolding searchLeaf
-    leaf-is = let w = leafed-whole (leafFault Header d [] o) _ e in rw (w .0, elements-are Header d [] o (w .0) (w .1))
+    leaf-is = let w = leafed-whole (leafFault Header d [] o) _ e in rw (w .0, elements-are d o (w .1))
 
 -- below a key
 module _ (d x : List ℕ) (k : Key) where
@@ -76,4 +75,4 @@ module _ (d x : List ℕ) (k : Key) where
     unfolding searchBelow
     below-is n =
         let w = headed-whole (headFault Header d [] (k .list)) _ e in
-        rw (ne-eqb (k .subkeys) 0 n, w .0, w .1, leaves-are Header d [] (k .list) (w .0))
+        rw (ne-eqb (k .subkeys) 0 n, w .0, w .1, leaves-are d (k .list))

@@ -210,32 +210,6 @@ fn lookup_key(bins: &[u8], root: Offset, path: &[u16]) -> Look
     }
 }
 
-// The bins data of a hive whose base block passed.
-pub fn bins_of(hive: &[u8]) -> &[u8]
-    requires { ⌜ baseFault (now hive) ≡ Sound ⌝ }
-    ensures { λ r. ⌜ now r ≡ binsData (now (hive .entry)) ⌝ }
-{
-    let s = &hive[0..512];
-    let end = 4096 + fields::u32_at(s, 40) as usize;
-    &hive[4096..end]
-}
-
-// "minor 3, 4 or 5 at 24"
-pub fn minor_of(hive: &[u8]) -> u32
-    requires { ⌜ baseFault (now hive) ≡ Sound ⌝ }
-    ensures { λ r. ⌜ r ≡ minorOf (sector (now (hive .entry))) ⌝ }
-{
-    fields::u32_at(&hive[0..512], 24)
-}
-
-// "root offset at 36"
-fn root_of(hive: &[u8]) -> Offset
-    requires { ⌜ baseFault (now hive) ≡ Sound ⌝ }
-    ensures { λ r. ⌜ r ≡ hiveOf (now (hive .entry)) .root ⌝ }
-{
-    Offset(fields::u32_at(&hive[0..512], 36))
-}
-
 // 1 to 7, then 16.
 fn open_flaw(hive: &[u8], path: &[u16]) -> Verdict
     ensures { λ r. ⌜ r ≡ openFault (now (hive .entry)) (now (path .entry)) ⌝ }
@@ -258,7 +232,7 @@ pub fn key_look(hive: &[u8], path: &[u16]) -> Look
 {
     match open_flaw(hive, path) {
         Verdict::Flawed(f) => Look::Faulty(f),
-        Verdict::Sound => lookup_key(bins_of(hive), root_of(hive), path),
+        Verdict::Sound => lookup_key(base::bins_of(hive), base::root_of(hive), path),
     }
 }
 

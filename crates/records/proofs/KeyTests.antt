@@ -1,18 +1,19 @@
 -- The tests of a key's name and record, a law for each way out.
 use Prim.Native.Nat.{ℕ, _+_, _<_, _≤_}
+use native.Mathlib.Nat.{zero-add}
 use native.Mathlib.Omega.{arith}
-use mathlib.Core.Path.{_≡_, sym, _∙_}
+use mathlib.Core.Path.{_≡_, ap, _∙_}
 use mathlib.Core.Bool.{Bool, true, false, not}
 use mathlib.Core.List.{List, [], _∷_}
-use lib.ListN.{length, take, drop}
+use lib.ListN.{length}
 use borrow.Author.Tests.{le-leb, lt-leb}
 use Rattle.fields.specs.declared.Offset.{Offset}
 use Rattle.fields.specs.Number.{u16At, u32At}
 use Rattle.fields.specs.Bytes.{standsAt}
-use Rattle.cells.specs.Named.{dataAt}
+use Rattle.cells.specs.Named.{dataAt, partIn}
+use Rattle.cells.proofs.Parts.{u16-part, u32-part}
 use Rattle.names.specs.Codes.{codes, charactersIn, hasCode, backslash}
 use Rattle.records.specs.Keys.{isWhole, isKeyName, keyNarrow, keyName, isKey, keyIn, keyOf}
-use Rattle.records.proofs.Parts.{u16-part, u32-part, data-room, data-u16, data-u32}
 
 module _ (s : List ℕ) (narrow : Bool) where
   pub half-name : isWhole (length s) narrow ≡ false → isKeyName s narrow ≡ false
@@ -53,17 +54,14 @@ module _ (r : List ℕ) where
       by-name p = rw (le-leb 76 (length r) room, is, le-leb (76 + u16At r 72) (length r) p)
 
 -- the fields stand in the first 76 bytes of the cell's data
-module _ (d : List ℕ) (o : Offset) (room : 76 ≤ length (dataAt d o)) where
-  pub fields-room : o .0 + 80 ≤ length d
-  fields-room = let h = data-room d o 76 (omega arith) room in omega arith
+module _ (d : List ℕ) (o : Offset) where
+  same16 : (i : ℕ) → i + 2 ≤ 76 → u16At (partIn d o 0 76) i ≡ u16At (dataAt d o) i
+  same16 i h = u16-part (dataAt d o) 0 76 i h ∙ ap (u16At (dataAt d o)) (zero-add i)
 
-  same16 : (i : ℕ) → i + 2 ≤ 76 → u16At (take 76 (drop (o .0 + 4) d)) i ≡ u16At (dataAt d o) i
-  same16 i h = u16-part d (o .0 + 4) 76 i h ∙ sym (data-u16 d o i (omega arith))
+  same32 : (i : ℕ) → i + 4 ≤ 76 → u32At (partIn d o 0 76) i ≡ u32At (dataAt d o) i
+  same32 i h = u32-part (dataAt d o) 0 76 i h ∙ ap (u32At (dataAt d o)) (zero-add i)
 
-  same32 : (i : ℕ) → i + 4 ≤ 76 → u32At (take 76 (drop (o .0 + 4) d)) i ≡ u32At (dataAt d o) i
-  same32 i h = u32-part d (o .0 + 4) 76 i h ∙ sym (data-u32 d o i (omega arith))
-
-  pub key-front : keyIn (take 76 (drop (o .0 + 4) d)) o ≡ keyOf d o
+  pub key-front : keyIn (partIn d o 0 76) o ≡ keyOf d o
   unfolding keyOf keyIn
   key-front =
       rw (

@@ -1,16 +1,14 @@
 -- The elements that a leaf's loop reads are its children.
-use Prim.Native.Nat.{ℕ, zero, suc, _+_, _<_, _≤_}
+use Prim.Native.Nat.{ℕ, zero, suc, _+_, _<_}
 use native.Mathlib.Omega.{arith}
 use mathlib.Core.Path.{_≡_, refl, sym, ap, ap₂, _∙_}
 use mathlib.Core.List.{List, _∷_}
 use lib.ListN.{length, getD}
 use Rattle.fields.specs.declared.Offset.{Offset}
-use Rattle.fields.specs.declared.Verdict.the-variants.{Sound}
-use Rattle.cells.specs.declared.Rule.{Rule}
 use Rattle.cells.specs.Named.{dataAt}
 use Rattle.records.specs.declared.Child.{Child}
 use Rattle.records.specs.declared.Leaf.{Leaf}
-use Rattle.records.specs.Lists.{countOf, childrenFrom, leafChildren, leafFault}
+use Rattle.records.specs.Lists.{countOf, childrenFrom, leafChildren}
 use Rattle.records.specs.Places.{leafIn, leafOf, childNamed, elementsFrom, elementsOf, noChild}
 use Rattle.records.proofs.LawsPlaces.{child-is}
 
@@ -34,11 +32,11 @@ module _ (d : List ℕ) (l : Leaf) where
   unfolding elementsOf
   element-at i p q = let e : 0 + i ≡ i = omega arith in q ∙ sym (from-at 0 (l .count) i p ∙ ap (childNamed d l) e)
 
-module _ (rule : Rule) (d m : List ℕ) (o : Offset) (e : leafFault rule d m o ≡ Sound) where
-  from-are : (i n : ℕ) → i + n ≤ countOf (dataAt d o) → elementsFrom d (leafOf d o) i n ≡ childrenFrom (dataAt d o) i n
+module _ (d : List ℕ) (o : Offset) where
+  from-are : (i n : ℕ) → elementsFrom d (leafOf d o) i n ≡ childrenFrom (dataAt d o) i n
   unfolding elementsFrom childrenFrom
-  from-are i zero p = refl
-  from-are i (suc n) p = ap₂ _∷_ (child-is rule d m o e i (omega arith)) (from-are (suc i) n (omega arith))
+  from-are i zero = refl
+  from-are i (suc n) = ap₂ _∷_ (child-is d o i) (from-are (suc i) n)
 
   count-is : leafOf d o .count ≡ countOf (dataAt d o)
   unfolding leafOf leafIn
@@ -46,7 +44,7 @@ module _ (rule : Rule) (d m : List ℕ) (o : Offset) (e : leafFault rule d m o �
 
   of-leaf : elementsOf d (leafOf d o) ≡ leafChildren (dataAt d o)
   unfolding elementsOf leafChildren
-  of-leaf = ap (elementsFrom d (leafOf d o) 0) count-is ∙ from-are 0 (countOf (dataAt d o)) (omega arith)
+  of-leaf = ap (elementsFrom d (leafOf d o) 0) count-is ∙ from-are 0 (countOf (dataAt d o))
 
   pub elements-are : {l : Leaf} → l ≡ leafOf d o → leafChildren (dataAt d o) ≡ elementsOf d l
   elements-are q = sym (ap (elementsOf d) q ∙ of-leaf)

@@ -1,10 +1,10 @@
 -- What a key that passes its test says.
-use Prim.Native.Nat.{ℕ, _+_, _-_, _≤_}
+use Prim.Native.Nat.{ℕ, _+_, _≤_}
 use native.Mathlib.Omega.{arith}
-use mathlib.Core.Path.{_≡_, sym, ap, _∙_}
+use mathlib.Core.Path.{_≡_, refl}
 use mathlib.Core.Bool.{true, false}
 use mathlib.Core.List.{List, [], _∷_}
-use lib.ListN.{length, take, drop}
+use lib.ListN.{length}
 use lib.Dec.{leb}
 use borrow.Author.Tests.{leb-true, not-true}
 use Rattle.fields.specs.declared.Offset.{Offset}
@@ -16,10 +16,10 @@ use Rattle.fields.proofs.Bools.{and-inv}
 use Rattle.cells.specs.declared.Rule.{Rule}
 use Rattle.cells.specs.declared.Rule.the-variants.{Header}
 use Rattle.cells.specs.Named.{dataAt}
+use Rattle.cells.proofs.Parts.{part-length}
 use Rattle.names.specs.Codes.{codes, charactersIn, hasCode, backslash}
 use Rattle.names.proofs.LawsCodes.{counted}
-use Rattle.records.specs.Keys.{isWhole, isKeyName, keyNarrow, keyName, isKey, keyFault, keyIn, keyOf, codesOf}
-use Rattle.records.proofs.Parts.{part-length, data-room, data-part}
+use Rattle.records.specs.Keys.{isWhole, isKeyName, keyNarrow, keyName, isKey, keyFault, keyIn, keyOf, NameIn, codesOf}
 use Rattle.records.proofs.LawsRecord.{Found-at, record-tested, record-header, record-flaw}
 
 -- the codes of the name of a key record
@@ -77,18 +77,12 @@ module _ (rule : Rule) (d m : List ℕ) (o : Offset) where
     pub key-room : 76 ≤ length (dataAt d o)
     key-room = let k = key-facts in omega arith
 
-    -- the name lies in the bins data, and its codes are those of the record
-    pub name-room : keyOf d o .name .at + keyOf d o .name .len ≤ length d
+    -- the name lies in the record's cell
+    pub name-room : NameIn d (keyOf d o .name)
     unfolding keyOf keyIn
-    name-room =
-        let k = key-facts in
-        let h = data-room d o (76 + u16At (dataAt d o) 72) (omega arith) (k .room) in
-        omega arith
+    name-room = record { some = omega arith; ends = key-facts .room }
 
-    pub name-codes : codesOf d (keyOf d o .name) ≡ nameCodes (dataAt d o)
-    unfolding keyOf keyIn codesOf
-    name-codes =
-        let k = key-facts in
-        let e : o .0 + 4 + 76 ≡ o .0 + 80 = omega arith in
-        ap (codes (keyNarrow (dataAt d o)))
-        (sym (data-part d o 76 (u16At (dataAt d o) 72) (k .room) ∙ ap (λ (i : ℕ). take (u16At (dataAt d o) 72) (drop i d)) e))
+-- the codes of a key's name are those of its record
+pub name-codes : (d : List ℕ) (o : Offset) → codesOf d (keyOf d o .name) ≡ nameCodes (dataAt d o)
+unfolding keyOf keyIn codesOf
+name-codes d o = refl

@@ -1,4 +1,4 @@
--- The leaves of a list and the elements of a leaf, read where they stand in the bins data, are those of the sequence.
+-- The leaves of a list and the elements of a leaf, read where they stand in its cell, are those of the sequence.
 use Prim.Native.Nat.{ℕ, zero, suc, _+_, _*_, _<_, _≤_}
 use native.Mathlib.Omega.{arith}
 use mathlib.Core.Path.{_≡_, refl, sym, ap, _∙_}
@@ -9,21 +9,20 @@ use lib.Dec.{eqb}
 use borrow.Author.Tests.{eqb-true}
 use Rattle.fields.specs.declared.Offset.{Offset}
 use Rattle.fields.specs.declared.Verdict.the-variants.{Sound}
-use Rattle.fields.specs.Number.{u32At}
 use Rattle.fields.specs.Faults.{nowhere}
 use Rattle.fields.specs.Bytes.{sameBytes, standsAt}
 use Rattle.fields.proofs.Bools.{and-inv, never}
 use Rattle.cells.specs.declared.Rule.{Rule}
 use Rattle.cells.specs.Named.{dataAt}
+use Rattle.cells.proofs.Parts.{data-small}
 use Rattle.records.specs.declared.Child.{Child}
 use Rattle.records.specs.declared.Leaves.{Leaves}
 use Rattle.records.specs.Offsets.{offsetAt, offsetsAt}
 use Rattle.records.specs.Lists.{isLi, isLh, isRi, countOf, widthOf, isLeaf, isList, childAt, leafChildren, leavesOf, leafFault, headFault}
 use Rattle.records.specs.Places.{leavesIn, leavesAt, leafNamed, leavesNamed, LeavesLie, leafIn, leafOf, childNamed, ElementsLie}
-use Rattle.records.proofs.Parts.{data-room, data-u32, data-small}
 use Rattle.records.proofs.LawsRecord.{record-tested}
-use Rattle.records.proofs.ListFacts.{element-room, IsLeaf, leaf-facts, index-facts, list-room}
-use Rattle.records.proofs.LawsSequence.{offsets-length, offsets-at, offsets-data, leaf-children-length, leaf-children-at}
+use Rattle.records.proofs.ListFacts.{IsLeaf, leaf-facts, index-facts, list-room}
+use Rattle.records.proofs.LawsSequence.{offsets-length, offsets-at, leaf-children-length, leaf-children-at}
 
 -- leaf j of some leaves
 module _ (d : List ℕ) (ls : Leaves) (lie : LeavesLie d ls) where
@@ -31,8 +30,8 @@ module _ (d : List ℕ) (ls : Leaves) (lie : LeavesLie d ls) where
   unfolding leavesNamed
   named-length = by (ls .index) refl
     where
-      by : (t : Bool) → ls .index ≡ t → length (cond (ls .index) (offsetsAt d (ls .at) (ls .count)) (ls .list ∷ [])) ≡ ls .count
-      by true e = rw e (offsets-length d (ls .at) (ls .count))
+      by : (t : Bool) → ls .index ≡ t → length (cond (ls .index) (offsetsAt (dataAt d (ls .cell)) 4 (ls .count)) (ls .cell ∷ [])) ≡ ls .count
+      by true e = rw e (offsets-length (dataAt d (ls .cell)) 4 (ls .count))
       by false e = rw e (sym (lie .single e))
 
   pub named-at : (j : ℕ) → j < ls .count → leafNamed d ls j ≡ getD (leavesNamed d ls) j nowhere
@@ -40,41 +39,35 @@ module _ (d : List ℕ) (ls : Leaves) (lie : LeavesLie d ls) where
   named-at j h = by (ls .index) refl j h
     where
       by : (t : Bool) → ls .index ≡ t → (j : ℕ) → j < ls .count
-          → cond (ls .index) (offsetAt d (ls .at + 4 * j)) (ls .list)
-          ≡ getD (cond (ls .index) (offsetsAt d (ls .at) (ls .count)) (ls .list ∷ [])) j nowhere
-      by true e j h = rw e (sym (offsets-at d (ls .at) (ls .count) j nowhere h))
+          → cond (ls .index) (offsetAt (dataAt d (ls .cell)) (4 + 4 * j)) (ls .cell)
+          ≡ getD (cond (ls .index) (offsetsAt (dataAt d (ls .cell)) 4 (ls .count)) (ls .cell ∷ [])) j nowhere
+      by true e j h = rw e (sym (offsets-at (dataAt d (ls .cell)) 4 (ls .count) j nowhere h))
       by false e zero h = rw e
       by false e (suc j) h = let s = lie .single e in absurd (omega arith)
+
+-- the leaves of a list are those that stand there
+pub leaves-are : (d : List ℕ) (o : Offset) → leavesNamed d (leavesAt d o) ≡ leavesOf d o
+unfolding leavesNamed leavesAt leavesIn leavesOf
+leaves-are d o = by (isRi (dataAt d o)) refl
+  where
+    by : (t : Bool) → isRi (dataAt d o) ≡ t
+        → cond (isRi (dataAt d o)) (offsetsAt (dataAt d o) 4 (cond (isRi (dataAt d o)) (countOf (dataAt d o)) 1)) (o ∷ [])
+        ≡ cond (isRi (dataAt d o)) (offsetsAt (dataAt d o) 4 (countOf (dataAt d o))) (o ∷ [])
+    by true i = rw i
+    by false i = rw i
 
 module _ (rule : Rule) (d m : List ℕ) (o : Offset) (e : headFault rule d m o ≡ Sound) where
   pub head-tested : isList (dataAt d o) ≡ true
   unfolding headFault
   head-tested = record-tested isList rule d m o e
 
-  -- the leaves of a list that passes lie in the bins data
+  -- the leaves of a list that passes lie in its cell
   pub leaves-lie : LeavesLie d (leavesAt d o)
   unfolding leavesAt leavesIn
   leaves-lie = record { inside = lies; single = λ i. rw i }
     where
-      lies : isRi (dataAt d o) ≡ true → o .0 + 8 + 4 * cond (isRi (dataAt d o)) (countOf (dataAt d o)) 1 ≤ length d
-      lies i =
-          let f = index-facts (dataAt d o) head-tested i in
-          let h = data-room d o (4 + countOf (dataAt d o) * 4) (omega arith) (f .room) in
-          rw i (omega arith)
-
-  -- and are those of the list
-  pub leaves-are : leavesNamed d (leavesAt d o) ≡ leavesOf d o
-  unfolding leavesNamed leavesAt leavesIn leavesOf
-  leaves-are = by (isRi (dataAt d o)) refl
-    where
-      by : (t : Bool) → isRi (dataAt d o) ≡ t
-          → cond (isRi (dataAt d o)) (offsetsAt d (o .0 + 8) (cond (isRi (dataAt d o)) (countOf (dataAt d o)) 1)) (o ∷ [])
-          ≡ cond (isRi (dataAt d o)) (offsetsAt (dataAt d o) 4 (countOf (dataAt d o))) (o ∷ [])
-      by true i =
-          let f = index-facts (dataAt d o) head-tested i in
-          let p : o .0 + 8 ≡ o .0 + 4 + 4 = omega arith in
-          rw i (ap (λ (k : ℕ). offsetsAt d k (countOf (dataAt d o))) p ∙ offsets-data d o 4 (countOf (dataAt d o)) (omega arith))
-      by false i = rw i
+      lies : isRi (dataAt d o) ≡ true → 4 + 4 * cond (isRi (dataAt d o)) (countOf (dataAt d o)) 1 ≤ length (dataAt d o)
+      lies i = let f = index-facts (dataAt d o) head-tested i in rw i (omega (arith, f .room))
 
   -- at most as many as 16 bits count
   pub leaves-few : ((i : ℕ) → getD d i 0 < 256) → leavesAt d o .count < 65536
@@ -86,7 +79,7 @@ module _ (rule : Rule) (d m : List ℕ) (o : Offset) (e : headFault rule d m o �
       by false i = rw i (omega arith)
 
   pub leaf-is : (j : ℕ) → j < leavesAt d o .count → leafNamed d (leavesAt d o) j ≡ getD (leavesOf d o) j nowhere
-  leaf-is j h = named-at d (leavesAt d o) leaves-lie j h ∙ ap (λ (ls : List Offset). getD ls j nowhere) leaves-are
+  leaf-is j h = named-at d (leavesAt d o) leaves-lie j h ∙ ap (λ (ls : List Offset). getD ls j nowhere) (leaves-are d o)
 
 pub leaf-count : (d : List ℕ) (o : Offset) → leafOf d o .count ≡ length (leafChildren (dataAt d o))
 unfolding leafOf leafIn
@@ -119,45 +112,19 @@ module _ (rule : Rule) (d m : List ℕ) (o : Offset) (e : leafFault rule d m o �
   pub leaf-some : 0 < length (leafChildren (dataAt d o))
   leaf-some = let c = leaf-children-length (dataAt d o) in let f = leaf-tested .holds in omega arith
 
-  -- the elements of a leaf that passes lie in the bins data
+  -- the elements of a leaf that passes lie in its cell
   pub elements-lie : ElementsLie d (leafOf d o)
   unfolding leafOf leafIn
   elements-lie =
-      let f = leaf-tested .holds in
       let w = wide (dataAt d o) in
-      let h = data-room d o (4 + countOf (dataAt d o) * widthOf (dataAt d o)) (omega arith) (f .room) in
-      record { inside = omega arith; offset-fits = w .0; hash-fits = w .1 }
+      record { inside = leaf-tested .holds .room; offset-fits = w .0; hash-fits = w .1 }
 
-  offset-is : (i : ℕ) → i < countOf (dataAt d o)
-      → u32At d (o .0 + 8 + i * widthOf (dataAt d o)) ≡ u32At (dataAt d o) (4 + i * widthOf (dataAt d o))
-  offset-is i h =
-      let f = leaf-tested .holds in
-      let w = wide (dataAt d o) in
-      let r = element-room i (countOf (dataAt d o)) (widthOf (dataAt d o)) h in
-      let p : o .0 + 8 + i * widthOf (dataAt d o) ≡ o .0 + 4 + (4 + i * widthOf (dataAt d o)) = omega arith in
-      ap (u32At d) p ∙ sym (data-u32 d o (4 + i * widthOf (dataAt d o)) (omega arith))
+-- the elements of a leaf are those that stand there
+pub child-is : (d : List ℕ) (o : Offset) (i : ℕ) → childNamed d (leafOf d o) i ≡ childAt (dataAt d o) i
+unfolding childNamed leafOf leafIn childAt
+child-is d o i = refl
 
-  hash-is : (i : ℕ) → i < countOf (dataAt d o)
-      → cond (isLh (dataAt d o)) (u32At d (o .0 + 8 + i * widthOf (dataAt d o) + 4)) 0
-      ≡ cond (isLh (dataAt d o)) (u32At (dataAt d o) (8 + i * widthOf (dataAt d o))) 0
-  hash-is i h = by (isLh (dataAt d o)) refl
-    where
-      by : (t : Bool) → isLh (dataAt d o) ≡ t
-          → cond (isLh (dataAt d o)) (u32At d (o .0 + 8 + i * widthOf (dataAt d o) + 4)) 0
-          ≡ cond (isLh (dataAt d o)) (u32At (dataAt d o) (8 + i * widthOf (dataAt d o))) 0
-      by true l =
-          let f = leaf-tested .holds in
-          let w = wide (dataAt d o) .1 l in
-          let r = element-room i (countOf (dataAt d o)) (widthOf (dataAt d o)) h in
-          let p : o .0 + 8 + i * widthOf (dataAt d o) + 4 ≡ o .0 + 4 + (8 + i * widthOf (dataAt d o)) = omega arith in
-          rw l (ap (u32At d) p ∙ sym (data-u32 d o (8 + i * widthOf (dataAt d o)) (omega arith)))
-      by false l = rw l
-
-  -- and are those of the leaf
-  pub child-is : (i : ℕ) → i < countOf (dataAt d o) → childNamed d (leafOf d o) i ≡ childAt (dataAt d o) i
-  unfolding childNamed leafOf leafIn childAt
-  child-is i h = rw (offset-is i h, hash-is i h)
-
-  pub child-at : (i : ℕ) (z : Child) → i < leafOf d o .count → childNamed d (leafOf d o) i ≡ getD (leafChildren (dataAt d o)) i z
-  unfolding leafOf leafIn
-  child-at i z h = child-is i h ∙ sym (leaf-children-at (dataAt d o) i z h)
+pub child-at : (d : List ℕ) (o : Offset) (i : ℕ) (z : Child) → i < leafOf d o .count
+    → childNamed d (leafOf d o) i ≡ getD (leafChildren (dataAt d o)) i z
+unfolding leafOf leafIn
+child-at d o i z h = child-is d o i ∙ sym (leaf-children-at (dataAt d o) i z h)

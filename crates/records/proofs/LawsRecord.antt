@@ -1,9 +1,10 @@
 -- A record at an offset: its cell, then the test of its data. A law for each way out, and what a record that passes or fails says.
-use Prim.Native.Nat.{ℕ}
+use Prim.Native.Nat.{ℕ, _≤_}
 use native.Mathlib.Omega.{arith}
 use mathlib.Core.Path.{_≡_, refl, sym, ap, _∙_}
 use mathlib.Core.Bool.{Bool, true, false}
 use mathlib.Core.List.{List}
+use lib.ListN.{length}
 use Rattle.fields.specs.declared.Offset.{Offset}
 use Rattle.fields.specs.declared.Flaw.{Flaw}
 use Rattle.fields.specs.declared.Fault.the-variants.{NoCell, Record}
@@ -12,26 +13,21 @@ use Rattle.fields.specs.declared.Verdict.the-variants.{Sound, Flawed}
 use Rattle.fields.specs.Faults.{flaw, unless, _next_}
 use Rattle.fields.proofs.Firsts.{on, stop, both, sound, held, holds, fails}
 use Rattle.cells.specs.declared.Cell.{Cell}
-use Rattle.cells.specs.declared.Found.{Found}
 use Rattle.cells.specs.declared.Found.the-variants.{Named, Missing}
 use Rattle.cells.specs.declared.Rule.{Rule}
 use Rattle.cells.specs.declared.Rule.the-variants.{Header}
-use Rattle.cells.specs.Named.{cellOf, cellFault, dataOf, dataAt}
-use Rattle.cells.proofs.Naming.{Names, cell-sound, cell-flawed, cell-data-at, sound-names, cell-fault-is, by-either}
+use Rattle.cells.specs.Named.{cellOf, cellFault, dataOf, dataAt, partIn}
+use Rattle.cells.proofs.Parts.{part-length}
+use Rattle.cells.proofs.Naming.{cell-sound, cell-flawed, cell-data-at, header-cell, cell-fault-is}
 
 -- a flaw that a record's test can answer: 11 or 12, at the offset
 pub data Found-at (o : Offset) (f : Flaw) : Type 0 where
   no-cell : f ≡ flaw NoCell o → Found-at o f
   bad-record : f ≡ flaw Record o → Found-at o f
 
--- a cell that the map's rule finds is found by its header too, whatever the map
-pub header-cell : (rule : Rule) (d m m′ : List ℕ) (o : Offset) → cellFault rule d m o ≡ Sound → cellFault Header d m′ o ≡ Sound
-unfolding cellFault cellOf
-header-cell rule d m m′ o e = by (cellOf rule d m o) refl
-  where
-    by : (x : Found) → cellOf rule d m o ≡ x → cellFault Header d m′ o ≡ Sound
-    by (Named c) p = rw (by-either d o rule m p)
-    by (Missing f) p = let z : _≡_ {A = ℕ} 0 1 = cc in absurd (omega arith)
+-- the front of a record's data has room for what stands there
+pub front-room : (d : List ℕ) (o : Offset) (n : ℕ) → n ≤ length (dataAt d o) → n ≤ length (partIn d o 0 n)
+front-room d o n h = let e : length (partIn d o 0 n) ≡ n = part-length (dataAt d o) 0 n (omega arith) in omega arith
 
 module _ (test : List ℕ → Bool) where
   -- the test of a record
@@ -54,14 +50,11 @@ module _ (test : List ℕ → Bool) where
       passes : (cellFault rule d m o ≡ Sound) × (unless (test (dataAt d o)) (flaw Record o) ≡ Sound)
       passes = both (cellFault rule d m o) _ e
 
-      pub record-cell : Names d (o .0)
-      record-cell = sound-names rule d m o (passes .0)
-
       pub record-tested : test (dataAt d o) ≡ true
       record-tested = held (test (dataAt d o)) (flaw Record o) (passes .1)
 
       pub record-header : (m′ : List ℕ) → recordFault Header d m′ o ≡ Sound
-      record-header m′ = sound _ _ (header-cell rule d m m′ o (passes .0)) (holds _ record-tested)
+      record-header m′ = sound _ _ (header-cell rule d m o (passes .0) m′) (holds _ record-tested)
 
     -- a record that fails
     pub record-flaw : {f : Flaw} → recordFault rule d m o ≡ Flawed f → Found-at o f

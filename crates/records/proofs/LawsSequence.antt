@@ -1,6 +1,5 @@
 -- The sequences: offsets one after the other, the elements of a leaf, and the elements of several leaves. Of each the length and an element.
 use Prim.Native.Nat.{ℕ, zero, suc, _+_, _*_, _<_, _≤_}
-use native.Mathlib.Nat.{add-assoc}
 use native.Mathlib.Numerals.{add-one}
 use native.Mathlib.Omega.{arith}
 use mathlib.Core.Path.{_≡_, refl, sym, ap, _∙_}
@@ -13,7 +12,6 @@ use Rattle.cells.specs.Named.{dataAt}
 use Rattle.records.specs.declared.Child.{Child}
 use Rattle.records.specs.Offsets.{offsetAt, offsetsAt}
 use Rattle.records.specs.Lists.{countOf, childAt, childrenFrom, leafChildren, childrenIn}
-use Rattle.records.proofs.Parts.{data-u32}
 
 module _ (r : List ℕ) where
   pub offsets-length : (p n : ℕ) → length (offsetsAt r p n) ≡ n
@@ -50,14 +48,6 @@ module _ (r : List ℕ) where
   pub leaf-children-at : (j : ℕ) (z : Child) → j < countOf r → getD (leafChildren r) j z ≡ childAt r j
   unfolding leafChildren
   leaf-children-at j z h = let e : 0 + j ≡ j = omega arith in from-at 0 (countOf r) j z h ∙ ap (childAt r) e
-
--- the offsets in a cell's data are those in the bins data, further on
-pub offsets-data : (d : List ℕ) (o : Offset) (p n : ℕ) → p + 4 * n ≤ length (dataAt d o)
-    → offsetsAt d (o .0 + 4 + p) n ≡ offsetsAt (dataAt d o) p n
-unfolding offsetsAt
-offsets-data d o p zero h = refl
-offsets-data d o p (suc n) h =
-    rw (add-assoc (o .0 + 4) p 4, data-u32 d o p (omega arith), offsets-data d o (p + 4) n (omega arith))
 
 module _ (d : List ℕ) where
   pub in-cons : (l : Offset) (ls : List Offset) → childrenIn d (l ∷ ls) ≡ leafChildren (dataAt d l) ++ childrenIn d ls

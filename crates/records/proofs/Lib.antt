@@ -1,4 +1,3 @@
-pub mod Parts
 pub mod LawsRecord
 pub mod KeyTests
 pub mod LawsKey

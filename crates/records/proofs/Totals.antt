@@ -11,6 +11,7 @@ use Rattle.fields.specs.Faults.{nowhere, faultOver}
 use Rattle.fields.proofs.Loops.{loop-stop, loop-on, loop-end}
 use Rattle.cells.specs.declared.Rule.{Rule}
 use Rattle.cells.specs.Named.{dataAt}
+use Rattle.cells.proofs.Parts.{data-small}
 use Rattle.records.specs.declared.Key.{Key}
 use Rattle.records.specs.declared.Leaf.{Leaf}
 use Rattle.records.specs.declared.Leaves.{Leaves}
@@ -19,7 +20,6 @@ use Rattle.records.specs.declared.Leafed.the-variants as leaf
 use Rattle.records.specs.declared.Totalled.the-variants as total
 use Rattle.records.specs.Lists.{countOf, childrenIn, childrenBelow, leafFault, headFault, listsFault}
 use Rattle.records.specs.Places.{leavesAt, leafNamed, leavesNamed, LeavesLie, leafIn, leafOf, headed, leafed, totalled, totalOver}
-use Rattle.records.proofs.Parts.{data-small}
 use Rattle.records.proofs.LawsAnswer.{headed-whole, headed-flawed, leafed-whole, leafed-flawed}
 use Rattle.records.proofs.LawsSequence.{count-on, count-end}
 use Rattle.records.proofs.LawsPlaces.{named-length, named-at, leaves-lie, leaves-are, leaves-few, leaf-tested}
@@ -95,4 +95,4 @@ module _ (rule : Rule) (d m : List ℕ) (k : Key) where
       unfolding childrenBelow
       total-good =
           let h = head-sound in
-          rw (h .1, leaves-are rule d m (k .list) (h .0), lists-some rule d m k some, list-over rule d m (k .list) (h .0), below-some d k some)
+          rw (h .1, leaves-are d (k .list), lists-some rule d m k some, list-over rule d m (k .list) (h .0), below-some d k some)

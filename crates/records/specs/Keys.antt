@@ -13,7 +13,7 @@ use Rattle.fields.specs.Number.{u16At, u32At}
 use Rattle.fields.specs.Bytes.{standsAt}
 use Rattle.fields.specs.Faults.{flaw, unless, _next_}
 use Rattle.cells.specs.declared.Rule.{Rule}
-use Rattle.cells.specs.Named.{cellFault, dataAt}
+use Rattle.cells.specs.Named.{cellFault, dataAt, PartIn, partIn}
 use Rattle.names.specs.Codes.{codes, charactersIn, hasCode, backslash}
 use Rattle.records.specs.declared.Key.{Key}
 use Rattle.records.specs.declared.Keyed.{Keyed}
@@ -51,7 +51,7 @@ isKey r =
 unfoldable pub keyFault : Rule → List ℕ → List ℕ → Offset → Verdict
 keyFault rule d m o = cellFault rule d m o next unless (isKey (dataAt d o)) (flaw Record o)
 
--- the fields of the key record r at an offset; its name as a part of the bins data
+-- the fields of the key record r at an offset; its name lies in the data of that cell
 unfoldable pub keyIn : List ℕ → Offset → Key
 keyIn r o =
     record {
@@ -60,7 +60,7 @@ keyIn r o =
       list = offsetAt r 28;
       values = u32At r 36;
       «value_list» = offsetAt r 40;
-      name = record { at = o .0 + 80; len = u16At r 72; narrow = keyNarrow r };
+      name = record { cell = o; at = 76; len = u16At r 72; narrow = keyNarrow r };
     }
 
 -- the fields of the key at an offset
@@ -72,6 +72,12 @@ abbrev pub keyed : Verdict → Key → Keyed
 keyed Sound k = answer.Whole k
 keyed (Flawed f) k = answer.Flawed f
 
--- the codes of a name that lies in the bins data
+-- a name lies in its cell's data: its bytes there, and their codes
+abbrev pub NameIn : List ℕ → Name → Type 0
+NameIn d n = PartIn d (n .cell) (n .at) (n .len)
+
+abbrev pub nameBytes : List ℕ → Name → List ℕ
+nameBytes d n = partIn d (n .cell) (n .at) (n .len)
+
 unfoldable pub codesOf : List ℕ → Name → List ℕ
-codesOf d n = codes (n .narrow) (take (n .len) (drop (n .at) d))
+codesOf d n = codes (n .narrow) (nameBytes d n)

@@ -1,4 +1,4 @@
--- Where the leaves of a list and the elements of a leaf stand in the bins data, so that a loop over them reads each list's head once.
+-- The leaves of a list and the elements of a leaf, where they stand in the list's cell, so that a loop over them reads each list's head once.
 use Prim.Native.Nat.{ℕ, zero, suc, _+_, _*_, _≤_}
 use mathlib.Core.Path.{_≡_}
 use mathlib.Core.Bool.{true, false, cond}
@@ -23,28 +23,28 @@ use Rattle.records.specs.declared.Totalled.the-variants as total
 use Rattle.records.specs.Offsets.{offsetAt, offsetsAt}
 use Rattle.records.specs.Lists.{isRi, isLh, countOf, widthOf, childrenIn, leafFault}
 
--- the leaves of the list r at an offset; its elements start 8 bytes past the offset, after the cell's size and the list's first 4 bytes
+-- the leaves of the list r at an offset
 unfoldable pub leavesIn : List ℕ → Offset → Leaves
-leavesIn r o = record { at = o .0 + 8; count = cond (isRi r) (countOf r) 1; index = isRi r; list = o }
+leavesIn r o = record { cell = o; count = cond (isRi r) (countOf r) 1; index = isRi r }
 
 unfoldable pub leavesAt : List ℕ → Offset → Leaves
 leavesAt d o = leavesIn (dataAt d o) o
 
--- leaf j, and all of them
+-- leaf j, and all of them: "elements at 4"
 unfoldable pub leafNamed : List ℕ → Leaves → ℕ → Offset
-leafNamed d ls j = cond (ls .index) (offsetAt d (ls .at + 4 * j)) (ls .list)
+leafNamed d ls j = cond (ls .index) (offsetAt (dataAt d (ls .cell)) (4 + 4 * j)) (ls .cell)
 
 unfoldable pub leavesNamed : List ℕ → Leaves → List Offset
-leavesNamed d ls = cond (ls .index) (offsetsAt d (ls .at) (ls .count)) (ls .list ∷ [])
+leavesNamed d ls = cond (ls .index) (offsetsAt (dataAt d (ls .cell)) 4 (ls .count)) (ls .cell ∷ [])
 
--- the offsets of an `ri` lie in the bins data
+-- the offsets of an `ri` lie in its cell's data
 pub record LeavesLie (d : List ℕ) (ls : Leaves) : Type 0 where
-  pub inside : ls .index ≡ true → ls .at + 4 * ls .count ≤ length d
+  pub inside : ls .index ≡ true → 4 + 4 * ls .count ≤ length (dataAt d (ls .cell))
   pub single : ls .index ≡ false → ls .count ≡ 1
 
 -- the elements of the leaf r at an offset
 unfoldable pub leafIn : List ℕ → Offset → Leaf
-leafIn r o = record { at = o .0 + 8; count = countOf r; width = widthOf r; hashed = isLh r }
+leafIn r o = record { cell = o; count = countOf r; width = widthOf r; hashed = isLh r }
 
 unfoldable pub leafOf : List ℕ → Offset → Leaf
 leafOf d o = leafIn (dataAt d o) o
@@ -52,8 +52,12 @@ leafOf d o = leafIn (dataAt d o) o
 -- element i of a leaf
 unfoldable pub childNamed : List ℕ → Leaf → ℕ → Child
 childNamed d l i =
-    let p = l .at + i * l .width in
-    record { at = offsetAt d p; hashed = l .hashed; hash = cond (l .hashed) (u32At d (p + 4)) 0 }
+    let r = dataAt d (l .cell) in
+    record {
+      at = offsetAt r (4 + i * l .width);
+      hashed = l .hashed;
+      hash = cond (l .hashed) (u32At r (8 + i * l .width)) 0;
+    }
 
 -- the elements of a leaf, as a loop reads them: n of them from element i on, and all
 unfoldable pub elementsFrom : List ℕ → Leaf → ℕ → ℕ → List Child
@@ -67,9 +71,9 @@ elementsOf d l = elementsFrom d l 0 (l .count)
 abbrev pub noChild : Child
 noChild = record { at = nowhere; hashed = false; hash = 0 }
 
--- the elements of a leaf lie in the bins data, with their hashes where they have them
+-- the elements of a leaf lie in its cell's data, with their hashes where they have them
 pub record ElementsLie (d : List ℕ) (l : Leaf) : Type 0 where
-  pub inside : l .at + l .count * l .width ≤ length d
+  pub inside : 4 + l .count * l .width ≤ length (dataAt d (l .cell))
   pub offset-fits : 4 ≤ l .width
   pub hash-fits : l .hashed ≡ true → 8 ≤ l .width
 

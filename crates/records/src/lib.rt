@@ -1,6 +1,5 @@
-// Keys and their lists, in bounded cells. A record's test is a function of its cell's data alone, so that it reads only inside its cell.
-//
-// Everything else speaks of the bins data, at offsets in it.
+// Keys and their lists, in bounded cells. A record's test is a function of its cell's data alone, so that it reads only inside its cell; what is read
+// later of a record that was tested is read in its cell's data too, by way of `cells`.
 use cells::Found;
 use cells::Rule;
 use fields::Fault;
@@ -8,16 +7,17 @@ use fields::Flaw;
 use fields::Offset;
 ghost use mathlib.Core.Path.{_≡_};
 ghost use Prim.Native.Nat.{_+_, _≤_, _<_};
-ghost use lib.ListN.{length, take, drop};
+ghost use lib.ListN.{length};
 ghost use Rattle.names.specs.Comparison.{compare, sameName};
 ghost use Rattle.names.specs.Hashing.{hashOf};
 ghost use Rattle.cells.specs.Named.{dataAt};
-ghost use Rattle.records.specs.Keys.{isFlagged, isWhole, isKeyName, isKey, keyIn, keyFault, keyOf, keyed, codesOf};
+ghost use Rattle.records.specs.Keys.{isFlagged, isWhole, isKeyName, isKey, keyIn, keyFault, keyOf, keyed, NameIn, nameBytes, codesOf};
 ghost use Rattle.records.specs.Lists.{hasElements, widthOf, hasLeafSignature, isLeaf, isList, childrenBelow, leafFault, headFault, listsFault};
 ghost use Rattle.records.specs.Places.{leavesIn, leavesAt, headed, LeavesLie, leafNamed, leafIn, leafOf, leafed, ElementsLie, childNamed, totalled, totalOver};
 
-// A stored name, as a part of the bins data.
+// A stored name: its bytes lie in the data of a cell, from a position on.
 pub struct Name {
+    pub cell: Offset,
     pub at: usize,
     pub len: usize,
     pub narrow: bool,
@@ -104,7 +104,8 @@ fn key_in(r: &[u8], o: Offset) -> Key
         values: fields::u32_at(r, 36),
         value_list: Offset(fields::u32_at(r, 40)),
         name: Name {
-            at: o.0 as usize + 80,
+            cell: o,
+            at: 76,
             len: fields::u16_at(r, 72) as usize,
             narrow: is_flagged(fields::u16_at(r, 2), 32),
         },
@@ -140,23 +141,20 @@ pub fn key_fields(bins: &[u8], o: Offset) -> Key
     requires { ⌜ 76 ≤ length (dataAt (now bins) o) ⌝ }
     ensures { λ k. ⌜ k ≡ keyOf (now (bins .entry)) o ⌝ }
 {
-    let at = o.0 as usize + 4;
-    key_in(&bins[at..at + 76], o)
+    key_in(cells::part_in(bins, o, 0, 76), o)
 }
 
 // A name, read in place.
 fn name_part(bins: &[u8], n: Name) -> &[u8]
-    requires { ⌜ n .at + n .len ≤ length (now bins) ⌝ }
-    ensures { λ r. ⌜ now r ≡ take (n .len) (drop (n .at) (now (bins .entry))) ⌝ }
+    requires { ⌜ NameIn (now bins) n ⌝ }
+    ensures { λ r. ⌜ now r ≡ nameBytes (now (bins .entry)) n ⌝ }
 {
-    let at = n.at;
-    let end = at + n.len;
-    &bins[at..end]
+    cells::part_in(bins, n.cell, n.at, n.len)
 }
 
 // The order of two stored names.
 pub fn compare_names(bins: &[u8], a: Name, b: Name) -> names::Order
-    requires { ⌜ (a .at + a .len ≤ length (now bins)) × (b .at + b .len ≤ length (now bins)) ⌝ }
+    requires { ⌜ NameIn (now bins) a × NameIn (now bins) b ⌝ }
     ensures { λ r. ⌜ r ≡ compare (codesOf (now (bins .entry)) a) (codesOf (now (bins .entry)) b) ⌝ }
 {
     names::compare_stored(name_part(bins, a), a.narrow, name_part(bins, b), b.narrow)
@@ -164,7 +162,7 @@ pub fn compare_names(bins: &[u8], a: Name, b: Name) -> names::Order
 
 // The hash of a stored name.
 pub fn hash_of(bins: &[u8], n: Name) -> u32
-    requires { ⌜ n .at + n .len ≤ length (now bins) ⌝ }
+    requires { ⌜ NameIn (now bins) n ⌝ }
     ensures { λ r. ⌜ r ≡ hashOf (codesOf (now (bins .entry)) n) ⌝ }
 {
     names::hash(name_part(bins, n), n.narrow)
@@ -172,7 +170,7 @@ pub fn hash_of(bins: &[u8], n: Name) -> u32
 
 // Whether a stored name is the given one.
 pub fn is_called(bins: &[u8], n: Name, name: &[u16]) -> bool
-    requires { ⌜ n .at + n .len ≤ length (now bins) ⌝ }
+    requires { ⌜ NameIn (now bins) n ⌝ }
     ensures { λ r. ⌜ r ≡ sameName (codesOf (now (bins .entry)) n) (now (name .entry)) ⌝ }
 {
     names::is_named(name_part(bins, n), n.narrow, name)
@@ -241,12 +239,11 @@ pub fn is_list(r: &[u8]) -> bool
     is_leaf(r)
 }
 
-// Where the leaves of a list stand: of an `ri` (index) element j is the offset at position at + 4 j of the bins data, else the one leaf is the list.
+// The leaves of a list, by its cell: those that an `ri` (index) names, "elements at 4", else the list itself.
 pub struct Leaves {
-    pub at: usize,
+    pub cell: Offset,
     pub count: usize,
     pub index: bool,
-    pub list: Offset,
 }
 
 pub enum Headed {
@@ -259,20 +256,17 @@ fn leaves_in(r: &[u8], o: Offset) -> Leaves
     requires { ⌜ 4 ≤ length (now r) ⌝ }
     ensures { λ ls. ⌜ ls ≡ leavesIn (now (r .entry)) o ⌝ }
 {
-    let at = o.0 as usize + 8;
     if fields::stands_at(r, 0, b"ri") {
         return Leaves {
-            at,
+            cell: o,
             count: fields::u16_at(r, 2) as usize,
             index: true,
-            list: o,
         };
     }
     Leaves {
-        at,
+        cell: o,
         count: 1,
         index: false,
-        list: o,
     }
 }
 
@@ -301,9 +295,9 @@ pub fn leaf_offset(bins: &[u8], ls: Leaves, j: usize) -> Offset
     ensures { λ o. ⌜ o ≡ leafNamed (now (bins .entry)) ls j ⌝ }
 {
     if ls.index {
-        Offset(fields::u32_at(bins, ls.at + 4 * j))
+        Offset(cells::word_in(bins, ls.cell, 4 + 4 * j))
     } else {
-        ls.list
+        ls.cell
     }
 }
 
@@ -312,13 +306,12 @@ pub fn leaves_fields(bins: &[u8], o: Offset) -> Leaves
     requires { ⌜ 4 ≤ length (dataAt (now bins) o) ⌝ }
     ensures { λ ls. ⌜ ls ≡ leavesAt (now (bins .entry)) o ⌝ }
 {
-    let at = o.0 as usize + 4;
-    leaves_in(&bins[at..at + 4], o)
+    leaves_in(cells::part_in(bins, o, 0, 4), o)
 }
 
-// Where the elements of a leaf stand: from a position of the bins data on, of so many bytes each.
+// The elements of a leaf, by its cell: "elements at 4", of so many bytes each.
 pub struct Leaf {
-    pub at: usize,
+    pub cell: Offset,
     pub count: usize,
     pub width: usize,
     pub hashed: bool,
@@ -335,7 +328,7 @@ fn leaf_in(r: &[u8], o: Offset) -> Leaf
     ensures { λ l. ⌜ l ≡ leafIn (now (r .entry)) o ⌝ }
 {
     Leaf {
-        at: o.0 as usize + 8,
+        cell: o,
         count: fields::u16_at(r, 2) as usize,
         width: width_of(r),
         hashed: fields::stands_at(r, 0, b"lh"),
@@ -366,8 +359,7 @@ pub fn leaf_fields(bins: &[u8], o: Offset) -> Leaf
     requires { ⌜ 4 ≤ length (dataAt (now bins) o) ⌝ }
     ensures { λ l. ⌜ l ≡ leafOf (now (bins .entry)) o ⌝ }
 {
-    let at = o.0 as usize + 4;
-    leaf_in(&bins[at..at + 4], o)
+    leaf_in(cells::part_in(bins, o, 0, 4), o)
 }
 
 // Element i of a leaf.
@@ -375,13 +367,13 @@ pub fn child_of(bins: &[u8], leaf: Leaf, i: usize) -> Child
     requires { ⌜ (i < leaf .count) × ElementsLie (now bins) leaf ⌝ }
     ensures { λ r. ⌜ r ≡ childNamed (now (bins .entry)) leaf i ⌝ }
 {
-    let p = leaf.at + i * leaf.width;
-    let at = Offset(fields::u32_at(bins, p));
+    let p = 4 + i * leaf.width;
+    let at = Offset(cells::word_in(bins, leaf.cell, p));
     if leaf.hashed {
         return Child {
             at,
             hashed: true,
-            hash: fields::u32_at(bins, p + 4),
+            hash: cells::word_in(bins, leaf.cell, p + 4),
         };
     }
     Child {

@@ -13,7 +13,7 @@ use Rattle.fields.specs.Number.{u32At}
 use Rattle.fields.specs.Bytes.{sameBytes, standsAt}
 use Rattle.fields.proofs.Bools.{and-inv, and-both}
 use Rattle.base.specs.Block.{isRegf, xors, asStored, storedChecksum, isSummed, minorOf, typeOf, isVersion, isBinsSize, usable, isSettled, clean}
-use Rattle.base.proofs.Laws.{asStored-lt}
+use Rattle.base.proofs.Laws.{asStored-lt, usable-facts, facts-usable}
 use Rattle.sectors.specs.Sector.{Bytes}
 use Rattle.sectors.specs.Closing.{put32, asHive, closingSector}
 use Rattle.sectors.proofs.Words.{u32-lt, put-length, put-take, u32-other, u32-same, put-bytes}
@@ -87,15 +87,12 @@ module _ (s : List ℕ) (n : length s ≡ 512) (h : Bytes s) where
 
   -- the closing sector of a usable log's base block with equal sequence numbers
   pub closing-clean : (type : ℕ) → usable s type ≡ true → isSettled s ≡ true → clean (closingSector s) ≡ true
-  unfolding usable clean
+  unfolding clean
   closing-clean type u e =
-      let a = and-inv (isRegf s) _ u in
-      let b = and-inv (isSummed s) _ (a .1) in
-      let d = and-inv (isVersion s type) _ (b .1) in
+      let a = usable-facts s type u in
       let first : u32At (closingSector s) 4 ≡ u32At s 4 = closing-u32 4 (inl (omega arith)) (omega arith) in
       let second : u32At (closingSector s) 8 ≡ u32At s 8 = closing-u32 8 (inl (omega arith)) (omega arith) in
       and-both
-      (and-both (closing-regf ∙ a .0)
-      (and-both closing-summed
-      (and-both (closing-version type (d .0)) (ap isBinsSize (closing-u32 40 (inr (omega arith)) (omega arith)) ∙ d .1))))
+      (facts-usable (closingSector s) 0 (closing-regf ∙ a .0) closing-summed (closing-version type (a .2))
+      (ap isBinsSize (closing-u32 40 (inr (omega arith)) (omega arith)) ∙ a .3))
       (ap₂ eqb first second ∙ e)

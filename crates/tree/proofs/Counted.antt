@@ -6,12 +6,12 @@ use mathlib.Core.Bool.{Bool, true, false}
 use mathlib.Core.Logic.{⊎-elim}
 use mathlib.Core.List.{List, [], _∷_, List·Memᴰ, List·Memᴰ·head, List·Memᴰ·tail, List·Memᴰ·cases-cons, Memᴰ·cast}
 use lib.Dec.{ltb, eqb}
-use lib.ListN.{length, length-take, length-drop}
+use lib.ListN.{length}
 use borrow.Author.Tests.{ltb-true, ltb-false, lt-ltb, le-ltb, eqb-true, eqb-false}
 use Rattle.fields.specs.declared.Offset.{Offset}
 use Rattle.base.specs.Block.{binsLimit}
-use Rattle.cells.specs.Named.{dataOf, dataAt}
 use Rattle.cells.specs.Tiled.{BinsTile}
+use Rattle.cells.proofs.Parts.{data-short}
 use Rattle.cells.proofs.Tiles.{wholly-inside}
 use Rattle.records.specs.Keys.{keyOf}
 use Rattle.records.specs.Lists.{children}
@@ -85,10 +85,6 @@ pigeonhole n cs o f = let a = low-all n cs f in let b = low-most n cs o in omega
 
 pair : {a b x y : ℕ} → a ≡ x → b ≡ y → _≡_ {A = Count} (record { keys = a; values = b }) (record { keys = x; values = y })
 pair p q = ap₂ (λ (i j : ℕ). let r : Count = record { keys = i; values = j } in r) p q
-
-data-short : (d : List ℕ) (o : Offset) → length (dataAt d o) ≤ length d
-unfolding dataAt dataOf
-data-short d o = simp (length-take, length-drop) (omega arith)
 
 module _ (d : List ℕ) (hive : Hive) where
   -- every listed key stands

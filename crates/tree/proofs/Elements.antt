@@ -44,7 +44,7 @@ module _ (d m : List ℕ) (k : Key) (e : listsFault Map d m k ≡ Sound) (ne : k
 
   module _ {ls : Leaves} (q : ls ≡ leavesAt d (k .list)) where
     as-leaves : leavesBelow d k ≡ leavesNamed d ls
-    as-leaves = below-some d k ne ∙ sym (ap (leavesNamed d) q ∙ leaves-are Map d m (k .list) head-sound)
+    as-leaves = below-some d k ne ∙ sym (ap (leavesNamed d) q ∙ leaves-are d (k .list))
 
     pub as-list : childrenBelow d k ≡ childrenIn d (leavesNamed d ls)
     unfolding childrenBelow

@@ -15,7 +15,7 @@ use Rattle.names.specs.Codes.{codes, charactersIn, hasCode, backslash}
 use Rattle.names.proofs.LawsCodes.{counted}
 use Rattle.records.specs.Keys.{isWhole, isKeyName, keyNarrow, keyName, isKey}
 use Rattle.records.specs.Lists.{isLi, isLf, isLh, isRi, hasElements, widthOf, hasLeafSignature, isLeaf, isList}
-use Rattle.records.proofs.Parts.{part-length}
+use Rattle.cells.proofs.Parts.{part-length}
 use Rattle.records.proofs.LawsKey.{is-key-facts}
 use Rattle.records.proofs.ListFacts.{elements}
 use Rattle.values.specs.Records.{valueNarrow, isValueName, topBit, dataLimit, isDataSize, isValue}

@@ -1,14 +1,15 @@
 -- From the root: the walk's counts are the report's, and the check is the survey followed by the walk.
-use Prim.Native.Nat.{ℕ, _+_, _-_, _≤_}
+use Prim.Native.Nat.{ℕ, _≤_}
 use native.Mathlib.Omega.{arith}
 use mathlib.Core.Path.{_≡_, sym, _∙_}
 use mathlib.Core.Bool.{false}
 use mathlib.Core.List.{List}
-use lib.ListN.{length, take, drop, length-take, length-drop}
+use lib.ListN.{length, length-take, length-drop}
 use Rattle.fields.specs.declared.Flaw.{Flaw}
+use Rattle.fields.specs.declared.Offset.{Offset}
 use Rattle.fields.specs.declared.Refusal.{Refusal}
 use Rattle.fields.specs.Faults.{refusalOf}
-use Rattle.base.specs.Block.{sector, minorOf, rootOf, binsOf, binsLimit, binsData}
+use Rattle.base.specs.Block.{sector, minorOf, rootOf, binsLimit, binsData}
 use Rattle.base.proofs.Laws.{base-facts}
 use Rattle.cells.specs.declared.Tally.{Tally}
 use Rattle.cells.specs.declared.Surveyed.the-variants.{Tiled, Refused as Untiled}
@@ -29,11 +30,10 @@ abbrev pub none : Count
 none = record { keys = 0; values = 0 }
 
 -- the walk's arguments, as they are read from the base block
-pub root-is : (h m : List ℕ) {minor root bins : ℕ} → minor ≡ minorOf (sector h) → root ≡ rootOf (sector h) → bins ≡ binsOf (sector h)
-    → keyAnswer (take (4096 + bins - 4096) (drop 4096 h)) m (record { minor = minor; root = record { 0 = root } }) levels
-    (record { at = record { 0 = root }; hashed = false; hash = 0 }) Start none
+pub root-is : (h m : List ℕ) {minor : ℕ} {root : Offset} {bins : List ℕ} → minor ≡ minorOf (sector h) → root ≡ rootOf (sector h) → bins ≡ binsData h
+    → keyAnswer bins m (record { minor = minor; root = root }) levels (record { at = root; hashed = false; hash = 0 }) Start none
     ≡ keyAnswer (binsData h) m (hiveOf h) levels (rootChild (hiveOf h)) Start none
-root-is h m {minor} {root} {bins} p q r = let e : 4096 + bins - 4096 ≡ bins = omega arith in rw (e, r, p, q)
+root-is h m p q r = rw (r, p, q)
 
 module _ (h m : List ℕ) (r : Ready h m) where
   pub bins-small : length (binsData h) ≤ binsLimit

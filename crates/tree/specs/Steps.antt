@@ -1,5 +1,5 @@
 -- What the walk's functions ask of each other.
-use Prim.Native.Nat.{ℕ, _+_, _-_, _≤_}
+use Prim.Native.Nat.{ℕ, _-_, _≤_}
 use mathlib.Core.Path.{_≡_}
 use mathlib.Core.List.{List}
 use lib.ListN.{length, getD}
@@ -13,7 +13,7 @@ use Rattle.cells.specs.declared.Tally.{Tally}
 use Rattle.cells.specs.Named.{dataAt}
 use Rattle.cells.specs.Tiled.{BinsTile, Mapped}
 use Rattle.records.specs.declared.Key.{Key}
-use Rattle.records.specs.Keys.{keyOf}
+use Rattle.records.specs.Keys.{keyOf, NameIn}
 use Rattle.records.specs.Places.{noChild}
 use Rattle.records.specs.Lists.{leafChildren, listsFault}
 use Rattle.tree.specs.declared.Listed.{Listed}
@@ -21,11 +21,11 @@ use Rattle.tree.specs.declared.Listed.the-variants.{Start, First, After}
 use Rattle.tree.specs.declared.Checked.{Checked}
 use Rattle.tree.specs.Tree.{totalFault, treeCharge, levels, hiveOf, rootChild, reportOf, answer}
 
--- a key's name lies in the bins data
+-- a key's name lies in its cell
 abbrev pub NameLies : List ℕ → Key → Type 0
-NameLies d k = k .name .at + k .name .len ≤ length d
+NameLies d k = NameIn d (k .name)
 
--- a key that was tested: its record has room, and its name lies in the bins data
+-- a key that was tested: its record has room, and its name lies in its cell
 pub record Fits (d : List ℕ) (o : Offset) : Type 0 where
   pub room : 76 ≤ length (dataAt d o)
   pub name : NameLies d (keyOf d o)

@@ -138,7 +138,7 @@ abbrev pub levels : ℕ
 levels = 513
 
 abbrev pub hiveOf : List ℕ → Hive
-hiveOf h = record { minor = minorOf (sector h); root = record { 0 = rootOf (sector h) } }
+hiveOf h = record { minor = minorOf (sector h); root = rootOf (sector h) }
 
 abbrev pub rootChild : Hive → Child
 rootChild hive = record { at = hive .root; hashed = false; hash = 0 }

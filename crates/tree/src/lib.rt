@@ -12,9 +12,6 @@ use records::Key;
 use records::Keyed;
 use records::Totalled;
 ghost use mathlib.Core.Path.{_≡_};
-ghost use Prim.Native.Nat.{_+_, _≤_};
-ghost use lib.ListN.{length};
-ghost use Rattle.base.specs.Block.{binsLimit};
 ghost use Rattle.cells.specs.Survey.{mapLeft};
 ghost use Rattle.cells.specs.Named.{dataAt};
 ghost use Rattle.cells.specs.declared.Rule.the-variants.{Map};
@@ -138,7 +135,6 @@ fn listing_flaw(bins: &[u8], map: &[u8], k: Key, at: Offset) -> Verdict
 
 // "level; values in order with their data; all its lists and the total"
 fn rest_flaw(bins: &[u8], map: &[u8], minor: u32, levels: u32, k: Key, at: Offset) -> Verdict
-    requires { ⌜ length (now bins) ≤ binsLimit ⌝ }
     ensures { λ r. ⌜ r ≡ restFault (now (bins .entry)) (now (map .entry)) minor levels k at ⌝ }
 {
     if levels == 0 {
@@ -160,7 +156,7 @@ fn own_flaw(
     c: Child,
     l: Listed,
 ) -> Verdict
-    requires { ⌜ (length (now bins) ≤ binsLimit) × NameLies (now bins) k ⌝ }
+    requires { ⌜ NameLies (now bins) k ⌝ }
     requires { ⌜ ListedFits (now bins) l ⌝ }
     ensures { λ r. ⌜ r ≡ ownFault (now (bins .entry)) (now (map .entry)) hive levels k c l ⌝ }
 {
@@ -204,7 +200,6 @@ fn check_key(
     levels: u32,
     t: Count,
 ) -> Walk
-    requires { ⌜ length (now bins) ≤ binsLimit ⌝ }
     requires { ⌜ ListedFits (now bins) l ⌝ }
     ensures { λ r. ⌜ r ≡ keyAnswer (now (bins .entry)) (now (map .entry)) hive levels c l t ⌝ }
 {
@@ -231,7 +226,6 @@ fn check_list(
     levels: u32,
     from: Count,
 ) -> Walk
-    requires { ⌜ length (now bins) ≤ binsLimit ⌝ }
     requires { ⌜ listsFault Map (now bins) (now map) k ≡ Sound ⌝ }
     ensures { λ r. ⌜ r ≡ listAnswer (now (bins .entry)) (now (map .entry)) hive levels key (Listed.First key) (childrenBelow (now (bins .entry)) k) from ⌝ }
 {
@@ -269,7 +263,6 @@ fn check_leaf(
     levels: u32,
     from: Count,
 ) -> Walk
-    requires { ⌜ length (now bins) ≤ binsLimit ⌝ }
     requires { ⌜ leafFault Map (now bins) (now map) o ≡ Sound ⌝ }
     requires { ⌜ ListedFits (now bins) first ⌝ }
     ensures { λ r. ⌜ r ≡ listAnswer (now (bins .entry)) (now (map .entry)) hive levels key first (leafChildren (dataAt (now (bins .entry)) o)) from ⌝ }
@@ -299,10 +292,8 @@ fn walk_tree(hive: &[u8], map: &[u8], t: Tally) -> Checked
     requires { ⌜ Ready (now hive) (now map) ⌝ }
     ensures { λ r. ⌜ r ≡ walkAnswer (now (hive .entry)) (now (map .entry)) t ⌝ }
 {
-    let s = &hive[0..512];
-    let minor = fields::u32_at(s, 24);
-    let root = Offset(fields::u32_at(s, 36));
-    let end = 4096 + fields::u32_at(s, 40) as usize;
+    let minor = base::minor_of(hive);
+    let root = base::root_of(hive);
     let start = Child {
         at: root,
         hashed: false,
@@ -310,7 +301,7 @@ fn walk_tree(hive: &[u8], map: &[u8], t: Tally) -> Checked
     };
     let none = Count { keys: 0, values: 0 };
     match check_key(
-        &hive[4096..end],
+        base::bins_of(hive),
         map,
         Hive { minor, root },
         start,

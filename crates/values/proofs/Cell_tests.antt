@@ -14,9 +14,8 @@ use Rattle.cells.specs.declared.Cell.{Cell}
 use Rattle.cells.specs.declared.Found.the-variants.{Named, Missing}
 use Rattle.cells.specs.declared.Rule.{Rule}
 use Rattle.cells.specs.declared.Rule.the-variants.{Header}
-use Rattle.records.proofs.LawsRecord.{header-cell}
 use Rattle.cells.specs.Named.{cellOf, cellFault, dataOf, dataAt}
-use Rattle.cells.proofs.Naming.{Names, cell-sound, cell-flawed, cell-data-at, sound-names}
+use Rattle.cells.proofs.Naming.{cell-sound, cell-flawed, cell-data-at, header-cell}
 
 -- ---- what the map names, the cell's own header names
 
@@ -46,10 +45,8 @@ module _ (test : List ℕ → Bool) (rule : Rule) (d m : List ℕ) (o : Offset) 
     pub refuses : test r ≡ false → testFault test rule d m o ≡ Flawed (flaw Record o)
     refuses p = on _ _ (cell-sound rule d m o e) ∙ fails _ (ap test (sym (q ∙ cell-data-at rule d m o e)) ∙ p)
 
-  pub says : testFault test rule d m o ≡ Sound → Names d (o .0) × (test (dataAt d o) ≡ true)
-  says e =
-      let s = both (cellFault rule d m o) _ e in
-      (sound-names rule d m o (s .0), held (test (dataAt d o)) (flaw Record o) (s .1))
+  pub says : testFault test rule d m o ≡ Sound → test (dataAt d o) ≡ true
+  says e = held (test (dataAt d o)) (flaw Record o) (both (cellFault rule d m o) _ e .1)
 
   pub by-header : (n : List ℕ) → testFault test rule d m o ≡ Sound → testFault test Header d n o ≡ Sound
-  by-header n = carries-next (cellFault rule d m o) _ (cellFault Header d n o) _ (header-cell rule d m n o) (λ e. e)
+  by-header n = carries-next (cellFault rule d m o) _ (cellFault Header d n o) _ (λ e. header-cell rule d m o e n) (λ e. e)

@@ -15,33 +15,32 @@ use Rattle.records.specs.Offsets.{offsetsAt}
 use Rattle.values.specs.declared.Entries.{Entries}
 use Rattle.values.specs.Entries.{Room, entriesOf}
 use Rattle.values.specs.Lists.{valuesOf, valueListFault, valueEntries, wholeValueFault, valuesFault}
-use Rattle.values.proofs.Rooms.{roomy, offsets-within}
+use Rattle.values.proofs.Rooms.{roomy}
+
+-- the elements are the key's values
+values-listed : (d : List ℕ) (k : Key) → valuesOf d k ≡ entriesOf d (valueEntries k)
+unfolding valuesOf valueEntries entriesOf
+values-listed d k = by (eqb (k .values) 0) refl
+  where
+    by : (t : Bool) → eqb (k .values) 0 ≡ t → valuesOf d k ≡ entriesOf d (valueEntries k)
+    by true e = rw e (unfold offsetsAt in refl)
+    by false e = rw e
 
 module _ (rule : Rule) (d m : List ℕ) (k : Key) where
-  module _ (s : valueListFault rule d m k ≡ Sound) where
-    pub values-room : Room d (valueEntries k)
-    unfolding valueListFault valueEntries
-    values-room = by (eqb (k .values) 0) refl
-      where
-        by : (t : Bool) → eqb (k .values) 0 ≡ t → Room d (valueEntries k)
-        by true e = rw e (omega arith)
-        by false e = rw e (roomy rule d m (k .«value_list») (4 * k .values) (rw e at s) .ends)
+  pub values-room : valueListFault rule d m k ≡ Sound → Room d (valueEntries k)
+  unfolding valueListFault valueEntries
+  values-room s = by (eqb (k .values) 0) refl
+    where
+      by : (t : Bool) → eqb (k .values) 0 ≡ t → Room d (valueEntries k)
+      by true e = rw e (omega arith)
+      by false e = rw e (roomy rule d m (k .«value_list») (4 * k .values) (rw e at s))
 
-    -- the elements are the key's values
-    pub values-listed : valuesOf d k ≡ entriesOf d (valueEntries k)
-    unfolding valuesOf valueListFault valueEntries
-    values-listed = by (eqb (k .values) 0) refl
-      where
-        by : (t : Bool) → eqb (k .values) 0 ≡ t → valuesOf d k ≡ entriesOf d (valueEntries k)
-        by true e = rw e (unfold entriesOf offsetsAt in refl)
-        by false e = rw e (offsets-within d (k .«value_list») (k .values) (roomy rule d m (k .«value_list») (4 * k .values) (rw e at s)))
+  module _ (s : valueListFault rule d m k ≡ Sound) (e : Entries) (is : valueEntries k ≡ e) where
+    pub list-room : Room d e
+    list-room = rw (← is) (values-room s)
 
-    module _ (e : Entries) (is : valueEntries k ≡ e) where
-      pub list-room : Room d e
-      list-room = rw (← is) values-room
-
-      pub list-values : valuesOf d k ≡ entriesOf d e
-      list-values = values-listed ∙ ap (entriesOf d) is
+    pub list-values : valuesOf d k ≡ entriesOf d e
+    list-values = values-listed d k ∙ ap (entriesOf d) is
 
   module _ (minor : ℕ) where
     pub unlisted-values : {f : Flaw} → valueListFault rule d m k ≡ Flawed f → valuesFault rule d m minor k ≡ Flawed f

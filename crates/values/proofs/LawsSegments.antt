@@ -94,4 +94,4 @@ joined-length rule d m [] e = refl
 joined-length rule d m (s ∷ ss) e =
     let f = both (segmentFault rule d m s) _ e in
     let w = roomy rule d m (s .at) (s .len) (f .0) in
-    length-append (take (s .len) (dataAt d (s .at))) (joinedBytes d ss) ∙ ap₂ _+_ (length-take-le (s .len) (dataAt d (s .at)) (w .fits)) (joined-length rule d m ss (f .1))
+    length-append (take (s .len) (dataAt d (s .at))) (joinedBytes d ss) ∙ ap₂ _+_ (length-take-le (s .len) (dataAt d (s .at)) w) (joined-length rule d m ss (f .1))

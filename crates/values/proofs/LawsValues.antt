@@ -2,11 +2,11 @@
 -- where the check, by the map, met none.
 use Prim.Native.Nat.{ℕ, _+_, _-_, _*_, _<_, _≤_}
 use native.Mathlib.Omega.{arith}
-use mathlib.Core.Path.{_≡_, refl, ap, _∙_}
+use mathlib.Core.Path.{_≡_, refl, sym, _∙_}
 use mathlib.Core.Bool.{Bool, true, false, cond}
 use mathlib.Core.List.{List, []}
 use lib.Dec.{eqb, leb, ltb}
-use lib.ListN.{length, take, drop}
+use lib.ListN.{length}
 use borrow.Author.Tests.{leb-true, leb-false, ltb-true}
 use Rattle.fields.specs.declared.Offset.{Offset}
 use Rattle.fields.specs.declared.Verdict.the-variants.{Sound}
@@ -15,24 +15,23 @@ use Rattle.fields.proofs.Bools.{and-inv}
 use Rattle.cells.specs.declared.Rule.{Rule}
 use Rattle.cells.specs.declared.Rule.the-variants.{Header}
 use Rattle.cells.specs.Named.{dataAt}
-use Rattle.cells.proofs.Naming.{Names}
 use Rattle.records.specs.declared.Key.{Key}
+use Rattle.records.specs.Keys.{NameIn}
 use Rattle.records.specs.Offsets.{offsetAt}
 use Rattle.values.specs.declared.ValueData.{ValueData}
 use Rattle.values.specs.declared.ValueData.the-variants.{Inline, OneCell, Segments}
 use Rattle.values.specs.Records.{segmentSize, dataLimit, topBit, isDataSize, isValue, valueFault, isSegmented, contentOf, dataIn, fieldsOf, valueOf}
 use Rattle.values.specs.Segments.{roomFault, segmentsFor, isDb, dbFault, segmentList, segmentsOf, segmentFault, segmentListFault, segmentsFault, dataFault, lengthOf}
-use Rattle.values.specs.Parts.{inlineEnd, Lies}
+use Rattle.values.specs.Parts.{Lies}
 use Rattle.values.specs.Lists.{valuesOf, valueListFault, wholeValueFault, valuesFault}
 use Rattle.values.proofs.Cell_tests.{carries-next, carries-over, says, by-header}
-use Rattle.values.proofs.Rooms.{Roomy, names-roomy, bytes-within}
 use Rattle.values.proofs.Tests.{Kept, kept}
 
 -- ---- what is known of a value that passes
 
-pub value-says : (rule : Rule) (d m : List ℕ) (v : Offset) → valueFault rule d m v ≡ Sound → Names d (v .0) × Kept (dataAt d v)
+pub value-says : (rule : Rule) (d m : List ℕ) (v : Offset) → valueFault rule d m v ≡ Sound → Kept (dataAt d v)
 unfolding valueFault
-value-says rule d m v e = let s = says isValue rule d m v e in (s .0, kept (dataAt d v) (s .1))
+value-says rule d m v e = kept (dataAt d v) (says isValue rule d m v e)
 
 -- a data size: inline at most 4, else at most 1,048,576
 pub inline-size : (size : ℕ) → isDataSize size ≡ true → topBit ≤ size → size - topBit ≤ 4
@@ -53,7 +52,7 @@ other-size size e p = by (leb topBit size) refl e
 
 -- the three cases, each with its bounds, of the data of the value at an offset
 pub data Cased (d : List ℕ) (minor : ℕ) (v : Offset) : Type 0 where
-  inline : (n : ℕ) → n ≤ 4 → dataIn d minor v ≡ Inline (record { 0 = v .0 + 12 }) n → Cased d minor v
+  inline : (n : ℕ) → n ≤ 4 → dataIn d minor v ≡ Inline v n → Cased d minor v
   oneCell : (o : Offset) (n : ℕ) → n ≤ dataLimit → dataIn d minor v ≡ OneCell o n → Cased d minor v
   segments : (o : Offset) (n : ℕ) → segmentSize < n → n ≤ dataLimit → 4 ≤ minor → dataIn d minor v ≡ Segments o n → Cased d minor v
 
@@ -69,7 +68,7 @@ module _ (rule : Rule) (d m : List ℕ) (minor : ℕ) (v : Offset) (s : valueFau
       size = u32At r 4
 
       is-size : isDataSize size ≡ true
-      is-size = value-says rule d m v s .1 .size
+      is-size = value-says rule d m v s .size
 
       by : (t : Bool) → leb topBit size ≡ t → (g : Bool) → isSegmented minor size ≡ g → Cased d minor v
       by true e g f = inline (size - topBit) (inline-size size is-size (leb-true topBit size e)) (rw e)
@@ -87,39 +86,22 @@ module _ (rule : Rule) (d m : List ℕ) (minor : ℕ) (v : Offset) (s : valueFau
       by (oneCell o n p e) = rw e p
       by (segments o n p q k e) = rw e q
 
-  -- inline data end inside the record
-  inline-inside : inlineEnd (dataIn d minor v) ≤ length d
-  inline-inside = by cased
+  -- inline data lie inside the record
+  inline-inside : (w : Offset) (n : ℕ) → dataIn d minor v ≡ Inline w n → 8 + n ≤ length (dataAt d w)
+  inline-inside w n i = by cased
     where
-      by : Cased d minor v → inlineEnd (dataIn d minor v) ≤ length d
-      by (inline n p e) =
-          let x = value-says rule d m v s in
-          let w = names-roomy d v 20 (x .0) (x .1 .long) in
-          rw e (omega arith)
-      by (oneCell o n p e) = rw e (omega arith)
-      by (segments o n p q k e) = rw e (omega arith)
+      long : 20 ≤ length (dataAt d v)
+      long = value-says rule d m v s .long
 
-  -- "bytes lie at 8": inline data are the record's bytes
-  pub inline-bytes : (n : ℕ) → n ≤ 4 → take n (drop 8 (dataAt d v)) ≡ take n (drop (v .0 + 12) d)
-  inline-bytes n p =
-      let x = value-says rule d m v s in
-      let l = x .1 .long in
-      let q : v .0 + 4 + 8 ≡ v .0 + 12 = omega arith in
-      bytes-within d v 8 n (names-roomy d v (8 + n) (x .0) (omega arith)) ∙ ap (λ (i : ℕ). take n (drop i d)) q
+      by : Cased d minor v → 8 + n ≤ length (dataAt d w)
+      by (inline k p e) = let q : Inline v k ≡ Inline w n = sym e ∙ i in let a : v ≡ w = cc in let b : k ≡ n = cc in rw (← a) (omega (arith, long))
+      by (oneCell o k p e) = let z : _≡_ {A = ℕ} 0 1 = cc in absurd (omega arith)
+      by (segments o k p q l e) = let z : _≡_ {A = ℕ} 0 1 = cc in absurd (omega arith)
 
-  name-roomy : Roomy d v (20 + u16At (dataAt d v) 2)
-  name-roomy = let x = value-says rule d m v s in names-roomy d v (20 + u16At (dataAt d v) 2) (x .0) (x .1 .room)
-
-  -- "name at 20": the name lies in the bins data, and is the record's
-  pub name-inside : valueOf d minor v .name .at + valueOf d minor v .name .len ≤ length d
+  -- "name at 20": the name lies in the record's cell
+  pub name-inside : NameIn d (valueOf d minor v .name)
   unfolding valueOf fieldsOf
-  name-inside = let w = name-roomy .ends in omega arith
-
-  pub name-bytes : take (u16At (dataAt d v) 2) (drop 20 (dataAt d v)) ≡ take (valueOf d minor v .name .len) (drop (valueOf d minor v .name .at) d)
-  unfolding valueOf fieldsOf
-  name-bytes =
-      let q : v .0 + 4 + 20 ≡ v .0 + 24 = omega arith in
-      bytes-within d v 20 (u16At (dataAt d v) 2) name-roomy ∙ ap (λ (i : ℕ). take (u16At (dataAt d v) 2) (drop i d)) q
+  name-inside = record { some = omega arith; ends = value-says rule d m v s .room }
 
 -- ---- what is sound by either rule is sound by the cells' own headers, with any map
 
@@ -145,7 +127,7 @@ module _ (rule : Rule) (d m n : List ℕ) where
 
   pub header-data : (x : ValueData) → dataFault rule d m x ≡ Sound → dataFault Header d n x ≡ Sound
   unfolding dataFault
-  header-data (Inline at len) e = refl
+  header-data (Inline v len) e = refl
   header-data (OneCell o len) e = by (eqb len 0) e
     where
       by : (t : Bool) → cond t Sound (roomFault rule d m o len) ≡ Sound → cond t Sound (roomFault Header d n o len) ≡ Sound

@@ -1,4 +1,3 @@
-pub mod Offset_list
 pub mod Tests
 pub mod Cell_tests
 pub mod Valued_at

@@ -19,15 +19,14 @@ use Rattle.fields.proofs.Bools.{and-inv}
 use Rattle.cells.specs.declared.Cell.{Cell}
 use Rattle.cells.specs.declared.Found.the-variants.{Named, Missing}
 use Rattle.cells.specs.declared.Rule.{Rule}
-use Rattle.cells.specs.Named.{cellOf, dataOf}
+use Rattle.cells.specs.Named.{cellOf, dataOf, dataAt}
 use Rattle.cells.proofs.Naming.{cell-data-at}
 use Rattle.values.specs.declared.Entries.{Entries}
 use Rattle.values.specs.declared.Listing.the-variants as listedAs
 use Rattle.values.specs.Entries.{entriesAt, Room, listing}
 use Rattle.values.specs.Segments.{roomFault, segmentsFor, isDb, dbFault, segmentList, segmentsIn, segmentsOf, segmentFault, segmentListFault, segmentsFault}
 use Rattle.values.proofs.Cell_tests.{lacks, passes, refuses}
-use Rattle.values.proofs.Rooms.{Roomy, roomy}
-use Rattle.values.proofs.Segment_turns.{segments-within}
+use Rattle.values.proofs.Rooms.{roomy}
 
 -- a list that is whole, and one that is not
 pub listed : (v : Verdict) (x : Entries) {e : Entries} → listing v x ≡ listedAs.Whole e → (v ≡ Sound) × (x ≡ e)
@@ -41,6 +40,11 @@ unlisted (Flawed g) x e = cc
 pub db-long : (r : List ℕ) (size : ℕ) → isDb r size ≡ true → 8 ≤ length r
 unfolding isDb
 db-long r size e = leb-true 8 (length r) (and-inv (leb 8 (length r)) _ e .0)
+
+-- the segments are those of the elements of the segment list
+pub segments-listed : (d : List ℕ) (o : Offset) (size : ℕ) → segmentsOf d o size ≡ segmentsIn d (entriesAt (segmentList d o) (segmentsFor size)) size
+unfolding segmentsOf
+segments-listed d o size = refl
 
 module _ (rule : Rule) (d m : List ℕ) (o : Offset) (size : ℕ) where
   pub db-lacks : {f : Flaw} → cellOf rule d m o ≡ Missing f → segmentListFault rule d m o size ≡ Flawed f
@@ -66,18 +70,14 @@ module _ (rule : Rule) (d m : List ℕ) (o : Offset) (size : ℕ) where
   unlisted-segments e = stop _ _ e
 
   module _ (s : segmentListFault rule d m o size ≡ Sound) where
-    pub list-roomy : Roomy d (segmentList d o) (4 * segmentsFor size)
+    pub list-roomy : 4 * segmentsFor size ≤ length (dataAt d (segmentList d o))
     unfolding segmentListFault
     list-roomy = roomy rule d m (segmentList d o) (4 * segmentsFor size) (both (dbFault rule d m o size) _ s .1)
 
-    pub segments-listed : segmentsOf d o size ≡ segmentsIn d (entriesAt (segmentList d o) (segmentsFor size)) size
-    unfolding segmentsOf
-    segments-listed = segments-within d (segmentList d o) size (segmentsFor size) list-roomy
-
     module _ (e : Entries) (is : entriesAt (segmentList d o) (segmentsFor size) ≡ e) where
       pub list-room : Room d e
-      list-room = rw (← is) (list-roomy .ends)
+      list-room = rw (← is) list-roomy
 
       pub by-segments : segmentsFault rule d m o size ≡ faultOver (segmentFault rule d m) (segmentsIn d e size)
       unfolding segmentsFault
-      by-segments = on _ _ s ∙ ap (faultOver (segmentFault rule d m)) (segments-listed ∙ ap (λ (x : Entries). segmentsIn d x size) is)
+      by-segments = on _ _ s ∙ ap (faultOver (segmentFault rule d m)) (segments-listed d o size ∙ ap (λ (x : Entries). segmentsIn d x size) is)

@@ -1,12 +1,12 @@
 -- Segments one after the other: a turn of the loops over them.
-use Prim.Native.Nat.{ℕ, zero, suc, _+_, _-_, _*_, _<_, _≤_}
+use Prim.Native.Nat.{ℕ, suc, _+_, _-_, _*_, _<_, _≤_}
 use native.Mathlib.Omega.{arith}
 use native.Mathlib.Numerals.{add-one}
-use mathlib.Core.Path.{_≡_, refl, sym, ap, ap₂, _∙_}
+use mathlib.Core.Path.{_≡_, refl, sym, ap, _∙_}
 use mathlib.Core.Bool.{Bool, true, false}
 use mathlib.Core.List.{List, [], _∷_}
 use lib.Dec.{ltb}
-use lib.ListN.{getD, take, drop}
+use lib.ListN.{getD}
 use borrow.Author.Tests.{ltb-true, ltb-false}
 use Rattle.fields.specs.declared.Offset.{Offset}
 use Rattle.fields.specs.declared.Flaw.{Flaw}
@@ -19,11 +19,10 @@ use Rattle.cells.specs.Named.{dataAt}
 use Rattle.records.specs.Offsets.{offsetAt}
 use Rattle.values.specs.declared.Entries.{Entries}
 use Rattle.values.specs.declared.Segment.{Segment}
-use Rattle.values.specs.Entries.{entriesAt, entriesOf}
+use Rattle.values.specs.Entries.{entriesOf}
 use Rattle.values.specs.Records.{segmentSize}
 use Rattle.values.specs.Segments.{roomFault, segmentLength, segmentsFrom, segmentsIn, segmentFault}
-use Rattle.values.proofs.Offset_list.{u32-take, u32-drop}
-use Rattle.values.proofs.Rooms.{Roomy, entries-at}
+use Rattle.values.proofs.Rooms.{entries-at}
 
 -- what a segment takes of what is left, and what it leaves
 pub record Takes (left n : ℕ) : Type 0 where
@@ -40,46 +39,30 @@ takes left = by (ltb segmentSize left) refl
     by true e = let p = ltb-true segmentSize left e in rw e (record { some = λ h. omega arith; most = omega arith; fits = omega arith; rest = omega arith })
     by false e = let p = ltb-false segmentSize left e in rw e (record { some = λ h. omega arith; most = omega arith; fits = omega arith; rest = omega arith })
 
--- the same segments, for a list that is read in a part of the bytes
-pub segments-take : (k i left n : ℕ) (s : List ℕ) → (i + n) * 4 ≤ k → segmentsFrom (take k s) i left n ≡ segmentsFrom s i left n
-unfolding segmentsFrom
-segments-take k i left zero s h = refl
-segments-take k i left (suc n) s h =
-    ap₂ (λ (x : ℕ) (xs : List Segment). record { at = record { 0 = x }; len = segmentLength left } ∷ xs)
-    (u32-take k (i * 4) s (omega arith))
-    (segments-take k (suc i) (left - segmentSize) n s (omega arith))
-
-pub segments-within : (d : List ℕ) (o : Offset) (size n : ℕ) → Roomy d o (4 * n)
-    → segmentsFrom (dataAt d o) 0 size n ≡ segmentsIn d (entriesAt o n) size
-segments-within d o size n w =
-    sym (segments-take (4 * n) 0 size n (dataAt d o) (omega arith))
-    ∙ ap (λ (s : List ℕ). segmentsFrom s 0 size n) (w .same)
-    ∙ segments-take (4 * n) 0 size n (drop (o .0 + 4) d) (omega arith)
-
 module _ (d : List ℕ) (e : Entries) (i left : ℕ) (p : i < e .count) (o : Offset) (n : ℕ) (at : o ≡ getD (entriesOf d e) i nowhere)
     (len : n ≡ segmentLength left) where
   -- the segments from element i on: the one there, and those after it
-  pub segments-cons : segmentsFrom (drop (e .at) d) i left (e .count - i)
-      ≡ record { at = o; len = n } ∷ segmentsFrom (drop (e .at) d) (i + 1) (left - n) (e .count - (i + 1))
+  pub segments-cons : segmentsFrom (dataAt d (e .cell)) i left (e .count - i)
+      ≡ record { at = o; len = n } ∷ segmentsFrom (dataAt d (e .cell)) (i + 1) (left - n) (e .count - (i + 1))
   unfolding segmentsFrom
   segments-cons =
       let k : e .count - i ≡ suc (e .count - (i + 1)) = omega arith in
-      let q : e .at + i * 4 ≡ e .at + 4 * i = omega arith in
-      let is : offsetAt (drop (e .at) d) (i * 4) ≡ o =
-      ap (λ (x : ℕ). let y : Offset = record { 0 = x } in y) (u32-drop (e .at) (i * 4) d) ∙ ap (offsetAt d) q ∙ sym (at ∙ entries-at d e i p) in
+      let q : i * 4 ≡ 4 * i = omega arith in
+      let is : offsetAt (dataAt d (e .cell)) (i * 4) ≡ o =
+      ap (λ (x : ℕ). offsetAt (dataAt d (e .cell)) x) q ∙ sym (at ∙ entries-at d e i p) in
       let r : left - segmentSize ≡ left - n = sym (takes left .rest) ∙ ap (λ (x : ℕ). left - x) (sym len) in
       rw (k, is, ← len, r, add-one i)
 
   module _ (rule : Rule) (m : List ℕ) (size : ℕ)
       (inv : faultOver (segmentFault rule d m) (segmentsIn d e size)
-      ≡ faultOver (segmentFault rule d m) (segmentsFrom (drop (e .at) d) i left (e .count - i))) where
+      ≡ faultOver (segmentFault rule d m) (segmentsFrom (dataAt d (e .cell)) i left (e .count - i))) where
     pub segment-stop : {f : Flaw} → roomFault rule d m o n ≡ Flawed f → faultOver (segmentFault rule d m) (segmentsIn d e size) ≡ Flawed f
     unfolding faultOver segmentFault
     segment-stop x = inv ∙ ap (faultOver (segmentFault rule d m)) segments-cons ∙ stop _ _ x
 
     pub segment-on : roomFault rule d m o n ≡ Sound
         → faultOver (segmentFault rule d m) (segmentsIn d e size)
-        ≡ faultOver (segmentFault rule d m) (segmentsFrom (drop (e .at) d) (i + 1) (left - n) (e .count - (i + 1)))
+        ≡ faultOver (segmentFault rule d m) (segmentsFrom (dataAt d (e .cell)) (i + 1) (left - n) (e .count - (i + 1)))
     unfolding faultOver segmentFault
     segment-on x = inv ∙ ap (faultOver (segmentFault rule d m)) segments-cons ∙ on _ _ x
 

@@ -1,10 +1,9 @@
 -- The value at an offset, a law for each way out.
-use Prim.Native.Nat.{ℕ, _+_, _<_, _≤_}
+use Prim.Native.Nat.{ℕ}
 use native.Mathlib.Omega.{arith}
 use mathlib.Core.Path.{_≡_, refl, sym, ap, ap₂, _∙_}
 use mathlib.Core.Bool.{true, false}
 use mathlib.Core.List.{List}
-use lib.ListN.{length}
 use Rattle.fields.specs.declared.Offset.{Offset}
 use Rattle.fields.specs.declared.Flaw.{Flaw}
 use Rattle.fields.specs.declared.Fault.the-variants.{Record}
@@ -13,12 +12,11 @@ use Rattle.fields.specs.declared.Verdict.the-variants as Verdict
 use Rattle.fields.specs.declared.Verdict.the-variants.{Sound}
 use Rattle.fields.specs.Faults.{flaw}
 use Rattle.fields.proofs.Firsts.{on, stop}
-use Rattle.base.specs.Block.{binsLimit}
 use Rattle.cells.specs.declared.Cell.{Cell}
 use Rattle.cells.specs.declared.Found.the-variants.{Named, Missing}
 use Rattle.cells.specs.declared.Rule.{Rule}
 use Rattle.cells.specs.Named.{cellOf, dataOf}
-use Rattle.cells.proofs.Naming.{cell-sound, sound-names, cell-data-at}
+use Rattle.cells.proofs.Naming.{cell-data-at}
 use Rattle.values.specs.declared.Value.{Value}
 use Rattle.values.specs.declared.Valued.the-variants.{Whole, Flawed}
 use Rattle.values.specs.declared.ValueData.{ValueData}
@@ -26,7 +24,6 @@ use Rattle.values.specs.Records.{isValue, valueFault, contentOf, fieldsO
 use Rattle.values.specs.Segments.{dataFault}
 use Rattle.values.specs.Lists.{wholeValueFault}
 use Rattle.values.proofs.Cell_tests.{lacks, passes, refuses}
-use Rattle.values.proofs.Tests.{kept}
 
 module _ (rule : Rule) (d m : List ℕ) (minor : ℕ) (v : Offset) where
   pub value-lacks : {f : Flaw} → cellOf rule d m v ≡ Missing f → valued (valueFault rule d m v) (valueOf d minor v) ≡ Flawed f
@@ -42,10 +39,6 @@ module _ (rule : Rule) (d m : List ℕ) (minor : ℕ) (v : Offset) where
     unfolding valueFault valueOf
     value-whole p =
         ap₂ (λ (x : Verdict) (l : List ℕ). valued x (fieldsOf l minor v)) (passes isValue rule d m v e r q p) (sym (q ∙ cell-data-at rule d m v e))
-
-    -- the offset of inline data fits
-    pub value-room : isValue r ≡ true → length d ≤ binsLimit → (20 ≤ length r) × (v .0 + 12 < 4294967296)
-    value-room p small = let n = sound-names rule d m v (cell-sound rule d m v e) in (kept r p .long, omega (arith, n .room))
 
 -- a value that is whole, and one that is not
 pub is-whole : (v : Verdict) (x : Value) {y : Value} → valued v x ≡ Whole y → (v ≡ Sound) × (x ≡ y)

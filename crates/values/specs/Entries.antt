@@ -1,10 +1,11 @@
--- Offsets that stand one after the other in the bins data: the elements of a value list and of a segment list, in the data of their cell.
-use Prim.Native.Nat.{ℕ, _+_, _*_, _≤_}
+-- Offsets that stand one after the other in the data of a cell: the elements of a value list and of a segment list.
+use Prim.Native.Nat.{ℕ, _*_, _≤_}
 use mathlib.Core.List.{List}
 use lib.ListN.{length}
 use Rattle.fields.specs.declared.Offset.{Offset}
 use Rattle.fields.specs.declared.Verdict.{Verdict}
 use Rattle.fields.specs.declared.Verdict.the-variants.{Sound, Flawed}
+use Rattle.cells.specs.Named.{dataAt}
 use Rattle.records.specs.Offsets.{offsetsAt}
 use Rattle.values.specs.declared.Entries.{Entries}
 use Rattle.values.specs.declared.Listing.{Listing}
@@ -12,14 +13,14 @@ use Rattle.values.specs.declared.Listing.the-variants as listedAs
 
 -- n elements from the start of a cell's data on
 abbrev pub entriesAt : Offset → ℕ → Entries
-entriesAt o n = record { at = o .0 + 4; count = n }
+entriesAt o n = record { cell = o; count = n }
 
--- they lie inside the bins data
+-- they lie inside those data
 abbrev pub Room : List ℕ → Entries → Type 0
-Room d e = e .at + 4 * e .count ≤ length d
+Room d e = 4 * e .count ≤ length (dataAt d (e .cell))
 
 unfoldable pub entriesOf : List ℕ → Entries → List Offset
-entriesOf d e = offsetsAt d (e .at) (e .count)
+entriesOf d e = offsetsAt (dataAt d (e .cell)) 0 (e .count)
 
 -- where the elements stand, where the list's tests are sound
 abbrev pub listing : Verdict → Entries → Listing

@@ -6,7 +6,7 @@ use lib.Dec.{eqb}
 use Rattle.fields.specs.declared.Offset.{Offset}
 use Rattle.fields.specs.declared.Verdict.{Verdict}
 use Rattle.fields.specs.declared.Verdict.the-variants.{Sound}
-use Rattle.fields.specs.Faults.{_next_, faultOver}
+use Rattle.fields.specs.Faults.{nowhere, _next_, faultOver}
 use Rattle.cells.specs.declared.Rule.{Rule}
 use Rattle.cells.specs.Named.{dataAt}
 use Rattle.records.specs.declared.Key.{Key}
@@ -26,7 +26,7 @@ valueListFault rule d m k = cond (eqb (k .values) 0) Sound (roomFault rule d m (
 
 -- where the elements of a value list stand; value count 0 has none
 unfoldable pub valueEntries : Key → Entries
-valueEntries k = cond (eqb (k .values) 0) (record { at = 0; count = 0 }) (entriesAt (k .«value_list») (k .values))
+valueEntries k = cond (eqb (k .values) 0) (entriesAt nowhere 0) (entriesAt (k .«value_list») (k .values))
 
 -- "A value's record, then its data, then the next value."
 unfoldable pub wholeValueFault : Rule → List ℕ → List ℕ → ℕ → Offset → Verdict

@@ -64,19 +64,19 @@ unfoldable pub contentOf : List ℕ → ℕ → Offset → ValueData
 contentOf r minor v =
     let size = u32At r 4 in
     cond (leb topBit size)
-    (Inline (record { 0 = v .0 + 12 }) (size - topBit))
+    (Inline v (size - topBit))
     (cond (isSegmented minor size) (Segments (offsetAt r 8) size) (OneCell (offsetAt r 8) size))
 
 unfoldable pub dataIn : List ℕ → ℕ → Offset → ValueData
 dataIn d minor v = contentOf (dataAt d v) minor v
 
--- the fields of the record r of the value at an offset; its name as a part of the bins data
+-- the fields of the record r of the value at an offset; its name lies in the data of that cell
 unfoldable pub fieldsOf : List ℕ → ℕ → Offset → Value
 fieldsOf r minor v =
     record {
       kind = u32At r 12;
       content = contentOf r minor v;
-      name = record { at = v .0 + 24; len = u16At r 2; narrow = valueNarrow r };
+      name = record { cell = v; at = 20; len = u16At r 2; narrow = valueNarrow r };
     }
 
 unfoldable pub valueOf : List ℕ → ℕ → Offset → Value

@@ -51,9 +51,9 @@ segmentList d o = offsetAt (dataAt d o) 4
 unfoldable pub segmentsOf : List ℕ → Offset → ℕ → List Segment
 segmentsOf d o size = segmentsFrom (dataAt d (segmentList d o)) 0 size (segmentsFor size)
 
--- the same, for a segment list that stands in the bins data
+-- the same, by the elements of a segment list
 abbrev pub segmentsIn : List ℕ → Entries → ℕ → List Segment
-segmentsIn d e size = segmentsFrom (drop (e .at) d) 0 size (e .count)
+segmentsIn d e size = segmentsFrom (dataAt d (e .cell)) 0 size (e .count)
 
 unfoldable pub segmentFault : Rule → List ℕ → List ℕ → Segment → Verdict
 segmentFault rule d m s = roomFault rule d m (s .at) (s .len)
@@ -69,11 +69,11 @@ segmentsFault rule d m o size =
 
 -- "size 0 reads nothing"
 unfoldable pub dataFault : Rule → List ℕ → List ℕ → ValueData → Verdict
-dataFault rule d m (Inline at len) = Sound
+dataFault rule d m (Inline v len) = Sound
 dataFault rule d m (OneCell o len) = cond (eqb len 0) Sound (roomFault rule d m o len)
 dataFault rule d m (Segments o len) = segmentsFault rule d m o len
 
--- the bytes: what a segment holds, and what a value's record names
+-- the bytes: what a segment holds, and what a value's record names; inline data "lie at 8" of the record
 abbrev pub segmentBytes : List ℕ → Segment → List ℕ
 segmentBytes d s = take (s .len) (dataAt d (s .at))
 
@@ -82,11 +82,11 @@ joinedBytes d [] = []
 joinedBytes d (s ∷ ss) = segmentBytes d s ++ joinedBytes d ss
 
 unfoldable pub bytesOf : List ℕ → ValueData → List ℕ
-bytesOf d (Inline at len) = take len (drop (at .0) d)
+bytesOf d (Inline v len) = take len (drop 8 (dataAt d v))
 bytesOf d (OneCell o len) = cond (eqb len 0) [] (take len (dataAt d o))
 bytesOf d (Segments o len) = joinedBytes d (segmentsOf d o len)
 
 abbrev pub lengthOf : ValueData → ℕ
-lengthOf (Inline at len) = len
+lengthOf (Inline v len) = len
 lengthOf (OneCell o len) = len
 lengthOf (Segments o len) = len

@@ -11,8 +11,7 @@ ghost use mathlib.Core.List.{_++_};
 ghost use lib.ListN.{length, getD, drop};
 ghost use lib.Seq.{paste};
 ghost use Rattle.fields.specs.Faults.{nowhere, faultOver};
-ghost use Rattle.base.specs.Block.{binsLimit};
-ghost use Rattle.records.specs.Offsets.{offsetAt};
+ghost use Rattle.cells.specs.Named.{dataAt};
 ghost use Rattle.values.specs.Records.{isValueName, isDataSize, valueNarrow, isValue, valueFault, isSegmented, contentOf, fieldsOf, valueOf, valued};
 ghost use Rattle.values.specs.Entries.{entriesAt, Room, entriesOf, listing};
 ghost use Rattle.values.specs.Segments.{roomFault, segmentsFor, isDb, segmentLength, segmentList, segmentsIn, segmentFault, segmentListFault, segmentsFault, dataFault, joinedBytes, bytesOf, lengthOf};
@@ -69,10 +68,10 @@ fn is_value(r: &[u8]) -> bool
     is_data_size(fields::u32_at(r, 4))
 }
 
-// "data are inline, in one cell or in segments": value data as an enum with three cases carrying offset and length, read by view and copy. Inline data
-// start at an offset inside the record; the other two name a cell.
+// "data are inline, in one cell or in segments": value data as an enum with three cases carrying offset and length, read by view and copy. Each names a
+// cell: inline data lie in the value's own.
 pub enum ValueData {
-    Inline { at: Offset, len: u32 },
+    Inline { cell: Offset, len: u32 },
     OneCell { cell: Offset, len: u32 },
     Segments { cell: Offset, len: u32 },
 }
@@ -105,13 +104,12 @@ fn is_segmented(minor: u32, size: u32) -> bool
 // Where the data lie, by the record of the value at an offset.
 fn content_of(r: &[u8], minor: u32, v: Offset) -> ValueData
     requires { ⌜ 12 ≤ length (now r) ⌝ }
-    requires { ⌜ v .0 + 12 < 4294967296 ⌝ }
     ensures { λ x. ⌜ x ≡ contentOf (now (r .entry)) minor v ⌝ }
 {
     let size = fields::u32_at(r, 4);
     if TOP_BIT <= size {
         return ValueData::Inline {
-            at: Offset(v.0 + 12),
+            cell: v,
             len: size - TOP_BIT,
         };
     }
@@ -125,12 +123,12 @@ fn content_of(r: &[u8], minor: u32, v: Offset) -> ValueData
 // The fields of the record of the value at an offset.
 fn fields_of(r: &[u8], minor: u32, v: Offset) -> Value
     requires { ⌜ 20 ≤ length (now r) ⌝ }
-    requires { ⌜ v .0 + 12 < 4294967296 ⌝ }
     ensures { λ x. ⌜ x ≡ fieldsOf (now (r .entry)) minor v ⌝ }
 {
     let content = content_of(r, minor, v);
     let name = records::Name {
-        at: v.0 as usize + 24,
+        cell: v,
+        at: 20,
         len: fields::u16_at(r, 2) as usize,
         narrow: is_narrow(r),
     };
@@ -143,7 +141,6 @@ fn fields_of(r: &[u8], minor: u32, v: Offset) -> Value
 
 // The value at an offset, parsed once: its cell, then its record.
 pub fn value_at(bins: &[u8], map: &[u8], rule: Rule, minor: u32, v: Offset) -> Valued
-    requires { ⌜ length (now bins) ≤ binsLimit ⌝ }
     ensures { λ x. ⌜ x ≡ valued (valueFault rule (now (bins .entry)) (now (map .entry)) v) (valueOf (now (bins .entry)) minor v) ⌝ }
 {
     match cells::find_cell(bins, map, rule, v) {
@@ -177,9 +174,9 @@ pub fn room_flaw(bins: &[u8], map: &[u8], rule: Rule, o: Offset, n: usize) -> Ve
     }
 }
 
-// Offsets that stand one after the other in the bins data: the elements of a value list or of a segment list.
+// Offsets that stand one after the other from the start of a cell's data on: the elements of a value list or of a segment list.
 pub struct Entries {
-    pub at: usize,
+    pub cell: Offset,
     pub count: usize,
 }
 
@@ -195,7 +192,7 @@ fn list_at(bins: &[u8], map: &[u8], rule: Rule, o: Offset, count: u32) -> Listin
     match room_flaw(bins, map, rule, o, 4 * (count as usize)) {
         Verdict::Flawed(f) => Listing::Flawed(f),
         Verdict::Sound => Listing::Whole(Entries {
-            at: o.0 as usize + 4,
+            cell: o,
             count: count as usize,
         }),
     }
@@ -207,7 +204,7 @@ pub fn entry(bins: &[u8], e: Entries, i: usize) -> Offset
     requires { ⌜ i < e .count ⌝ }
     ensures { λ o. ⌜ o ≡ getD (entriesOf (now (bins .entry)) e) i nowhere ⌝ }
 {
-    Offset(fields::u32_at(bins, e.at + 4 * i))
+    Offset(cells::word_in(bins, e.cell, 4 * i))
 }
 
 // A segment, of which the definitions speak: its cell, and how many bytes of the data it holds.
@@ -301,7 +298,7 @@ pub fn data_flaw(bins: &[u8], map: &[u8], rule: Rule, x: ValueData) -> Verdict
     ensures { λ r. ⌜ r ≡ dataFault rule (now (bins .entry)) (now (map .entry)) x ⌝ }
 {
     match x {
-        ValueData::Inline { at: _, len: _ } => Verdict::Sound,
+        ValueData::Inline { cell: _, len: _ } => Verdict::Sound,
         ValueData::OneCell { cell, len } => {
             if len == 0 {
                 return Verdict::Sound;
@@ -314,7 +311,6 @@ pub fn data_flaw(bins: &[u8], map: &[u8], rule: Rule, x: ValueData) -> Verdict
 
 // A value's record, then its data. The check wants no name and no type, so they are not gathered.
 fn whole_value_flaw(bins: &[u8], map: &[u8], rule: Rule, minor: u32, v: Offset) -> Verdict
-    requires { ⌜ length (now bins) ≤ binsLimit ⌝ }
     ensures { λ r. ⌜ r ≡ wholeValueFault rule (now (bins .entry)) (now (map .entry)) minor v ⌝ }
 {
     match cells::find_cell(bins, map, rule, v) {
@@ -336,14 +332,16 @@ pub fn value_list(bins: &[u8], map: &[u8], rule: Rule, k: records::Key) -> Listi
     let count = k.values;
     let list = k.value_list;
     if count == 0 {
-        return Listing::Whole(Entries { at: 0, count: 0 });
+        return Listing::Whole(Entries {
+            cell: Offset(0),
+            count: 0,
+        });
     }
     list_at(bins, map, rule, list, count)
 }
 
 // "values in order with their data": a value's record, then its data, then the next value.
 fn each_value_flaw(bins: &[u8], map: &[u8], rule: Rule, minor: u32, e: Entries) -> Verdict
-    requires { ⌜ length (now bins) ≤ binsLimit ⌝ }
     requires { ⌜ Room (now bins) e ⌝ }
     ensures { λ r. ⌜ r ≡ faultOver (wholeValueFault rule (now (bins .entry)) (now (map .entry)) minor) (entriesOf (now (bins .entry)) e) ⌝ }
 {
@@ -361,7 +359,6 @@ fn each_value_flaw(bins: &[u8], map: &[u8], rule: Rule, minor: u32, e: Entries) 
 
 // The check's stage of a key's values.
 pub fn values_flaw(bins: &[u8], map: &[u8], rule: Rule, minor: u32, k: records::Key) -> Verdict
-    requires { ⌜ length (now bins) ≤ binsLimit ⌝ }
     ensures { λ r. ⌜ r ≡ valuesFault rule (now (bins .entry)) (now (map .entry)) minor k ⌝ }
 {
     match value_list(bins, map, rule, k) {
@@ -370,44 +367,49 @@ pub fn values_flaw(bins: &[u8], map: &[u8], rule: Rule, minor: u32, k: records::
     }
 }
 
-// A part of the bins data.
+// A part of a cell's data: so many bytes from a position on.
 pub struct Part {
+    pub cell: Offset,
     pub at: usize,
     pub len: usize,
 }
 
-// The one part that holds inline data or data in one cell: what a view shows.
+// Where data in one piece lie, for a view and for a copy: "bytes lie at 8" of the value's record, or at the start of their cell, where segmented data
+// have their `db`.
 pub fn part_of(x: ValueData) -> Part
     ensures { λ p. ⌜ p ≡ partOf x ⌝ }
 {
     match x {
-        ValueData::Inline { at, len } => Part {
-            at: at.0 as usize,
+        ValueData::Inline { cell, len } => Part {
+            cell,
+            at: 8,
             len: len as usize,
         },
-        ValueData::OneCell { cell, len } => {
-            if len == 0 {
-                return Part { at: 0, len: 0 };
-            }
-            Part {
-                at: cell.0 as usize + 4,
-                len: len as usize,
-            }
-        }
-        ValueData::Segments { cell: _, len: _ } => Part { at: 0, len: 0 },
+        ValueData::OneCell { cell, len } => Part {
+            cell,
+            at: 0,
+            len: len as usize,
+        },
+        ValueData::Segments { cell, len } => Part {
+            cell,
+            at: 0,
+            len: len as usize,
+        },
     }
 }
 
-// Copies a part of the bins data into the middle part of `out` that starts at `to`.
+// Copies a part of a cell's data into the middle part of `out` that starts at `to`. "size 0 reads nothing", so that then the offset may name no cell.
 fn copy_part(bins: &[u8], p: Part, out: &mut [u8], to: usize)
-    requires { ⌜ p .at + p .len ≤ length (now bins) ⌝ }
+    requires { ⌜ p .at + p .len ≤ length (dataAt (now bins) (p .cell)) ⌝ }
     requires { ⌜ to + p .len ≤ length (now out) ⌝ }
-    ensures { λ _. ⌜ now (out .exit) ≡ paste (now (out .entry)) to (drop (p .at) (now (bins .entry))) (p .len) ⌝ }
+    ensures { λ _. ⌜ now (out .exit) ≡ paste (now (out .entry)) to (drop (p .at) (dataAt (now (bins .entry)) (p .cell))) (p .len) ⌝ }
 {
-    let at = p.at;
-    let end = at + p.len;
-    let stop = to + p.len;
-    fields::copy_all(&bins[at..end], &mut out[to..stop]);
+    let n = p.len;
+    if n == 0 {
+        return;
+    }
+    let stop = to + n;
+    fields::copy_all(cells::part_in(bins, p.cell, p.at, n), &mut out[to..stop]);
 }
 
 // The segments' bytes, one after the other.
@@ -423,7 +425,8 @@ fn copy_segments(bins: &[u8], e: Entries, size: usize, out: &mut [u8])
         let n = segment_length(left);
         let s = entry(bins, e, i);
         let p = Part {
-            at: s.0 as usize + 4,
+            cell: s,
+            at: 0,
             len: n,
         };
         copy_part(bins, p, out, size - left);
@@ -434,12 +437,11 @@ fn copy_segments(bins: &[u8], e: Entries, size: usize, out: &mut [u8])
 
 // The segment list of a `db` that was tested.
 fn segments_at(bins: &[u8], o: Offset, size: u32) -> Entries
-    requires { ⌜ o .0 + 12 ≤ length (now bins) ⌝ }
-    ensures { λ e. ⌜ e ≡ entriesAt (offsetAt (now (bins .entry)) (o .0 + 8)) (segmentsFor size) ⌝ }
+    requires { ⌜ 8 ≤ length (dataAt (now bins) o) ⌝ }
+    ensures { λ e. ⌜ e ≡ entriesAt (segmentList (now (bins .entry)) o) (segmentsFor size) ⌝ }
 {
-    let list = fields::u32_at(bins, o.0 as usize + 8);
     Entries {
-        at: list as usize + 4,
+        cell: Offset(cells::word_in(bins, o, 4)),
         count: segments_for(size) as usize,
     }
 }
@@ -451,7 +453,7 @@ pub fn copy_data(bins: &[u8], x: ValueData, out: &mut [u8])
     ensures { λ _. ⌜ now (out .exit) ≡ bytesOf (now (bins .entry)) x ++ drop (lengthOf x) (now (out .entry)) ⌝ }
 {
     match x {
-        ValueData::Inline { at: _, len: _ } => copy_part(bins, part_of(x), out, 0),
+        ValueData::Inline { cell: _, len: _ } => copy_part(bins, part_of(x), out, 0),
         ValueData::OneCell { cell: _, len: _ } => copy_part(bins, part_of(x), out, 0),
         ValueData::Segments { cell, len } => {
             let e = segments_at(bins, cell, len);

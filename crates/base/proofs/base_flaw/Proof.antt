@@ -31,14 +31,11 @@ enum-known-f c = search needs
 enum-told : tie.Need-enum-told
 enum-told c = search needs
 
-u32-at-requires : tie.Need-u32-at-requires
-u32-at-requires c κs = search needs
-
-cast-bins : tie.Need-cast-bins
-cast-bins c = search needs
-
 sub-if2 : tie.Need-sub-if2
 sub-if2 c = search needs
+
+bins-size-requires : tie.Need-bins-size-requires
+bins-size-requires c κs = search needs
 
 flawed-requires-2 : tie.Need-flawed-requires-2
 flawed-requires-2 c κs = search needs
@@ -73,9 +70,8 @@ base-flaw-spec =
     block-flaw-requires
     enum-known-f
     enum-told
-    u32-at-requires
-    cast-bins
     sub-if2
+    bins-size-requires
     flawed-requires-2
     returns-2
     is-settled-requires

@@ -1,11 +1,15 @@
+use Prim.Native.Nat.{_+_}
 use Rattle.cells.specs.Named.{dataOf}
 use native.Mathlib.Nat.{add-sub-cancel-left}
 use borrow.Author.Needs.{needs}
 use Rattle.cells.proofs.cell_data.Statement.{statement}
 use Rattle.cells.proofs.cell_data.Tie as tie
 
-cast-at : tie.Need-cast-at
-cast-at c = search needs
+cast-start : tie.Need-cast-start
+cast-start c = search needs
+
+add-start : tie.Need-add-start
+add-start c = search needs
 
 add-end : tie.Need-add-end
 add-end c = search needs
@@ -21,8 +25,9 @@ part-result-end c = search needs
 
 returns : tie.Need-returns
 unfolding dataOf
-returns c = let k = c .before .before .before .args .c in rw (add-sub-cancel-left (k .at .0) (k .len))
+returns c = let k = c .before .before .before .args .c in rw (add-sub-cancel-left (k .at .0 + 4) (k .len))
 
 pub cell-data-spec : {M : Type 1} → statement M
 cell-data-spec =
-    tie.close (tie.spec cast-at add-end sub-result part-result-start part-result-end returns)
+    tie.close
+    (tie.spec cast-start add-start add-end sub-result part-result-start part-result-end returns)

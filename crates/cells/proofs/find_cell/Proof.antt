@@ -11,16 +11,13 @@ named-length-requires c κs = search needs
 returns : tie.Need-returns
 returns c = sym (length-none _ _ _ _ (sym (c .before .named-length .ensures) ∙ c .if1 .taken))
 
-add-t9 : tie.Need-add-t9
-add-t9 c = let s = length-some _ _ _ _ _ (c .before .before .named-length .ensures) (c .before .if1 .left) in omega (arith, s .1 .eights)
-
-sub-t11 : tie.Need-sub-t11
-sub-t11 c = let s = length-some _ _ _ _ _ (c .before .before .named-length .ensures) (c .before .if1 .left) in let g = s .1 .sized in omega (arith, s .2)
+sub-t9 : tie.Need-sub-t9
+sub-t9 c = let s = length-some _ _ _ _ _ (c .before .named-length .ensures) (c .if1 .left) in let g = s .1 .sized in omega (arith, s .2)
 
 returns-2 : tie.Need-returns-2
-returns-2 c = sym (length-some _ _ _ _ _ (c .before .before .named-length .ensures) (c .before .if1 .left) .0)
+returns-2 c = sym (length-some _ _ _ _ _ (c .before .named-length .ensures) (c .if1 .left) .0)
 
 pub find-cell-spec : {M : Type 1} → statement M
 find-cell-spec =
     tie.close
-    (tie.spec named-length-requires returns add-t9 sub-t11 returns-2)
+    (tie.spec named-length-requires returns sub-t9 returns-2)

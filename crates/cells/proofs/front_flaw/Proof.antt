@@ -15,20 +15,17 @@ enum-known-f c = search needs
 enum-told : tie.Need-enum-told
 enum-told c = search needs
 
-sub-s : tie.Need-sub-s
-sub-s c = search needs
+sub-bins-size : tie.Need-sub-bins-size
+sub-bins-size c = search needs
 
-part-s-start : tie.Need-part-s-start
-part-s-start c = search needs
+part-bins-size-start : tie.Need-part-bins-size-start
+part-bins-size-start c = search needs
 
-part-s-end : tie.Need-part-s-end
-part-s-end c = let b = base-facts _ (sym (c .before .before .base-flaw .ensures) ∙ c .enum-told .given .1) in omega arith
+part-bins-size-end : tie.Need-part-bins-size-end
+part-bins-size-end c = let b = base-facts _ (sym (c .before .before .base-flaw .ensures) ∙ c .enum-told .given .1) in omega arith
 
-u32-at-requires : tie.Need-u32-at-requires
-u32-at-requires c κs = search needs
-
-cast-n : tie.Need-cast-n
-cast-n c = search needs
+bins-size-requires : tie.Need-bins-size-requires
+bins-size-requires c κs = search needs
 
 flawed-requires : tie.Need-flawed-requires
 flawed-requires c κs = search needs
@@ -49,11 +46,10 @@ front-flaw-spec =
     base-flaw-requires
     enum-known-f
     enum-told
-    sub-s
-    part-s-start
-    part-s-end
-    u32-at-requires
-    cast-n
+    sub-bins-size
+    part-bins-size-start
+    part-bins-size-end
+    bins-size-requires
     flawed-requires
     returns
     returns-2

@@ -21,7 +21,7 @@ enum-known-k : tie.Need-enum-known-k
 enum-known-k c = search needs
 
 entry-of-requires : tie.Need-entry-of-requires
-entry-of-requires c κs = key-name _ _ (sym (c .before .before .before .before .before .key-at .ensures) ∙ c .before .before .before .k .given .1) (c .before .before .before .before .before .before .before .before .pre)
+entry-of-requires c κs = key-name _ _ (sym (c .before .before .before .before .before .key-at .ensures) ∙ c .before .before .before .k .given .1)
 
 stamp-of-requires : tie.Need-stamp-of-requires
 stamp-of-requires c κs = facts-room _ _ (sym (c .before .before .before .before .before .before .key-at .ensures) ∙ c .before .before .before .before .k .given .1)

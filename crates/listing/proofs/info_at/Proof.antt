@@ -1,5 +1,4 @@
 use Rattle.listing.proofs.Members.{info-stop, info-in}
-use Rattle.paths.proofs.Opens.{bins-small}
 use Rattle.lookup.specs.declared.ValueFound.the-variants.{Refused}
 use mathlib.Core.Path.{sym, ap, _∙_}
 use borrow.Author.Needs.{needs}
@@ -25,7 +24,7 @@ minor-of-requires : tie.Need-minor-of-requires
 minor-of-requires c κs = sym (c .before .before .before .base-flaw .ensures) ∙ c .before .enum-told .given .1
 
 info-at-requires : tie.Need-info-at-requires
-info-at-requires c κs = rw (c .before .bins-of .ensures) (bins-small _ (sym (c .before .before .before .before .base-flaw .ensures) ∙ c .before .before .enum-told .given .1))
+info-at-requires c κs = search needs
 
 returns : tie.Need-returns
 returns c = ap Refused (c .refused .ensures) ∙ sym (info-stop _ _ (sym (c .before .before .before .before .base-flaw .ensures) ∙ c .before .before .f .given .1))

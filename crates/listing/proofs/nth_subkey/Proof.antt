@@ -1,6 +1,5 @@
 use Rattle.listing.proofs.Members.{subkey-stop, subkey-in}
 use Rattle.listing.specs.declared.Member.the-variants.{Refused}
-use Rattle.paths.proofs.Opens.{bins-small}
 use mathlib.Core.Path.{sym, ap, _∙_}
 use borrow.Author.Needs.{needs}
 use Rattle.listing.proofs.nth_subkey.Statement.{statement}
@@ -22,7 +21,7 @@ bins-of-requires : tie.Need-bins-of-requires
 bins-of-requires c κs = sym (c .before .before .base-flaw .ensures) ∙ c .enum-told .given .1
 
 subkey-in-requires : tie.Need-subkey-in-requires
-subkey-in-requires c κs = rw (c .bins-of .ensures) (bins-small _ (sym (c .before .before .before .base-flaw .ensures) ∙ c .before .enum-told .given .1))
+subkey-in-requires c κs = search needs
 
 returns : tie.Need-returns
 returns c = ap Refused (c .refused .ensures) ∙ sym (subkey-stop _ _ (sym (c .before .before .before .before .base-flaw .ensures) ∙ c .before .before .f .given .1) _)

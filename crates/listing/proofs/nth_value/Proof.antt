@@ -1,6 +1,5 @@
 use Rattle.listing.proofs.Members.{value-stop, value-in}
 use Rattle.listing.specs.declared.Member.the-variants.{Refused}
-use Rattle.paths.proofs.Opens.{bins-small}
 use mathlib.Core.Path.{sym, ap, _∙_}
 use borrow.Author.Needs.{needs}
 use Rattle.listing.proofs.nth_value.Statement.{statement}
@@ -25,7 +24,7 @@ minor-of-requires : tie.Need-minor-of-requires
 minor-of-requires c κs = sym (c .before .before .before .base-flaw .ensures) ∙ c .before .enum-told .given .1
 
 value-in-requires : tie.Need-value-in-requires
-value-in-requires c κs = rw (c .before .bins-of .ensures) (bins-small _ (sym (c .before .before .before .before .base-flaw .ensures) ∙ c .before .before .enum-told .given .1))
+value-in-requires c κs = search needs
 
 returns : tie.Need-returns
 returns c = ap Refused (c .refused .ensures) ∙ sym (value-stop _ _ (sym (c .before .before .before .before .base-flaw .ensures) ∙ c .before .before .f .given .1) _)

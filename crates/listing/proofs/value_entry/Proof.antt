@@ -21,7 +21,7 @@ enum-known-x : tie.Need-enum-known-x
 enum-known-x c = search needs
 
 entry-of-requires : tie.Need-entry-of-requires
-entry-of-requires c κs = value-name _ _ _ (sym (c .before .before .before .before .value-at .ensures) ∙ c .before .before .x .given .1) (c .before .before .before .before .before .before .before .pre)
+entry-of-requires c κs = value-name _ _ _ (sym (c .before .before .before .before .value-at .ensures) ∙ c .before .before .x .given .1)
 
 returns : tie.Need-returns
 returns c = ap Refused (c .refused .ensures) ∙ sym (value-bad _ _ _ (sym (c .before .before .before .before .value-at .ensures) ∙ c .before .before .f .given .1))

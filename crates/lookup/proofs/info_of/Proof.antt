@@ -1,18 +1,18 @@
-use Rattle.lookup.specs.Answers.{infoOf}
-use Prim.Native.Nat.{_-_}
+use Rattle.values.proofs.LawsData.{part-whole, part-near}
+use Rattle.lookup.specs.Answers.{placeIn, infoOf}
 use borrow.Author.Needs.{needs}
 use Rattle.lookup.proofs.info_of.Statement.{statement}
 use Rattle.lookup.proofs.info_of.Tie as tie
 
-place-in-requires : tie.Need-place-in-requires
-place-in-requires c κs = search needs
+part-of-requires : tie.Need-part-of-requires
+part-of-requires c κs = search needs
 
-length-of-requires : tie.Need-length-of-requires
-length-of-requires c κs = search needs
+part-place-requires : tie.Need-part-place-requires
+part-place-requires c κs = rw (c .part-of .ensures) (part-near _)
 
 returns : tie.Need-returns
-unfolding infoOf
-returns c = rw (c .before .place-in .ensures, c .length-of .ensures)
+unfolding infoOf placeIn
+returns c = rw (c .part-place .ensures, c .before .part-of .ensures, part-whole _)
 
 pub info-of-spec : {M : Type 1} → statement M
-info-of-spec = tie.close (tie.spec place-in-requires length-of-requires returns)
+info-of-spec = tie.close (tie.spec part-of-requires part-place-requires returns)

@@ -18,7 +18,7 @@ enum-known-e : tie.Need-enum-known-e
 enum-known-e c = search needs
 
 search-values-requires : tie.Need-search-values-requires
-search-values-requires c κs = (c .before .before .before .before .before .before .before .pre, values-room _ (c .before .before .before .before .before .before .before .args .minor) (c .before .before .before .before .before .before .before .args .name .now) (c .before .before .before .before .before .before .before .args .k) (sym (c .before .before .before .value-list .ensures) ∙ c .before .e .given .1))
+search-values-requires c κs = values-room _ (c .before .before .before .before .before .before .before .args .minor) (c .before .before .before .before .before .before .before .args .name .now) (c .before .before .before .before .before .before .before .args .k) (sym (c .before .before .before .value-list .ensures) ∙ c .before .e .given .1)
 
 returns : tie.Need-returns
 returns c = sym (list-bad _ _ _ _ (sym (c .before .before .before .value-list .ensures) ∙ c .before .f .given .1))

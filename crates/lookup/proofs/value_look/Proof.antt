@@ -1,5 +1,5 @@
 use Rattle.lookup.proofs.Value_searches.{value-faulty, value-keyless, value-below}
-use Rattle.paths.proofs.Opens.{bins-small, look-facts}
+use Rattle.paths.proofs.Opens.{look-facts}
 use Rattle.records.proofs.LawsKey.{key-room}
 use Prim.Native.Nat.{_-_}
 use mathlib.Core.Path.{sym, _∙_}
@@ -29,7 +29,7 @@ minor-of-requires : tie.Need-minor-of-requires
 minor-of-requires c κs = look-facts _ _ (sym (c .before .before .before .before .before .key-look .ensures) ∙ c .before .before .before .o .given .1) .0
 
 lookup-value-requires : tie.Need-lookup-value-requires
-lookup-value-requires c κs = rw (c .before .before .bins-of .ensures) (bins-small _ (look-facts _ _ (sym (c .before .before .before .before .before .before .key-look .ensures) ∙ c .before .before .before .before .o .given .1) .0))
+lookup-value-requires c κs = search needs
 
 returns : tie.Need-returns
 returns c = sym (value-faulty _ _ _ (sym (c .before .before .before .key-look .ensures) ∙ c .before .f .given .1))

@@ -1,5 +1,7 @@
 use Prim.Native.Nat.{_+_, _*_, _≤_}
 use native.Mathlib.Omega.{arith}
+use Rattle.cells.proofs.Parts.{data-short}
+use mathlib.Core.Path.{_≡_}
 use Rattle.records.proofs.ListFacts.{element-room}
 use Rattle.records.specs.Places.{childNamed}
 use Rattle.records.proofs.child_of.Statement.{statement}
@@ -10,30 +12,53 @@ room : (c : tie.Start) → let l = c .args .leaf in c .args .i * l .width + l .w
 room c = element-room _ _ (c .args .leaf .width) (c .pre .0)
 
 mul-p : tie.Need-mul-p
-mul-p c = let r = room (c .before .before) in omega arith
+mul-p c =
+    let a = c .before .before .args in
+    let r = room (c .before .before) in
+    let l = c .before .before .pre .1 .inside in
+    let s = data-short (a .bins .now) (a .leaf .cell) in
+    omega arith
 
 add-p : tie.Need-add-p
-add-p c = let r = room (c .before .before .before) in omega arith
+add-p c =
+    let a = c .before .before .args in
+    let r = room (c .before .before) in
+    let l = c .before .before .pre .1 .inside in
+    let s = data-short (a .bins .now) (a .leaf .cell) in
+    omega arith
 
-u32-at-requires : tie.Need-u32-at-requires
-u32-at-requires c κs = let r = room (c .before .before .before) in omega arith
+word-in-requires : tie.Need-word-in-requires
+word-in-requires c κs =
+    let r = room (c .before .before) in
+    let l = c .before .before .pre .1 in
+    omega (arith, l .inside, l .offset-fits)
 
-add-u32-at : tie.Need-add-u32-at
-add-u32-at c = let r = room (c .before .before .before .before .before) in
-    let w = c .before .before .before .before .before .pre .1 .hash-fits (c .if1 .taken) in omega arith
+add-word-in : tie.Need-add-word-in
+add-word-in c =
+    let a = c .before .before .before .before .args in
+    let s = data-short (a .bins .now) (a .leaf .cell) in
+    let r = room (c .before .before .before .before) in
+    let l = c .before .before .before .before .pre .1 in
+    omega (arith, l .inside, l .hash-fits (c .if1 .taken))
 
-u32-at-requires-2 : tie.Need-u32-at-requires-2
-u32-at-requires-2 c κs = let r = room (c .before .before .before .before .before) in
-    let w = c .before .before .before .before .before .pre .1 .hash-fits (c .if1 .taken) in omega arith
+word-in-requires-2 : tie.Need-word-in-requires-2
+word-in-requires-2 c κs =
+    let r = room (c .before .before .before .before) in
+    let l = c .before .before .before .before .pre .1 in
+    omega (arith, l .inside, l .hash-fits (c .if1 .taken))
 
 returns : tie.Need-returns
 unfolding childNamed
-returns c = rw (c .before .if1 .taken, c .before .before .u32-at .ensures, c .u32-at2 .ensures)
+returns c =
+    let a = c .before .before .before .before .before .args in
+    let e : 4 + a .i * a .leaf .width + 4 ≡ 8 + a .i * a .leaf .width = omega arith in
+    rw (c .before .if1 .taken, c .before .before .word-in .ensures, c .word-in2 .ensures, e)
 
 returns-2 : tie.Need-returns-2
 unfolding childNamed
-returns-2 c = rw (c .if1 .left, c .before .u32-at .ensures)
+returns-2 c = rw (c .if1 .left, c .before .word-in .ensures)
 
 pub child-of-spec : {M : Type 1} → statement M
 child-of-spec =
-    tie.close (tie.spec mul-p add-p u32-at-requires add-u32-at u32-at-requires-2 returns returns-2)
+    tie.close
+    (tie.spec mul-p add-p word-in-requires add-word-in word-in-requires-2 returns returns-2)

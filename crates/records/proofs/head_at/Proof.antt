@@ -28,7 +28,7 @@ enum-known-c : tie.Need-enum-known-c
 enum-known-c c = search needs
 
 cell-data-requires : tie.Need-cell-data-requires
-cell-data-requires c κs = let i = inside _ _ _ _ (found c) in omega arith
+cell-data-requires c κs = inside _ _ _ _ (found c)
 
 is-list-requires : tie.Need-is-list-requires
 is-list-requires c κs = search needs

@@ -27,7 +27,7 @@ enum-known-c : tie.Need-enum-known-c
 enum-known-c c = search needs
 
 cell-data-requires : tie.Need-cell-data-requires
-cell-data-requires c κs = let i = inside _ _ _ _ (found c) in omega arith
+cell-data-requires c κs = inside _ _ _ _ (found c)
 
 is-key-requires : tie.Need-is-key-requires
 is-key-requires c κs = search needs

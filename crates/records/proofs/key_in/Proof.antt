@@ -18,17 +18,11 @@ u32-at-requires-4 c κs = search needs
 u32-at-requires-5 : tie.Need-u32-at-requires-5
 u32-at-requires-5 c κs = search needs
 
-cast-t11 : tie.Need-cast-t11
-cast-t11 c = search needs
-
-add-t12 : tie.Need-add-t12
-add-t12 c = search needs
-
 u16-at-requires : tie.Need-u16-at-requires
 u16-at-requires c κs = search needs
 
-cast-t14 : tie.Need-cast-t14
-cast-t14 c = search needs
+cast-t12 : tie.Need-cast-t12
+cast-t12 c = search needs
 
 u16-at-requires-2 : tie.Need-u16-at-requires-2
 u16-at-requires-2 c κs = search needs
@@ -39,11 +33,11 @@ is-flagged-requires c κs = search needs
 returns : tie.Need-returns
 unfolding keyIn
 returns c = rw (
-  c .before .before .before .before .before .before .before .before .u32-at .ensures,
-  c .before .before .before .before .before .before .before .u32-at2 .ensures,
-  c .before .before .before .before .before .before .u32-at3 .ensures,
-  c .before .before .before .before .before .u32-at4 .ensures,
-  c .before .before .before .before .u32-at5 .ensures,
+  c .before .before .before .before .before .before .before .u32-at .ensures,
+  c .before .before .before .before .before .before .u32-at2 .ensures,
+  c .before .before .before .before .before .u32-at3 .ensures,
+  c .before .before .before .before .u32-at4 .ensures,
+  c .before .before .before .u32-at5 .ensures,
   c .before .before .u16-at .ensures,
   c .is-flagged .ensures,
   c .before .u16-at2 .ensures,
@@ -58,10 +52,8 @@ key-in-spec =
     u32-at-requires-3
     u32-at-requires-4
     u32-at-requires-5
-    cast-t11
-    add-t12
     u16-at-requires
-    cast-t14
+    cast-t12
     u16-at-requires-2
     is-flagged-requires
     returns)

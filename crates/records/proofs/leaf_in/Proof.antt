@@ -3,17 +3,11 @@ use borrow.Author.Needs.{needs}
 use Rattle.records.proofs.leaf_in.Statement.{statement}
 use Rattle.records.proofs.leaf_in.Tie as tie
 
-cast-t4 : tie.Need-cast-t4
-cast-t4 c = search needs
-
-add-t5 : tie.Need-add-t5
-add-t5 c = search needs
-
 u16-at-requires : tie.Need-u16-at-requires
 u16-at-requires c κs = search needs
 
-cast-t7 : tie.Need-cast-t7
-cast-t7 c = search needs
+cast-t5 : tie.Need-cast-t5
+cast-t5 c = search needs
 
 width-of-requires : tie.Need-width-of-requires
 width-of-requires c κs = search needs
@@ -32,10 +26,8 @@ pub leaf-in-spec : {M : Type 1} → statement M
 leaf-in-spec =
     tie.close
     (tie.spec
-    cast-t4
-    add-t5
     u16-at-requires
-    cast-t7
+    cast-t5
     width-of-requires
     slice-aggregate-stands-at
     stands-at-requires

@@ -3,12 +3,6 @@ use borrow.Author.Needs.{needs}
 use Rattle.records.proofs.leaves_in.Statement.{statement}
 use Rattle.records.proofs.leaves_in.Tie as tie
 
-cast-at : tie.Need-cast-at
-cast-at c = search needs
-
-add-at : tie.Need-add-at
-add-at c = search needs
-
 slice-aggregate-stands-at : tie.Need-slice-aggregate-stands-at
 slice-aggregate-stands-at c = search needs
 
@@ -18,8 +12,8 @@ stands-at-requires c κs = search needs
 u16-at-requires : tie.Need-u16-at-requires
 u16-at-requires c κs = search needs
 
-cast-t10 : tie.Need-cast-t10
-cast-t10 c = search needs
+cast-t8 : tie.Need-cast-t8
+cast-t8 c = search needs
 
 returns : tie.Need-returns
 unfolding leavesIn
@@ -33,11 +27,9 @@ pub leaves-in-spec : {M : Type 1} → statement M
 leaves-in-spec =
     tie.close
     (tie.spec
-    cast-at
-    add-at
     slice-aggregate-stands-at
     stands-at-requires
     u16-at-requires
-    cast-t10
+    cast-t8
     returns
     returns-2)

@@ -117,7 +117,7 @@ module _ (t : ℕ) where
   k-own c κs =
       let a = c .before .before .before .before .before .before .before .args in
       let w = keyed-whole (keyFault Map (now (a .bins)) (now (a .map)) (a .c .at)) (keyOf (now (a .bins)) (a .c .at)) (sym (c .before .before .before .key-at .ensures) ∙ c .before .k .given .1) in
-      ((c .before .before .before .before .before .before .before .pre .1 .0, rw (w .1) (name-room Map _ _ _ (w .0))), c .before .before .before .before .before .before .before .pre .1 .1)
+      (rw (w .1) (name-room Map _ _ _ (w .0)), c .before .before .before .before .before .before .before .pre .1)
 
   k-flawed-2 : key-lts.Need-enum-known-f-2 K key-asks key.Post
   k-flawed-2 c = search needs
@@ -138,7 +138,7 @@ module _ (t : ℕ) where
   k-list c κs =
       let l = k-sub c in
       let o = own-parts _ _ _ _ _ _ _ (sym (c .before .before .before .own-flaw .ensures) ∙ c .before .enum-told .given .1) in
-      (omega arith, (c .before .before .before .before .before .before .before .before .before .before .before .pre .1 .0, o .lists))
+      (omega arith, o .lists)
 
   k-returns : key-lts.Need-returns K key-asks key.Post
   k-returns c =
@@ -160,16 +160,16 @@ module _ (t : ℕ) where
 
   -- check_leaf
   f-fields : leaf-lts.Need-leaf-fields-requires F leaf-asks leaf.Post Inv-leaf μ-leaf-loop
-  f-fields c κs = let t = leaf-tested Map _ _ _ (c .before .before .pre .1 .1 .0) in omega (arith, t .holds .room)
+  f-fields c κs = let t = leaf-tested Map _ _ _ (c .before .before .pre .1 .0) in omega (arith, t .holds .room)
 
   f-holds : leaf-lts.Need-loop-holds F leaf-asks leaf.Post Inv-leaf μ-leaf-loop
-  f-holds c = (omega arith, rw (c .leaf-fields .ensures) (elements-lie Map _ _ _ (c .before .before .before .pre .1 .1 .0)), c .before .before .before .pre .1 .1 .1, refl)
+  f-holds c = (omega arith, rw (c .leaf-fields .ensures) (elements-lie Map _ _ _ (c .before .before .before .pre .1 .0)), c .before .before .before .pre .1 .1, refl)
 
   f-child : leaf-lts.Need-child-of-requires F leaf-asks leaf.Post Inv-leaf μ-leaf-loop
   f-child c κs = (omega arith, c .before .before .loop .inv .1)
 
   f-key : leaf-lts.Need-check-key-requires F leaf-asks leaf.Post Inv-leaf μ-leaf-loop
-  f-key c κs = (omega arith, (c .before .before .before .before .before .before .before .pre .1 .0, c .before .before .before .loop .inv .2))
+  f-key c κs = (omega arith, c .before .before .before .loop .inv .2)
 
   f-refused : leaf-lts.Need-enum-known-w F leaf-asks leaf.Post Inv-leaf μ-leaf-loop
   f-refused c = search needs
@@ -179,7 +179,7 @@ module _ (t : ℕ) where
       let a = c .before .before .before .before .before .before .before .before .before .before .before .args in
       let o = c .before .before .before .before .before .before .before .loop in
       let n = elements-length (now (a .bins)) (c .before .before .before .before .before .before .before .before .leaf-fields .result) in
-      rw (elements-are Map _ _ _ (c .before .before .before .before .before .before .before .before .before .before .before .pre .1 .1 .0) (c .before .before .before .before .before .before .before .before .leaf-fields .ensures))
+      rw (elements-are _ _ (c .before .before .before .before .before .before .before .before .leaf-fields .ensures))
       (sym (leaf-stop _ _ _ _ _ _ _ (elementsOf (now (a .bins)) (c .before .before .before .before .before .before .before .before .leaf-fields .result)) (o .i) _ _ (o .inv .3) _ (omega arith)
       (element-at _ _ (o .i) (c .before .before .before .before .before .if1 .taken) (c .before .before .before .before .child-of .ensures)) (sym (c .before .before .before .check-key .ensures) ∙ c .before .w .given .1)))
 
@@ -209,7 +209,7 @@ module _ (t : ℕ) where
       let a = c .before .before .before .before .before .before .args in
       let o = c .before .before .loop in
       let n = elements-length (now (a .bins)) (c .before .before .before .leaf-fields .result) in
-      rw (elements-are Map _ _ _ (c .before .before .before .before .before .before .pre .1 .1 .0) (c .before .before .before .leaf-fields .ensures))
+      rw (elements-are _ _ (c .before .before .before .leaf-fields .ensures))
       (sym (leaf-end _ _ _ _ _ _ _ (elementsOf (now (a .bins)) (c .before .before .before .leaf-fields .result)) (o .i) _ _ (o .inv .3) (omega arith)))
 
   -- check_list
@@ -219,11 +219,11 @@ module _ (t : ℕ) where
       rw (no-children (now (a .bins)) (a .k) (c .if1 .taken)) (sym (end-nil _ _ _ _ _ _ _))
 
   l-fields : list-lts.Need-leaves-fields-requires L list-asks list.Post Inv-list μ-list-loop
-  l-fields c κs = head-room _ _ _ (c .before .before .before .before .pre .1 .1) (c .if1 .left)
+  l-fields c κs = head-room _ _ _ (c .before .before .before .before .pre .1) (c .if1 .left)
 
   l-holds : list-lts.Need-loop-holds L list-asks list.Post Inv-list μ-list-loop
   l-holds c =
-      let p = c .before .before .before .before .before .pre .1 .1 in
+      let p = c .before .before .before .before .before .pre .1 in
       let h = head-sound _ _ _ p (c .before .if1 .left) in (
         omega arith,
         rw (c .leaves-fields .ensures) (leaves-lie Map _ _ _ h),
@@ -238,7 +238,7 @@ module _ (t : ℕ) where
   l-leaf : list-lts.Need-check-leaf-requires L list-asks list.Post Inv-list μ-list-loop
   l-leaf c κs =
       let o = c .before .before .before .loop in
-      (omega arith, (c .before .before .before .before .before .before .before .before .before .pre .1 .0, (o .inv .2 _ (leaf-in _ _ (o .inv .1) (o .j) (c .before .if2 .taken) (c .leaf-offset .ensures)), o .inv .3)))
+      (omega arith, (o .inv .2 _ (leaf-in _ _ (o .inv .1) (o .j) (c .before .if2 .taken) (c .leaf-offset .ensures)), o .inv .3))
 
   l-refused : list-lts.Need-enum-known-w L list-asks list.Post Inv-list μ-list-loop
   l-refused c = search needs
@@ -248,7 +248,7 @@ module _ (t : ℕ) where
       let a = c .before .before .before .before .before .before .before .before .before .before .before .before .before .args in
       let o = c .before .before .before .before .before .before .before .loop in
       let n = named-length (now (a .bins)) (c .before .before .before .before .before .before .before .before .leaves-fields .result) (o .inv .1) in
-      rw (as-list _ _ _ (c .before .before .before .before .before .before .before .before .before .before .before .before .before .pre .1 .1) (c .before .before .before .before .before .before .before .before .before .if1 .left) (c .before .before .before .before .before .before .before .before .leaves-fields .ensures))
+      rw (as-list _ _ _ (c .before .before .before .before .before .before .before .before .before .before .before .before .before .pre .1) (c .before .before .before .before .before .before .before .before .before .if1 .left) (c .before .before .before .before .before .before .before .before .leaves-fields .ensures))
       (sym (leaves-stop _ _ _ _ _ _ _ (leavesNamed (now (a .bins)) (c .before .before .before .before .before .before .before .before .leaves-fields .result)) (o .j) _ _ (o .inv .4) _ (omega arith)
       (leaf-there _ _ (o .inv .1) (o .j) (c .before .before .before .before .before .if2 .taken) (c .before .before .before .before .leaf-offset .ensures)) (sym (c .before .before .before .check-leaf .ensures) ∙ c .before .w .given .1)))
 
@@ -283,7 +283,7 @@ module _ (t : ℕ) where
       let a = c .before .before .before .before .before .before .before .before .args in
       let o = c .before .before .loop in
       let n = named-length (now (a .bins)) (c .before .before .before .leaves-fields .result) (o .inv .1) in
-      rw (as-list _ _ _ (c .before .before .before .before .before .before .before .before .pre .1 .1) (c .before .before .before .before .if1 .left) (c .before .before .before .leaves-fields .ensures))
+      rw (as-list _ _ _ (c .before .before .before .before .before .before .before .before .pre .1) (c .before .before .before .before .if1 .left) (c .before .before .before .leaves-fields .ensures))
       (sym (leaves-end _ _ _ _ _ _ _ (leavesNamed (now (a .bins)) (c .before .before .before .leaves-fields .result)) (o .j) _ _ (o .inv .4) (omega arith)))
 
 pub +check-key+check-leaf+check-list-spec : {M : Type 1} → statement M

@@ -39,7 +39,7 @@ returns c = let s = c .before .before .before .before .before .before in
     let k = leaf-count d o in
     ap (λ (x : Child). x .at)
     (c .before .child-of .ensures ∙ ap (λ (l : Leaf). childNamed d l (l .count - 1)) (c .before .before .before .leaf-fields .ensures)
-    ∙ child-at Map _ _ _ (s .pre) (leafOf d o .count - 1) _ (omega arith)
+    ∙ child-at d o (leafOf d o .count - 1) _ (omega arith)
     ∙ ap (λ (i : ℕ). getD (leafChildren (dataAt d o)) (i - 1) noChild) k)
 
 pub last-of-spec : {M : Type 1} → statement M

@@ -7,12 +7,9 @@ use Rattle.values.proofs.content_of.Tie as tie
 u32-at-requires : tie.Need-u32-at-requires
 u32-at-requires c κs = search needs
 
-add-t7 : tie.Need-add-t7
-add-t7 c = search needs
-
 returns : tie.Need-returns
 unfolding contentOf
-returns c = rw (← c .before .before .u32-at .ensures, le-leb _ _ (c .before .if1 .taken))
+returns c = rw (← c .before .u32-at .ensures, le-leb _ _ (c .if1 .taken))
 
 u32-at-requires-2 : tie.Need-u32-at-requires-2
 u32-at-requires-2 c κs = search needs
@@ -33,7 +30,6 @@ content-of-spec =
     tie.close
     (tie.spec
     u32-at-requires
-    add-t7
     returns
     u32-at-requires-2
     is-segmented-requires

@@ -1,18 +1,26 @@
 use mathlib.Core.Path.{_≡_, sym, ap, ap₂, _∙_}
 use native.Mathlib.Omega.{arith}
 use mathlib.Core.List.{List, _++_, append-assoc}
-use Prim.Native.Nat.{ℕ, _+_, _-_}
-use lib.ListN.{take, drop}
+use Prim.Native.Nat.{ℕ, _+_}
+use lib.ListN.{length, take, drop, length-take, length-drop}
+use lib.Seq.{paste-zero}
 use borrow.Rule.Slice.PartMut.{post-is}
+use Rattle.cells.specs.Named.{dataAt, partIn}
+use Rattle.cells.proofs.Parts.{part-length}
 use borrow.Author.Needs.{needs}
 use Rattle.values.proofs.copy_part.Statement.{statement}
 use Rattle.values.proofs.copy_part.Tie as tie
 
-add-end : tie.Need-add-end
-add-end c = search needs
+returns : tie.Need-returns
+returns c =
+    let a = c .before .before .before .args in
+    rw (c .if1 .taken) (paste-zero (a .out .now) (a .to) (drop (a .p .at) (dataAt (a .bins .now) (a .p .cell))))
 
 add-stop : tie.Need-add-stop
 add-stop c = search needs
+
+part-in-requires : tie.Need-part-in-requires
+part-in-requires c κs = record { some = omega arith; ends = search needs }
 
 sub-copy-all : tie.Need-sub-copy-all
 sub-copy-all c = search needs
@@ -23,45 +31,36 @@ part-copy-all-start c = search needs
 part-copy-all-end : tie.Need-part-copy-all-end
 part-copy-all-end c = search needs
 
-sub-copy-all-2 : tie.Need-sub-copy-all-2
-sub-copy-all-2 c = search needs
-
-part-copy-all-start-2 : tie.Need-part-copy-all-start-2
-part-copy-all-start-2 c = search needs
-
-part-copy-all-end-2 : tie.Need-part-copy-all-end-2
-part-copy-all-end-2 c = search needs
-
 copy-all-requires : tie.Need-copy-all-requires
-copy-all-requires c κs = search needs
+copy-all-requires c κs =
+    let a = c .before .before .before .before .before .args in
+    let l = ap length (c .before .part-in .ensures) ∙ part-length (dataAt (a .bins .now) (a .p .cell)) (a .p .at) (a .p .len) (c .before .before .before .before .before .pre .0) in
+    simp (l, length-take, length-drop) (omega arith)
 
 same-length : tie.Need-same-length
 same-length c = search needs
 
-returns : tie.Need-returns
-returns c =
-    let a = c .before .before .before .before .before .before .before .before .before .args in
+returns-2 : tie.Need-returns-2
+returns-2 c =
+    let a = c .before .before .before .before .before .before .before .before .args in
     let out = a .out .now in
-    let from = a .p .at in
+    let bytes = drop (a .p .at) (dataAt (a .bins .now) (a .p .cell)) in
     let n = a .p .len in
-    let e : from + n - from ≡ n = omega arith in
     ap₂ (λ (ys zs : List ℕ). take (a .to) out ++ (ys ++ zs))
-    (c .before .before .copy-all .ensures ∙ ap (λ (k : ℕ). take k (drop from (a .bins .now))) e)
+    (c .before .before .copy-all .ensures ∙ c .before .before .before .before .part-in .ensures)
     (post-is (a .to) (a .to + n) out (omega arith))
-    ∙ sym (append-assoc (take (a .to) out) (take n (drop from (a .bins .now))) (drop (a .to + n) out))
+    ∙ sym (append-assoc (take (a .to) out) (take n bytes) (drop (a .to + n) out))
 
 pub copy-part-spec : {M : Type 1} → statement M
 copy-part-spec =
     tie.close
     (tie.spec
-    add-end
+    returns
     add-stop
+    part-in-requires
     sub-copy-all
     part-copy-all-start
     part-copy-all-end
-    sub-copy-all-2
-    part-copy-all-start-2
-    part-copy-all-end-2
     copy-all-requires
     same-length
-    returns)
+    returns-2)

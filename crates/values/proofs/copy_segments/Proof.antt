@@ -22,20 +22,14 @@ segment-length-requires c κs = search needs
 entry-requires : tie.Need-entry-requires Inv-loop μ-loop
 entry-requires c κs = (c .before .before .before .before .before .pre .0 .room, omega arith)
 
-cast-t12 : tie.Need-cast-t12 Inv-loop μ-loop
-cast-t12 c = search needs
-
-add-t13 : tie.Need-add-t13 Inv-loop μ-loop
-add-t13 c = search needs
-
 sub-copy-part : tie.Need-sub-copy-part Inv-loop μ-loop
-sub-copy-part c = omega (arith, c .before .before .before .before .before .loop .inv .1 .within)
+sub-copy-part c = omega (arith, c .before .before .before .before .loop .inv .1 .within)
 
 copy-part-requires : tie.Need-copy-part-requires Inv-loop μ-loop
-copy-part-requires c κs = turn-room _ _ _ _ (c .before .before .before .before .before .loop .inv .1) (c .before .before .before .before .before .before .before .before .pre .1) (omega arith) _ _ (c .before .before .entry .ensures) (c .before .before .before .segment-length .ensures)
+copy-part-requires c κs = turn-room _ _ _ _ (c .before .before .before .before .loop .inv .1) (c .before .before .before .before .before .before .before .pre .1) (omega arith) _ _ (c .before .entry .ensures) (c .before .before .segment-length .ensures)
 
 sub-left : tie.Need-sub-left Inv-loop μ-loop
-sub-left c = let t = takes (c .before .before .before .before .before .before .before .before .loop .left) in omega arith
+sub-left c = let t = takes (c .before .before .before .before .before .before .before .loop .left) in omega arith
 
 add-i : tie.Need-add-i Inv-loop μ-loop
 add-i c = omega arith
@@ -44,7 +38,7 @@ loop-less : tie.Need-loop-less Inv-loop μ-loop
 loop-less c = omega arith
 
 loop-again : tie.Need-loop-again Inv-loop μ-loop
-loop-again c = (c .before .before .before .before .before .before .before .before .loop .inv .0, rw (c .before .before .copy-part .ensures) (turn _ _ _ _ (c .before .before .before .before .before .before .before .before .loop .inv .1) (c .before .before .before .before .before .before .before .before .before .before .before .pre .1) (omega arith) _ _ (c .before .before .before .before .before .entry .ensures) (c .before .before .before .before .before .before .segment-length .ensures)))
+loop-again c = (c .before .before .before .before .before .before .before .loop .inv .0, rw (c .before .before .copy-part .ensures) (turn _ _ _ _ (c .before .before .before .before .before .before .before .loop .inv .1) (c .before .before .before .before .before .before .before .before .before .before .pre .1) (omega arith) _ _ (c .before .before .before .before .entry .ensures) (c .before .before .before .before .before .segment-length .ensures)))
 
 same-length : tie.Need-same-length Inv-loop μ-loop
 same-length c = c .before .loop .inv .1 .kept
@@ -61,8 +55,6 @@ copy-segments-spec =
     loop-holds
     segment-length-requires
     entry-requires
-    cast-t12
-    add-t13
     sub-copy-part
     copy-part-requires
     sub-left

@@ -1,7 +1,7 @@
 use mathlib.Core.Path.{_≡_, refl, sym, _∙_}
 use native.Mathlib.Omega.{arith}
 use Prim.Native.Nat.{_≤_, _-_}
-use lib.ListN.{drop}
+use Rattle.cells.specs.Named.{dataAt}
 use Rattle.fields.specs.Faults.{faultOver}
 use Rattle.values.specs.Segments.{segmentFault, segmentsFrom, segmentsIn}
 use Rattle.values.proofs.Segment_turns.{takes, segment-stop, segment-on, segments-start, segments-end}
@@ -12,7 +12,7 @@ use Rattle.values.proofs.each_segment_flaw.Tie as tie
 abbrev Inv-loop : tie.InvT-loop
 Inv-loop bins map rule e size count left₀ i₀ left i =
     (i ≤ e .count) × (count ≡ e .count)
-    × (faultOver (segmentFault rule bins map) (segmentsIn bins e size) ≡ faultOver (segmentFault rule bins map) (segmentsFrom (drop (e .at) bins) i left (e .count - i)))
+    × (faultOver (segmentFault rule bins map) (segmentsIn bins e size) ≡ faultOver (segmentFault rule bins map) (segmentsFrom (dataAt bins (e .cell)) i left (e .count - i)))
 
 abbrev μ-loop : tie.MeasureT-loop
 μ-loop bins map rule e size count left₀ i₀ left i = count - i

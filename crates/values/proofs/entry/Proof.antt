@@ -2,22 +2,21 @@ use mathlib.Core.Path.{sym, ap, _∙_}
 use native.Mathlib.Omega.{arith}
 use Rattle.fields.specs.declared.Offset.{Offset}
 use Prim.Native.Nat.{ℕ}
+use Rattle.cells.proofs.Parts.{data-short}
 use Rattle.values.proofs.Rooms.{entries-at}
-use borrow.Author.Needs.{needs}
 use Rattle.values.proofs.entry.Statement.{statement}
 use Rattle.values.proofs.entry.Tie as tie
 
-mul-u32-at : tie.Need-mul-u32-at
-mul-u32-at c = search needs
+mul-word-in : tie.Need-mul-word-in
+mul-word-in c = let a = c .before .args in let s = data-short (a .bins .now) (a .e .cell) in omega arith
 
-add-u32-at : tie.Need-add-u32-at
-add-u32-at c = search needs
-
-u32-at-requires : tie.Need-u32-at-requires
-u32-at-requires c κs = search needs
+word-in-requires : tie.Need-word-in-requires
+word-in-requires c κs = omega arith
 
 returns : tie.Need-returns
-returns c = ap (λ (x : ℕ). let o : Offset = record { 0 = x } in o) (c .u32-at .ensures) ∙ sym (entries-at (c .before .before .before .args .bins .now) (c .before .before .before .args .e) (c .before .before .before .args .i) (omega arith))
+returns c =
+    let a = c .before .before .args in
+    ap (λ (x : ℕ). let o : Offset = record { 0 = x } in o) (c .word-in .ensures) ∙ sym (entries-at (a .bins .now) (a .e) (a .i) (omega arith))
 
 pub entry-spec : {M : Type 1} → statement M
-entry-spec = tie.close (tie.spec mul-u32-at add-u32-at u32-at-requires returns)
+entry-spec = tie.close (tie.spec mul-word-in word-in-requires returns)

@@ -14,17 +14,11 @@ enum-known-f c = search needs
 enum-told : tie.Need-enum-told
 enum-told c = search needs
 
-cast-t11 : tie.Need-cast-t11
-cast-t11 c = search needs
-
-add-t12 : tie.Need-add-t12
-add-t12 c = search needs
-
 returns : tie.Need-returns
 returns c = rw (← c .before .before .before .room-flaw .ensures, c .before .f .given .1)
 
 returns-2 : tie.Need-returns-2
-returns-2 c = rw (← c .before .before .before .room-flaw .ensures, c .before .enum-told .given .1)
+returns-2 c = rw (← c .before .before .room-flaw .ensures, c .enum-told .given .1)
 
 pub list-at-spec : {M : Type 1} → statement M
 list-at-spec =
@@ -34,7 +28,5 @@ list-at-spec =
     room-flaw-requires
     enum-known-f
     enum-told
-    cast-t11
-    add-t12
     returns
     returns-2)

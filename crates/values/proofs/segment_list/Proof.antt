@@ -17,7 +17,7 @@ enum-known-c : tie.Need-enum-known-c
 enum-known-c c = search needs
 
 cell-data-requires : tie.Need-cell-data-requires
-cell-data-requires c κs = let i = inside _ _ _ _ (sym (c .before .before .before .find-cell .ensures) ∙ c .before .c .given .1) in i .high
+cell-data-requires c κs = inside _ _ _ _ (sym (c .before .before .before .find-cell .ensures) ∙ c .before .c .given .1)
 
 is-db-requires : tie.Need-is-db-requires
 is-db-requires c κs = search needs

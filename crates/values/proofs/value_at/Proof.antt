@@ -2,7 +2,8 @@ use Rattle.values.specs.declared.Valued.the-variants.{Whole}
 use mathlib.Core.Path.{sym, ap, _∙_}
 use borrow.Author.Tests.{not-true, not-false}
 use Rattle.cells.proofs.Naming.{inside}
-use Rattle.values.proofs.Valued_at.{value-lacks, value-refused, value-whole, value-room}
+use Rattle.values.proofs.Tests.{kept}
+use Rattle.values.proofs.Valued_at.{value-lacks, value-refused, value-whole}
 use borrow.Author.Needs.{needs}
 use Rattle.values.proofs.value_at.Statement.{statement}
 use Rattle.values.proofs.value_at.Tie as tie
@@ -17,7 +18,7 @@ enum-known-c : tie.Need-enum-known-c
 enum-known-c c = search needs
 
 cell-data-requires : tie.Need-cell-data-requires
-cell-data-requires c κs = let i = inside _ _ _ _ (sym (c .before .before .before .find-cell .ensures) ∙ c .before .c .given .1) in i .high
+cell-data-requires c κs = inside _ _ _ _ (sym (c .before .before .before .find-cell .ensures) ∙ c .before .c .given .1)
 
 is-value-requires : tie.Need-is-value-requires
 is-value-requires c κs = search needs
@@ -26,7 +27,7 @@ returns : tie.Need-returns
 returns c = sym (value-refused _ _ _ _ _ (sym (c .before .before .before .before .before .before .find-cell .ensures) ∙ c .before .before .before .before .c .given .1) _ (c .before .before .cell-data .ensures) (sym (c .before .is-value .ensures) ∙ not-true _ (c .if1 .taken)))
 
 fields-of-requires : tie.Need-fields-of-requires
-fields-of-requires c κs = value-room _ _ _ (c .before .before .before .before .before .before .before .before .before .args .minor) _ (sym (c .before .before .before .before .before .before .find-cell .ensures) ∙ c .before .before .before .before .c .given .1) _ (c .before .before .cell-data .ensures) (sym (c .before .is-value .ensures) ∙ not-false _ (c .if1 .left)) (c .before .before .before .before .before .before .before .before .before .pre)
+fields-of-requires c κs = kept _ (sym (c .before .is-value .ensures) ∙ not-false _ (c .if1 .left)) .long
 
 returns-2 : tie.Need-returns-2
 returns-2 c = sym (value-lacks _ _ _ _ _ (sym (c .before .before .before .find-cell .ensures) ∙ c .before .f .given .1))

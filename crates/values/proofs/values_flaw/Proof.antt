@@ -15,7 +15,7 @@ enum-known-e : tie.Need-enum-known-e
 enum-known-e c = search needs
 
 each-value-flaw-requires : tie.Need-each-value-flaw-requires
-each-value-flaw-requires c κs = let s = listed _ _ (sym (c .before .before .before .value-list .ensures) ∙ c .before .e .given .1) in (search needs, list-room _ _ _ _ (s .0) _ (s .1))
+each-value-flaw-requires c κs = let s = listed _ _ (sym (c .before .before .before .value-list .ensures) ∙ c .before .e .given .1) in list-room _ _ _ _ (s .0) _ (s .1)
 
 returns : tie.Need-returns
 returns c = sym (unlisted-values _ _ _ _ _ (unlisted _ _ (sym (c .before .before .before .value-list .ensures) ∙ c .before .f .given .1)))

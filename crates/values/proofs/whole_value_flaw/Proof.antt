@@ -2,7 +2,8 @@ use mathlib.Core.Path.{sym, _∙_}
 use native.Mathlib.Omega.{arith}
 use borrow.Author.Tests.{not-true, not-false}
 use Rattle.cells.proofs.Naming.{inside}
-use Rattle.values.proofs.Valued_at.{value-room, whole-lacks, whole-refused, whole-data}
+use Rattle.values.proofs.Tests.{kept}
+use Rattle.values.proofs.Valued_at.{whole-lacks, whole-refused, whole-data}
 use borrow.Author.Needs.{needs}
 use Rattle.values.proofs.whole_value_flaw.Statement.{statement}
 use Rattle.values.proofs.whole_value_flaw.Tie as tie
@@ -17,7 +18,7 @@ enum-known-c : tie.Need-enum-known-c
 enum-known-c c = search needs
 
 cell-data-requires : tie.Need-cell-data-requires
-cell-data-requires c κs = let i = inside _ _ _ _ (sym (c .before .before .before .find-cell .ensures) ∙ c .before .c .given .1) in i .high
+cell-data-requires c κs = inside _ _ _ _ (sym (c .before .before .before .find-cell .ensures) ∙ c .before .c .given .1)
 
 is-value-requires : tie.Need-is-value-requires
 is-value-requires c κs = search needs
@@ -29,7 +30,7 @@ returns : tie.Need-returns
 returns c = c .flawed .ensures ∙ sym (whole-refused _ _ _ _ _ (sym (c .before .before .before .before .before .before .before .find-cell .ensures) ∙ c .before .before .before .before .before .c .given .1) _ (c .before .before .before .cell-data .ensures) (sym (c .before .before .is-value .ensures) ∙ not-true _ (c .before .if1 .taken)))
 
 content-of-requires : tie.Need-content-of-requires
-content-of-requires c κs = let r = value-room _ _ _ (c .before .before .before .before .before .before .before .before .before .args .minor) _ (sym (c .before .before .before .before .before .before .find-cell .ensures) ∙ c .before .before .before .before .c .given .1) _ (c .before .before .cell-data .ensures) (sym (c .before .is-value .ensures) ∙ not-false _ (c .if1 .left)) (c .before .before .before .before .before .before .before .before .before .pre) in (omega (arith, r .0), r .1)
+content-of-requires c κs = let r = kept _ (sym (c .before .is-value .ensures) ∙ not-false _ (c .if1 .left)) .long in omega arith
 
 data-flaw-requires : tie.Need-data-flaw-requires
 data-flaw-requires c κs = search needs

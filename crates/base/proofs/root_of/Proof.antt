@@ -1,9 +1,11 @@
+use Rattle.fields.specs.declared.Offset.{Offset}
 use Rattle.base.proofs.Laws.{base-facts}
-use Prim.Native.Nat.{_-_}
+use Prim.Native.Nat.{ℕ, _-_}
+use mathlib.Core.Path.{ap}
 use native.Mathlib.Omega.{arith}
 use borrow.Author.Needs.{needs}
-use Rattle.paths.proofs.minor_of.Statement.{statement}
-use Rattle.paths.proofs.minor_of.Tie as tie
+use Rattle.base.proofs.root_of.Statement.{statement}
+use Rattle.base.proofs.root_of.Tie as tie
 
 sub-u32-at : tie.Need-sub-u32-at
 sub-u32-at c = search needs
@@ -18,8 +20,8 @@ u32-at-requires : tie.Need-u32-at-requires
 u32-at-requires c κs = search needs
 
 returns : tie.Need-returns
-returns c = search needs
+returns c = ap (λ (k : ℕ). let o : Offset = record { 0 = k } in o) (c .u32-at .ensures)
 
-pub minor-of-spec : {M : Type 1} → statement M
-minor-of-spec =
+pub root-of-spec : {M : Type 1} → statement M
+root-of-spec =
     tie.close (tie.spec sub-u32-at part-u32-at-start part-u32-at-end u32-at-requires returns)

@@ -1,28 +1,25 @@
 use Rattle.base.proofs.Laws.{base-facts}
 use Rattle.base.specs.Block.{sector, binsOf}
 use lib.ListN.{take, drop}
 use denote.Ref.{now}
 use Prim.Native.Nat.{ℕ, _+_, _-_}
 use mathlib.Core.Path.{_≡_, ap}
 use native.Mathlib.Omega.{arith}
 use borrow.Author.Needs.{needs}
-use Rattle.paths.proofs.bins_of.Statement.{statement}
-use Rattle.paths.proofs.bins_of.Tie as tie
+use Rattle.base.proofs.bins_of.Statement.{statement}
+use Rattle.base.proofs.bins_of.Tie as tie
 
-sub-s : tie.Need-sub-s
-sub-s c = search needs
+sub-bins-size : tie.Need-sub-bins-size
+sub-bins-size c = search needs
 
-part-s-start : tie.Need-part-s-start
-part-s-start c = search needs
+part-bins-size-start : tie.Need-part-bins-size-start
+part-bins-size-start c = search needs
 
-part-s-end : tie.Need-part-s-end
-part-s-end c = let b = base-facts _ (c .before .pre) in omega arith
+part-bins-size-end : tie.Need-part-bins-size-end
+part-bins-size-end c = let b = base-facts _ (c .before .pre) in omega arith
 
-u32-at-requires : tie.Need-u32-at-requires
-u32-at-requires c κs = search needs
-
-cast-end : tie.Need-cast-end
-cast-end c = search needs
+bins-size-requires : tie.Need-bins-size-requires
+bins-size-requires c κs = search needs
 
 add-end : tie.Need-add-end
 add-end c = search needs
@@ -38,18 +35,17 @@ part-result-end c = let b = base-facts _ (c .before .before .before .pre) in ome
 
 returns : tie.Need-returns
 returns c = let h = now (c .before .before .before .before .args .hive) in
-    let n : 4096 + c .before .u32-at .result - 4096 ≡ binsOf (sector h) = omega arith in
+    let n : 4096 + c .before .bins-size .result - 4096 ≡ binsOf (sector h) = omega arith in
     ap (λ (k : ℕ). take k (drop 4096 h)) n
 
 pub bins-of-spec : {M : Type 1} → statement M
 bins-of-spec =
     tie.close
     (tie.spec
-    sub-s
-    part-s-start
-    part-s-end
-    u32-at-requires
-    cast-end
+    sub-bins-size
+    part-bins-size-start
+    part-bins-size-end
+    bins-size-requires
     add-end
     sub-result
     part-result-start
