@@ -192,8 +192,8 @@ fn measured(side: &str, i: &mut Input) -> Outcome {
     }
 }
 
-const ROWS: [&str; 18] = [
-    "check-1", "check-4", "check-16", "check-64", "check-wide", "last-100", "absent-100", "last-5000", "absent-5000", "last-60000", "absent-60000",
+const ROWS: [&str; 19] = [
+    "check-1", "check-4", "check-16", "check-64", "check-1024", "check-wide", "last-100", "absent-100", "last-5000", "absent-5000", "last-60000", "absent-60000",
     "copy", "repair-1000", "repair-1000-of-131072", "repair-100000", "all-1000", "all-1000-of-131072", "all-100000",
 ];
 
@@ -221,7 +221,7 @@ fn input(row: &str, folder: &str) -> Input {
 fn times(folder: &str, rows: &[&str]) {
     println!("row,rattle us,plain us,idiom us,bytes,keys");
     for &row in rows {
-        let rounds = if row == "repair-100000" { 1 } else if row == "repair-1000-of-131072" { 3 } else { 20 };
+        let rounds = if row == "repair-100000" { 1 } else if row == "repair-1000-of-131072" || row == "check-1024" { 3 } else { 20 };
         let mut best = [f64::MAX; 3];
         let mut outcomes = vec![];
         let mut size = (0, 0);
@@ -245,7 +245,7 @@ fn times(folder: &str, rows: &[&str]) {
 }
 
 fn make_all(folder: &str) {
-    for n in [1, 4, 16, 64] {
+    for n in [1, 4, 16, 64, 1024] {
         write(format!("{folder}/mixed-{n}"), make::mixed(n << 20)).unwrap();
     }
     for n in [100, 5000, 60000] {

@@ -249,7 +249,7 @@ fn usable<S: Style>(s: &[u8], types: &[u32]) -> Res<()> {
         return Err(Flaw(4, 0));
     }
     let n = S::u32_at(s, 40);
-    if n == 0 || n % 4096 != 0 || n > 67108864 { Err(Flaw(5, 0)) } else { Ok(()) }
+    if n == 0 || n % 4096 != 0 || n > 2147479552 { Err(Flaw(5, 0)) } else { Ok(()) }
 }
 
 fn base<S: Style>(h: &[u8]) -> Res<&[u8]> {

@@ -1,4 +1,5 @@
 /* Files, pipes and standard input, read whole. */
+#define _GNU_SOURCE /* SEEK_DATA, SEEK_HOLE */
 #include <errno.h>
 #include <fcntl.h>
 #include <stdlib.h>
@@ -7,8 +8,8 @@
 
 #include "host.h"
 
-/* This tool's own limit. No hive is longer than its bins need, and the format's offsets are 31 bits wide. */
-static const size_t LONGEST = 2147483648;
+/* This tool's own limit, 2^32. The longest hive has 2^31 bytes and may be padded, and the log of all its pages is longer still: 2148004864. */
+static const size_t LONGEST = 4294967296;
 
 static const char *reason(int number)
 {
@@ -50,21 +51,54 @@ static int read_stream(int fd, const char *path, Bytes *out)
     }
 }
 
-/* A file whose length is known: so much and no more. */
+static int shorter(const char *path)
+{
+    return trouble(path, "it became shorter while it was read");
+}
+
+/* The next bytes of a file that are no hole, at or after `at`: where they start, and where they end. Where that is not known, all to the end. */
+static size_t data_from(int fd, size_t at, size_t length)
+{
+    off_t from = lseek(fd, (off_t)at, SEEK_DATA);
+    if (from < 0)
+        return errno == ENXIO ? length : at; /* ENXIO: a hole to the end */
+    return (size_t)from < length ? (size_t)from : length;
+}
+
+static size_t data_to(int fd, size_t from, size_t length)
+{
+    off_t to = lseek(fd, (off_t)from, SEEK_HOLE);
+    return to > (off_t)from && (size_t)to < length ? (size_t)to : length;
+}
+
+static int read_part(int fd, const char *path, uint8_t *to, size_t from, size_t end)
+{
+    while (from < end) {
+        ssize_t n = pread(fd, to + from, end - from, (off_t)from);
+        if (n < 0 && errno == EINTR)
+            continue;
+        if (n <= 0)
+            return n < 0 ? trouble(path, "%s", reason(errno)) : shorter(path);
+        from += (size_t)n;
+    }
+    return GOOD;
+}
+
+/* A file whose length is known: so much and no more. The memory is zero already, so a hole is not read and takes none. The file is not mapped: what is lent to
+ * the library must be bytes that nobody changes. */
 static int read_known(int fd, const char *path, size_t length, Bytes *out)
 {
-    out->at = malloc(length);
+    out->at = calloc(length, 1);
     if (out->at == NULL)
         return trouble(path, "no memory for its %zu bytes", length);
     while (out->length < length) {
-        ssize_t n = read_some(fd, out->at + out->length, length - out->length);
-        if (n < 0)
-            return trouble(path, "%s", reason(errno));
-        if (n == 0)
-            return trouble(path, "it became shorter while it was read");
-        out->length += (size_t)n;
+        size_t from = data_from(fd, out->length, length), to = data_to(fd, from, length);
+        int status = read_part(fd, path, out->at, from, to);
+        if (status != GOOD)
+            return status;
+        out->length = to;
     }
-    return GOOD;
+    return lseek(fd, 0, SEEK_END) < (off_t)length ? shorter(path) : GOOD;
 }
 
 /* What has no length, or says 0, is read as a stream: pipes, devices, and files of the system that are made when they are read. */

@@ -104,9 +104,9 @@ def bases():
     refused(3, minimal[:100] + b"\1" + minimal[101:])
     for at, number in ((20, 0), (20, 2), (24, 2), (24, 6), (24, 0x103), (28, 1), (32, 0), (44, 2), (44, 0x10001)):
         refused(4, edited(minimal, (at, word(number))))
-    for size in (0, 4095, 4097, 67108864 + 4096, 0x80000000, 0xFFFFF000):
+    for size in (0, 4095, 4097, 0x7FFFF800, 0x80000000, 0xFFFFF000):
         refused(5, edited(minimal, (40, word(size))))
-    for size in (8192, 67108864):
+    for size in (8192, 67108864, 67108864 + 4096, 0x7FFFE000, 0x7FFFF000):
         refused(6, edited(minimal, (40, word(size))))
     refused(6, minimal[:-1])
     refused(6, edited(minimal[:-1], (4, word(9))))
@@ -533,6 +533,11 @@ def logs():
     # cut, and clean all the same
     refused(6, good[:4096])
     log(whole, "clean")
+    refused(6, edited(good, (40, word(0x7FFFF000))))
+    for l in (whole, b"", edited(whole, (40, word(0x7FFFF000))), edited(whole, (40, word(0x80000000)))):
+        log(l, "clean")
+    refused(5, edited(good, (40, word(0x80000000))))
+    log(whole, "repaired 1")
     refused(1, good[:4095])
     log(whole, "refused 1 at 0")
 
@@ -544,6 +549,8 @@ def bad_logs(good, dirty, whole, page0):
     for l in (b"", whole[:511], edited(whole, (0, b"x")), whole[:508] + b"????" + whole[512:], edited(whole, (28, word(0))), edited(whole, (28, word(3))), edited(whole, (24, word(9))),
               edited(whole, (40, word(0))), edited(whole, (40, word(100))), edited(whole, (4, word(1)))):
         log(l, "refused 21 at 0")
+    for size, number in ((0x7FFFE000, 22), (0x7FFFF000, 22), (0x7FFFF800, 21), (0x80000000, 21), (0xFFFFF000, 21)):
+        log(edited(whole, (40, word(size))), "refused %d at 0" % number)
     for l in (whole[:512], whole[:515], whole[:516], two[:517], whole[:517], whole[:1024], whole[:1535], edited(whole, (512, b"dirt"))[:516], edited(whole, (516, b"\3"))):
         log(l, "refused 22 at 0")
     log(edited(whole, (512, b"dirt")), "refused 23 at 0")

@@ -100,7 +100,7 @@ def word(b, at):
 def usable(b, kinds):
     return (bytes(b[0:4]) == b"regf" and word(b, 508) == checksum(b) and word(b, 20) == 1 and word(b, 24) in (3, 4, 5)
             and word(b, 28) in kinds and word(b, 32) == 1 and word(b, 44) == 1
-            and word(b, 40) % 4096 == 0 and 0 < word(b, 40) <= 67108864)
+            and word(b, 40) % 4096 == 0 and 0 < word(b, 40) <= 2**31 - 4096)
 
 
 def marked(log):

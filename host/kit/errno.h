@@ -3,6 +3,7 @@
 int *__errno_location(void);
 #define errno (*__errno_location())
 #define EINTR 4
+#define ENXIO 6
 #define EEXIST 17
 #define EISDIR 21
 #define EWOULDBLOCK 11

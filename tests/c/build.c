@@ -41,15 +41,21 @@ void reseal(uint8_t *block)
 
 static const uint8_t STAMP[8] = {1, 2, 3, 4, 5, 6, 7, 8};
 
-Made made(size_t bins, uint32_t minor)
+Made made_in(uint8_t *file, size_t bins, uint32_t minor)
 {
-    Made m = {calloc(1, 4096 + bins), bins, 32, 32, minor};
-    if (m.file == NULL)
-        abort();
+    Made m = {file, bins, 32, 32, minor};
     memcpy(m.file + 4096, "hbin", 4);
     put32(m.file + 4096 + 8, (uint32_t)bins);
     memcpy(m.file + 4096 + 20, STAMP, 8);
     return m;
+}
+
+Made made(size_t bins, uint32_t minor)
+{
+    uint8_t *file = calloc(1, 4096 + bins);
+    if (file == NULL)
+        abort();
+    return made_in(file, bins, minor);
 }
 
 size_t made_length(const Made *m)

@@ -22,6 +22,7 @@ uint32_t checksum(const uint8_t *block); /* that XOR as it is stored: 0 as 1, an
 void reseal(uint8_t *block);
 
 Made made(size_t bins, uint32_t minor);
+Made made_in(uint8_t *file, size_t bins, uint32_t minor); /* in memory that is zero */
 size_t made_length(const Made *m);
 uint8_t *data_of(const Made *m, uint32_t cell);
 uint32_t new_cell(Made *m, size_t length);

@@ -148,6 +148,53 @@ static void write_letters(void)
     write_file("letters", m.file, made_length(&m));
 }
 
+/* A file of that length, all of it a hole but the start and the end. */
+static void write_ends(const char *name, const Made *m, size_t length)
+{
+    char path[4096];
+    enum { START = 8192, END = 4096 };
+    size_t end = made_length(m) - END;
+    snprintf(path, sizeof path, "%s/%s", folder, name);
+    int fd = open(path, O_WRONLY | O_CREAT | O_TRUNC, 0644);
+    if (fd < 0 || pwrite(fd, m->file, START, 0) != START || pwrite(fd, m->file + end, END, (off_t)end) != END || ftruncate(fd, (off_t)length) != 0 || close(fd) != 0)
+        abort();
+}
+
+/* The longest hive, whose root has a value with its data at the end: whole, a byte short, with padding, with a bins size that is too large; and before a
+ * repair of its page 1, which is inside the free cell, and of its last, with the log. */
+static void write_longest(void)
+{
+    static const uint32_t pages[] = {1, 4194295};
+    Made m = made(2147479552, 5);
+    size_t n = made_length(&m);
+    m.root = new_key(&m, "R", 0);
+    uint32_t value = new_value(&m, "v", 1, (const uint8_t *)"?", 1);
+    hang_values(&m, m.root, &value, 1);
+    uint32_t rest = m.next;
+    m.next = (uint32_t)m.bins - 16;
+    uint32_t data = new_cell(&m, 12);
+    memcpy(data_of(&m, data), "t\0h\0e\0 \0e\0n", 11);
+    put32(data_of(&m, value) + 4, 12);
+    put32(data_of(&m, value) + 8, data);
+    finish(&m);
+    put32(m.file + 4096 + rest, data - rest);
+    memset(m.file + 4608, 'x', 512);
+    write_ends("longest", &m, n);
+    write_ends("longest-cut", &m, n - 1);
+    write_ends("longest-padded", &m, 4294967296);
+    write_ends("longest-and-more", &m, 4294967297);
+    Log log = made_log(&m, pages, 2);
+    write_file("longest-log", log.at, log.length);
+    for (int i = 0; i < 2; i++)
+        memset(m.file + 4096 + 512 * (size_t)pages[i], 0xee, 512);
+    put32(m.file + 4, 8);
+    reseal(m.file);
+    write_ends("longest-spoilt", &m, n);
+    put32(m.file + 40, 0x80000000);
+    reseal(m.file);
+    write_ends("longest-field", &m, n);
+}
+
 int main(int count, char **words)
 {
     static const uint32_t pages[] = {0, 3, 4, 17, 30, 31, 64, 127};
@@ -171,6 +218,7 @@ int main(int count, char **words)
     write_texts();
     write_sources();
     write_letters();
+    write_longest();
     good.file[4096 + good.root + 4] = 'x';
     write_file("no-root", good.file, n);
     return 0;

@@ -8,7 +8,7 @@ try 'check: not finished' 1 'refused 7 at 0' 'give its log with --log, or repair
 try 'check: no file' 2 '' 'hive: nothing: No such file' hive check nothing
 try 'check: a directory' 2 '' 'is a directory' hive check .
 try 'check: an empty file' 1 'refused 1 at 0' 'fewer than 4096 bytes' hive check empty
-try 'check: 5 GiB' 2 '' "vast: it has more than 2147483648 bytes, which is this tool's limit" hive check vast
+try 'check: 5 GiB' 2 '' "vast: it has more than 4294967296 bytes, which is this tool's limit" hive check vast
 try 'check: no hive' 1 'refused 2 at 0' 'regf' hive check "$out/hive"
 try 'check: many' 2 "$(printf '%s\n' 'minimal: accepted bins 1 keys 1 values 0 used 88 free 3976' 'cut: refused 6 at 0' 'empty: refused 1 at 0')" \
     'hive: nothing: No such file' hive check minimal cut nothing empty

@@ -69,6 +69,5 @@ right 'repair: clean is synced before it is told' [ "$(stores | tr '\n' ' ')" = 
 same 'repair: clean, each byte as it was' file sample
 
 cp spoilt file
-loader="$tools/lib/ld-linux-x86-64.so.2 --library-path $tools/lib"
 try 'repair: a locked file' 2 '' 'another program has locked it' run "$out/hold" file ${emulator:-} $loader "$out/hive" repair file log
 same 'repair: a locked file is not changed' file spoilt

@@ -48,12 +48,12 @@ unfoldable pub isVersion : List ℕ → ℕ → Bool
 isVersion s type =
     eqb (u32At s 20) 1 && (leb 3 (minorOf s) && (leb (minorOf s) 5 && (eqb (typeOf s) type && (eqb (u32At s 32) 1 && eqb (u32At s 44) 1))))
 
--- "bins size at 40, a nonzero multiple of 4096, at most 67,108,864"
+-- "bins size at 40, a nonzero multiple of 4096, at most 2,147,479,552"
 abbrev pub binsOf : List ℕ → ℕ
 binsOf s = u32At s 40
 
 abbrev pub binsLimit : ℕ
-binsLimit = 67108864
+binsLimit = 2147479552
 
 unfoldable pub isBinsSize : ℕ → Bool
 isBinsSize n = not (eqb n 0) && (eqb (n % 4096) 0 && leb n binsLimit)

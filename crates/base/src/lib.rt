@@ -8,8 +8,8 @@ ghost use lib.ListN.{length};
 ghost use Rattle.fields.specs.declared.Verdict.the-variants.{Sound};
 ghost use Rattle.base.specs.Block.{isRegf, xors, asStored, storedChecksum, isSummed, isVersion, minorOf, binsOf, isBinsSize, usable as usableAs, isSettled, clean as cleanOf, rootOf, blockFault, baseFault, sector, binsData};
 
-// The most bytes that bins data may have.
-pub const BINS_LIMIT: u32 = 67108864;
+// The most bytes that bins data may have: a file of 2^31 bytes.
+pub const BINS_LIMIT: u32 = 2147479552;
 
 // Below, s is a file's first 512 bytes.
 

@@ -16,8 +16,8 @@ unfoldable pub header : List ℕ
 header = 104 ∷ 98 ∷ 105 ∷ 110 ∷ 0 ∷ 0 ∷ 0 ∷ 0 ∷ 0 ∷ 16 ∷ 0 ∷ 0 ∷ replicate 20 0
 
 -- a first sector that gives a bins size in four bytes
-unfoldable pub sized : ℕ → ℕ → ℕ → List ℕ
-sized a b c = replicate 40 0 ++ (a ∷ b ∷ c ∷ 0 ∷ replicate 468 0)
+unfoldable pub sized : ℕ → ℕ → ℕ → ℕ → List ℕ
+sized a b c d = replicate 40 0 ++ (a ∷ b ∷ c ∷ d ∷ replicate 468 0)
 
 -- the base block of a hive of one bin
 unfoldable pub baseBlock : List ℕ
@@ -37,6 +37,10 @@ minimal = baseBlock ++ (header ++ (rootCell ++ (0x88 ∷ 0x0f ∷ 0 ∷ 0 ∷ re
 -- the same hive with the size field 0x80000000 in its first cell
 unfoldable pub lowest : List ℕ
 lowest = baseBlock ++ (header ++ (0 ∷ 0 ∷ 0 ∷ 0x80 ∷ replicate 4060 0))
+
+-- and with 0x7FFFFFF8, the largest free size that the field can say
+unfoldable pub highest : List ℕ
+highest = baseBlock ++ (header ++ (0xf8 ∷ 0xff ∷ 0xff ∷ 0x7f ∷ replicate 4060 0))
 
 -- a work map of 64 bytes that was used before
 unfoldable pub used : List ℕ

@@ -1,11 +1,11 @@
 -- "The P figures form a single table under a single proved claim."
-use Prim.Native.Nat.{ℕ}
+use Prim.Native.Nat.{ℕ, _+_, _/_}
 use mathlib.Core.Path.{_≡_}
-use mathlib.Core.Bool.{true, false}
+use mathlib.Core.Bool.{Bool, true, false, cond}
 use mathlib.Core.List.{List, [], _∷_, List·Memᴰ}
 use lib.ListN.{length, replicate}
 use Rattle.fields.specs.Faults.{numberOf}
-use Rattle.base.specs.Block.{storedChecksum}
+use Rattle.base.specs.Block.{binsLimit, isBinsSize, storedChecksum}
 use Rattle.cells.specs.declared.Surveyed.{Surveyed}
 use Rattle.cells.specs.declared.Surveyed.the-variants.{Tiled, Refused as Untiled}
 use Rattle.cells.specs.Survey.{surveyAnswer, mapLeft}
@@ -17,13 +17,14 @@ use Rattle.names.specs.Hashing.{hashOf}
 use Rattle.tree.specs.declared.Checked.{Checked}
 use Rattle.tree.specs.declared.Checked.the-variants as checked
 use Rattle.tree.specs.Tree.{checkAnswer}
-use Rattle.old_log.specs.Layout.{pagesAt}
+use Rattle.old_log.specs.Layout.{pageCount, mapSize, pagesAt}
+use Rattle.sectors.specs.Sector.{pagePlace}
 use Rattle.recovery.specs.declared.Started.{Started}
 use Rattle.recovery.specs.declared.Started.the-variants.{Clean, Pages, Refused}
 use Rattle.recovery.specs.declared.NextPage.{NextPage}
 use Rattle.recovery.specs.declared.NextPage.the-variants.{At, NoMore, Refused as Unread}
 use Rattle.recovery.specs.Calls.{startAnswer, nextAnswer}
-use Rattle.figures.specs.Inputs.{bare, minimal, lone, lowest, used, sized}
+use Rattle.figures.specs.Inputs.{bare, minimal, lone, lowest, highest, used, sized}
 use Rattle.recovery.specs.Small.{log, hive}
 
 -- what an answer gives, as numbers in the table's order: a count or none, or the refusal's number and place
@@ -49,6 +50,9 @@ unfoldable pub orderNumber : Order → ℕ
 orderNumber Before = 0
 orderNumber Same = 1
 orderNumber After = 2
+
+unfoldable pub testNumber : Bool → ℕ
+testNumber b = cond b 1 0
 
 -- a figure: what is computed, and what the paper says
 pub record Figure : Type 0 where
@@ -78,8 +82,8 @@ table =
     ∷ is (length (log 512) ∷ startNumbers (startAnswer hive (log 512))) (2048 ∷ 2 ∷ [])
     ∷ is (length (log 511) ∷ startNumbers (startAnswer hive (log 511))) (2047 ∷ 22 ∷ 0 ∷ [])
     -- `bins size 2,080,768: pages start at 1,024; 2,084,864: at 1,536`
-    ∷ is (pagesAt (sized 0x00 0xc0 0x1f) ∷ []) (1024 ∷ [])
-    ∷ is (pagesAt (sized 0x00 0xd0 0x1f) ∷ []) (1536 ∷ [])
+    ∷ is (pagesAt (sized 0x00 0xc0 0x1f 0x00) ∷ []) (1024 ∷ [])
+    ∷ is (pagesAt (sized 0x00 0xd0 0x1f 0x00) ∷ []) (1536 ∷ [])
     -- `cell size 0x80000000 gives 10`
     ∷ is (checkNumbers (checkAnswer lowest used)) (10 ∷ 32 ∷ [])
     -- Not the paper's, but of its amendment by request 1: a XOR of 0 and one of 0xFFFFFFFF, and beside each the number that it is stored as.
@@ -95,6 +99,15 @@ table =
     ∷ is (orderNumber (compare (codes true (0xe4 ∷ [])) (codes true (0xc5 ∷ []))) ∷ []) (orderNumber Before ∷ [])
     ∷ is (orderNumber (compare (codes true (0xff ∷ [])) (codes false (0x78 ∷ 1 ∷ []))) ∷ []) (orderNumber Same ∷ [])
     ∷ is (orderNumber (compare (codes true (0xd7 ∷ [])) (codes true (0xf7 ∷ []))) ∷ []) (orderNumber Before ∷ [])
+    -- Of its amendment by request 7: the work map and the bitmap of the largest bins data; sizes at the limit and past it; the log's pages, how many and from
+    -- where, and where the last one goes; a cell of the size 0x7FFFFFF8 in a bin of 4,096.
+    ∷ is (binsLimit / 64 ∷ binsLimit / 4096 ∷ []) (33554368 ∷ 524287 ∷ [])
+    ∷ is (testNumber (isBinsSize 2147479552) ∷ []) (1 ∷ [])
+    ∷ is (testNumber (isBinsSize 2147483648) ∷ []) (0 ∷ [])
+    ∷ is (testNumber (isBinsSize (2147479552 + 8)) ∷ []) (0 ∷ [])
+    ∷ is (mapSize (sized 0x00 0xf0 0xff 0x7f) ∷ pagesAt (sized 0x00 0xf0 0xff 0x7f) ∷ []) (524287 ∷ 525312 ∷ [])
+    ∷ is (pageCount (sized 0x00 0xf0 0xff 0x7f) ∷ pagePlace 4194295 ∷ []) (4194296 ∷ 2147483136 ∷ [])
+    ∷ is (checkNumbers (checkAnswer highest used)) (10 ∷ 32 ∷ [])
     ∷ []
 
 -- the claim: every figure of the table is as stated

@@ -116,7 +116,7 @@ module _ (d : List ℕ) (hive : Hive) where
           omega (arith, r .room)
 
   bounded : (ks : List Offset) → ((k : Offset) → List·Memᴰ k ks → KeyStands d (hive .minor) k) → length d ≤ binsLimit
-      → valuesIn d ks ≤ 67108864 * length ks
+      → valuesIn d ks ≤ binsLimit * length ks
   unfolding valuesIn
   bounded [] f l = omega arith
   bounded (k ∷ ks) f l =

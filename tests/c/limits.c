@@ -1,0 +1,297 @@
+/* The longest hive and the longest log, and numbers on both sides of 2^31 and 2^32. The memory is asked for and hardly touched, and ends at an unreadable page. */
+#include <stdlib.h>
+#include <string.h>
+#include <sys/mman.h>
+
+#include "build.h"
+#include "expect.h"
+
+static const size_t BINS = 2147479552, FILE_LENGTH = 2147483648, MAP = 33554368;
+
+/* The log's parts: bitmap, first page, pages, and the length with all of them. */
+static const size_t MARKS = 524287, FIRST = 525312, PAGES = 4194296, FULL = 2148004864;
+
+static uint8_t *space(size_t length)
+{
+    size_t whole = (length + 4095) / 4096 * 4096;
+    uint8_t *p = mmap(NULL, whole + 4096, PROT_READ | PROT_WRITE, MAP_PRIVATE | MAP_ANONYMOUS | MAP_NORESERVE, -1, 0);
+    if (p == MAP_FAILED || mprotect(p + whole, 4096, PROT_NONE) != 0)
+        abort();
+    return p + whole - length;
+}
+
+static void drop(uint8_t *p, size_t length)
+{
+    size_t whole = (length + 4095) / 4096 * 4096;
+    if (munmap(p + length - whole, whole + 4096) != 0)
+        abort();
+}
+
+static Made longest(void)
+{
+    return made_in(space(FILE_LENGTH), BINS, 5);
+}
+
+/* One bin, the root at 32 and a free cell from 120 on. */
+static Made one_bin(void)
+{
+    Made m = longest();
+    m.root = new_key(&m, "R", 0);
+    finish(&m);
+    return m;
+}
+
+static void drop_made(Made *m)
+{
+    drop(m->file, FILE_LENGTH);
+}
+
+static uint8_t *map;
+
+static HiveReport checked(const Made *m)
+{
+    return hive_check(m->file, FILE_LENGTH, map, MAP);
+}
+
+static HiveAnswer check(const Made *m)
+{
+    return checked(m).answer;
+}
+
+static HiveAnswer root_of(const Made *m)
+{
+    return hive_find_key(m->file, FILE_LENGTH, NULL, 0);
+}
+
+static const uint16_t NAME[] = {'v'};
+
+static HiveAnswer asked(const Made *m)
+{
+    return hive_value_info(m->file, FILE_LENGTH, NULL, 0, NAME, 1).answer;
+}
+
+static void t_one_bin(void)
+{
+    static const uint32_t sizes[] = {2147479440, 0u - 2147479440, 0x7ffffff8, 0x80000008, 0x80000000};
+    Made m = one_bin();
+    HiveReport r = checked(&m);
+    EXPECT(is(r.answer, 0, 0) && r.bins == 1 && r.keys == 1 && r.values == 0 && r.used == 88 && r.free == 2147479432);
+    EXPECT(map[0] == 0x10 && map[1] == 0 && map[MAP - 1] == 0);
+    EXPECT(is(hive_check(m.file, FILE_LENGTH, map, MAP - 1).answer, 8, 0));
+    EXPECT(is(hive_check(m.file, FILE_LENGTH - 1, map, MAP).answer, 6, 0));
+    put32(m.file + 4096 + 120, 0u - 2147479432);
+    r = checked(&m);
+    EXPECT(is(r.answer, 0, 0) && r.used == 2147479520 && r.free == 0 && map[1] == 0x80);
+    for (size_t i = 0; i < sizeof sizes / sizeof sizes[0]; i++) {
+        put32(m.file + 4096 + 120, sizes[i]);
+        EXPECT(is(check(&m), 10, 120));
+    }
+    drop_made(&m);
+}
+
+/* Where the field is a page less, it is the bin that is too long. */
+static void t_bins_field(void)
+{
+    static const struct { uint32_t size, number; } fields[] = {
+        {0x7fffe000, 9}, {0x7ffff800, 5}, {0x7ffff008, 5}, {0x80000000, 5}, {0x80001000, 5}, {0xfffff000, 5}, {0xffffffff, 5}, {0, 5},
+    };
+    Made m = one_bin();
+    for (size_t i = 0; i < sizeof fields / sizeof fields[0]; i++) {
+        put32(m.file + 40, fields[i].size);
+        reseal(m.file);
+        EXPECT(is(check(&m), fields[i].number, 0));
+        EXPECT(fields[i].number == 5 ? is(root_of(&m), 5, 0) : root_of(&m).value == 32);
+    }
+    drop_made(&m);
+}
+
+/* A root in the last 88 bytes, and root offsets that lead nowhere. */
+static void t_last_cell(void)
+{
+    static const uint32_t nowhere[] = {2147479544, 2147479552, 0x7ffffff8, 0x80000000, 0xfffffff8};
+    Made m = longest();
+    m.next = 2147479464;
+    m.root = new_key(&m, "R", 0);
+    finish(&m);
+    put32(m.file + 4096 + 32, 2147479464 - 32);
+    HiveReport r = checked(&m);
+    EXPECT(is(r.answer, 0, 0) && r.keys == 1 && r.used == 88 && r.free == 2147479432);
+    EXPECT(map[0] == 0 && map[MAP - 2] == 0x20 && map[MAP - 1] == 0);
+    EXPECT(root_of(&m).number == 0 && root_of(&m).value == 2147479464);
+    HiveKey k = hive_key_at(m.file, FILE_LENGTH, 2147479464);
+    EXPECT(k.answer.number == 0 && k.length == 1 && k.name == 4096 + 2147479464 + 80 && m.file[k.name] == 'R');
+    for (size_t i = 0; i < sizeof nowhere / sizeof nowhere[0]; i++) {
+        put32(m.file + 36, nowhere[i]);
+        reseal(m.file);
+        EXPECT(is(check(&m), 11, nowhere[i]) && is(root_of(&m), 11, nowhere[i]));
+        EXPECT(is(hive_key_at(m.file, FILE_LENGTH, nowhere[i]).answer, 11, nowhere[i]));
+        EXPECT(is(hive_value_at(m.file, FILE_LENGTH, nowhere[i]).answer, 11, nowhere[i]));
+    }
+    drop_made(&m);
+}
+
+static void t_second_bin(void)
+{
+    static const uint32_t second = 2147475456;
+    Made m = one_bin();
+    uint8_t *bin = m.file + 4096 + second;
+    put32(m.file + 4096 + 8, second);
+    put32(m.file + 4096 + 120, second - 120);
+    memcpy(bin, "hbin", 4);
+    put32(bin + 4, second);
+    put32(bin + 8, 4096);
+    put32(bin + 32, 4096 - 32);
+    HiveReport r = checked(&m);
+    EXPECT(is(r.answer, 0, 0) && r.bins == 2 && r.used == 88 && r.free == second - 120 + 4064);
+    put32(bin + 8, 8192);
+    EXPECT(is(check(&m), 9, second));
+    put32(bin + 8, 4096);
+    put32(bin + 4, 0);
+    EXPECT(is(check(&m), 9, second));
+    drop_made(&m);
+}
+
+/* A list that fills the bin from 120 on: its elements are 0 and name no cell. */
+static void t_value_list(void)
+{
+    static const uint32_t too_many[] = {536869858, 0x20000000, 0x40000000, 0x40000001, 0x80000000, 0xffffffff};
+    Made m = one_bin();
+    put32(m.file + 4096 + 120, 0u - 2147479432);
+    put32(data_of(&m, m.root) + 40, 120);
+    put32(data_of(&m, m.root) + 36, 536869857);
+    EXPECT(is(check(&m), 11, 0) && is(asked(&m), 11, 0));
+    EXPECT(is(hive_nth_value(m.file, FILE_LENGTH, m.root, 536869856).answer, 11, 0));
+    EXPECT(hive_nth_value(m.file, FILE_LENGTH, m.root, 536869857).state == 1);
+    for (size_t i = 0; i < sizeof too_many / sizeof too_many[0]; i++) {
+        put32(data_of(&m, m.root) + 36, too_many[i]);
+        EXPECT(is(check(&m), 12, 120) && is(asked(&m), 12, 120));
+    }
+    drop_made(&m);
+}
+
+/* Twelve bytes of data at the end of the file. */
+static void t_last_data(void)
+{
+    uint8_t back[12];
+    Made m = longest();
+    m.root = new_key(&m, "R", 0);
+    uint32_t value = new_value(&m, "v", 3, (const uint8_t *)"?", 1), free_cell;
+    hang_values(&m, m.root, &value, 1);
+    free_cell = m.next;
+    m.next = 2147479536;
+    uint32_t data = new_cell(&m, 12);
+    memcpy(data_of(&m, data), "the last end", 12);
+    put32(data_of(&m, value) + 4, 12);
+    put32(data_of(&m, value) + 8, data);
+    finish(&m);
+    put32(m.file + 4096 + free_cell, data - free_cell);
+    HiveReport r = checked(&m);
+    EXPECT(is(r.answer, 0, 0) && r.values == 1 && 32 + r.used + r.free == BINS);
+    HiveValue v = hive_value_view(m.file, FILE_LENGTH, NULL, 0, NAME, 1);
+    EXPECT(is(v.answer, 0, 0) && v.kind == 3 && v.form == HIVE_ONE_CELL && v.at == 2147483636 && v.length == 12);
+    HiveCopy c = hive_value_copy(m.file, FILE_LENGTH, NULL, 0, NAME, 1, back, 12);
+    EXPECT(is(c.answer, 0, 0) && c.length == 12 && memcmp(back, "the last end", 12) == 0);
+    put32(data_of(&m, value) + 4, 13);
+    EXPECT(is(check(&m), 12, data) && is(asked(&m), 12, data));
+    drop_made(&m);
+}
+
+/* The first 512 bytes of a hive as a log's, in a space of that length. */
+static uint8_t *log_of(const Made *m, size_t length)
+{
+    uint8_t *l = space(length);
+    memcpy(l, m->file, 512);
+    put32(l + 28, 1);
+    reseal(l);
+    memcpy(l + 512, "DIRT", 4);
+    return l;
+}
+
+static void unsettle(Made *m)
+{
+    put32(m->file + 4, 8);
+    reseal(m->file);
+}
+
+/* Page 1 and the last one, both inside the free cell. Other pages are not marked, and there are none past the last. */
+static void t_repair(void)
+{
+    static const size_t unmarked[] = {0, 4194294, 4194296, 1 << 23, (size_t)1 << 55, (size_t)1 << 63, (size_t)-1};
+    Made m = one_bin();
+    size_t n = FIRST + 1024;
+    uint8_t *l = log_of(&m, n);
+    l[516] = 2;
+    l[516 + MARKS - 1] = 0x80;
+    memset(l + FIRST, 0x11, 1024);
+    unsettle(&m);
+    HiveRecovery s = hive_recover_start(m.file, FILE_LENGTH, l, n);
+    EXPECT(is(s.answer, 0, 0) && s.state == HIVE_DONE && s.pages == 2);
+    EXPECT(is(hive_recover_start(m.file, FILE_LENGTH - 1, l, n).answer, 24, 0));
+    EXPECT(is(hive_recover_start(m.file, FILE_LENGTH, l, n - 1).answer, 22, 0));
+    for (size_t i = 0; i < sizeof unmarked / sizeof unmarked[0]; i++)
+        EXPECT(is(hive_recover_page(m.file, FILE_LENGTH, l, n, unmarked[i]).answer, 26, 0));
+    EXPECT(hive_recover_page(m.file, FILE_LENGTH, l, n, 1).state == HIVE_DONE);
+    EXPECT(is(hive_recover_close(m.file, FILE_LENGTH, l, n).answer, 27, 0));
+    HivePage p = hive_recover_next(l, n, 2);
+    EXPECT(p.state == HIVE_THERE && p.page == PAGES - 1 && p.from == FIRST + 512 && p.to == 2147483136);
+    EXPECT(hive_recover_next(l, n, PAGES).state == 1 && hive_recover_mark(l, n, 2).to == 2147483136);
+    EXPECT(hive_recover_page(m.file, FILE_LENGTH, l, n, PAGES - 1).state == HIVE_DONE);
+    EXPECT(memcmp(m.file + 4608, l + FIRST, 512) == 0 && memcmp(m.file + 2147483136, l + FIRST + 512, 512) == 0);
+    EXPECT(m.file[4607] == 0 && m.file[5120] == 0 && m.file[2147483135] == 0);
+    EXPECT(hive_recover_close(m.file, FILE_LENGTH, l, n).state == HIVE_DONE);
+    EXPECT(hive_recover_start(m.file, FILE_LENGTH, l, n).state == HIVE_CLEAN && is(check(&m), 0, 0));
+    drop(l, n);
+    drop_made(&m);
+}
+
+/* A log of all pages, the last of which is put in place. */
+static void t_full_log(void)
+{
+    Made m = one_bin();
+    uint8_t *l = log_of(&m, FULL);
+    memset(l + 516, 0xff, MARKS);
+    memset(l + 2148004352, 0x22, 512);
+    unsettle(&m);
+    HiveRecovery s = hive_recover_start(m.file, FILE_LENGTH, l, FULL);
+    EXPECT(is(s.answer, 0, 0) && s.state == HIVE_DONE && s.pages == PAGES);
+    HivePage p = hive_recover_next(l, FULL, PAGES - 1);
+    EXPECT(p.state == HIVE_THERE && p.page == PAGES - 1 && p.from == 2148004352 && p.to == 2147483136);
+    EXPECT(hive_recover_page(m.file, FILE_LENGTH, l, FULL, PAGES - 1).state == HIVE_DONE);
+    EXPECT(memcmp(m.file + 2147483136, l + 2148004352, 512) == 0 && m.file[2147483135] == 0);
+    EXPECT(is(hive_recover_start(m.file, FILE_LENGTH, l, FULL - 1).answer, 22, 0));
+    EXPECT(is(hive_recover_start(m.file, FILE_LENGTH, l, FIRST + 512).answer, 22, 0));
+    EXPECT(is(hive_recover_all(m.file, FILE_LENGTH, l, FULL - 1).answer, 22, 0));
+    drop(l, FULL);
+    drop_made(&m);
+}
+
+/* A log that is longer than its pages, on both sides of 2^31. */
+static void t_padded_log(void)
+{
+    static const size_t lengths[] = {2147483648 - 1, 2147483648, 2147483648 + 512};
+    Made m = one_bin();
+    uint8_t *l = log_of(&m, FULL);
+    l[516] = 3;
+    unsettle(&m);
+    for (size_t i = 0; i < sizeof lengths / sizeof lengths[0]; i++) {
+        HiveRecovery s = hive_recover_start(m.file, FILE_LENGTH, l, lengths[i]);
+        EXPECT(is(s.answer, 0, 0) && s.state == HIVE_DONE && s.pages == 2);
+    }
+    drop(l, FULL);
+    drop_made(&m);
+}
+
+int main(void)
+{
+    map = space(MAP);
+    test("limits: one bin of 2,147,479,552 bytes", t_one_bin);
+    test("limits: the bins size field", t_bins_field);
+    test("limits: a root at the end, and past it", t_last_cell);
+    test("limits: a second bin at the end", t_second_bin);
+    test("limits: a value list of the whole bin", t_value_list);
+    test("limits: data at the end", t_last_data);
+    test("limits: a repair of the last page", t_repair);
+    test("limits: a log of all pages", t_full_log);
+    test("limits: a log longer than 2^31", t_padded_log);
+    return counts();
+}
