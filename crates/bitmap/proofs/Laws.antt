@@ -1,4 +1,4 @@
--- What the counts of set bits keep to, and what the next marked page is.
+-- What the counts of set bits keep to, and what the next set index is.
 use Prim.Native.Nat.{ℕ, zero, suc, _+_, _-_, _*_, _/_, _%_, _^_, _≤_, _<_, zero-le}
 use native.Mathlib.Nat.{zero-div, le-refl}
 use native.Mathlib.Decide.{le-ind, decLt, ℕ-discrete}
@@ -13,7 +13,7 @@ use Rattle.bitmap.specs.declared.Next.the-variants.{At, Nothing}
 use Rattle.bitmap.specs.Bits.{bit, isMarked, bitsBefore, nextAmong, nextMarked}
 
 module _ (map : List ℕ) where
-  -- at most p of the bits before page p are set
+  -- at most p of the bits before index p are set
   pub before-le : (p : ℕ) → bitsBefore map p ≤ p
   unfolding bitsBefore
   before-le zero = zero-le
@@ -23,12 +23,12 @@ module _ (map : List ℕ) where
   unfolding bitsBefore
   before-mono p q h = le-ind (λ (m : ℕ). bitsBefore map p ≤ bitsBefore map m) (le-refl (bitsBefore map p)) (λ m k e. omega arith) q h
 
-  -- a marked page adds one
+  -- a set bit adds one
   pub before-marked : (p : ℕ) → isMarked map p ≡ true → bitsBefore map (suc p) ≡ bitsBefore map p + 1
   unfolding bitsBefore
   before-marked p e = ap (λ (n : ℕ). bitsBefore map p + n) (eqb-true (bit map p) 1 e)
 
-  -- so it is counted before every later page
+  -- so it is counted before every later index
   pub before-later : (p q : ℕ) → isMarked map p ≡ true → p < q → bitsBefore map p + 1 ≤ bitsBefore map q
   before-later p q e h = omega (arith, before-marked p e, before-mono (suc p) q h)
 
@@ -47,9 +47,9 @@ module _ (map : List ℕ) where
           let bad : _≡_ {A = ℕ} 0 1 = sym z ∙ eqb-true (bit map p) 1 e in
           omega arith
 
-  -- ---- the next marked page
+  -- ---- the next set index
 
-  -- one more page is left where p is inside the map
+  -- one more bit is left where p is inside the map
   left : (p : ℕ) → p < 8 * length map → 8 * length map - p ≡ suc (8 * length map - suc p)
   left p h = omega arith
 
@@ -65,7 +65,7 @@ module _ (map : List ℕ) where
   unfolding nextAmong
   next-end p h = let e : 8 * length map - p ≡ 0 = omega arith in ap (λ (n : ℕ). nextAmong n map p) e
 
-  -- what the answer says: the page is marked, and it is the least one
+  -- what the answer says: the bit is set, and it is the least one
   pub record Least (from p : ℕ) : Type 0 where
     pub marked : isMarked map p ≡ true
     pub after : from ≤ p
@@ -92,7 +92,7 @@ module _ (map : List ℕ) where
   pub next-least : (from p : ℕ) → nextMarked map from ≡ At p → Least from p
   next-least from p e = among-least (8 * length map - from) from p e
 
-  -- and where there is none, no page from there on is marked
+  -- and where there is none, no bit from there on is set
   among-none : (n from : ℕ) → nextAmong n map from ≡ Nothing → (q : ℕ) → from ≤ q → q < from + n → isMarked map q ≡ false
   unfolding nextAmong
   among-none zero from e q g h = absurd (omega arith)

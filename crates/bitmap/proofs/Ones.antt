@@ -35,7 +35,7 @@ ones-above : (k a b : ℕ) → a < 2 ^ k → ones (a + b * 2 ^ k) ≡ ones a + o
 ones-above k a b h = ap ones (add-comm a (b * 2 ^ k)) ∙ ones-cat k b a h ∙ add-comm (ones b) (ones a)
 
 module _ (map : List ℕ) where
-  -- the first k pages of byte j
+  -- the first k bits of byte j
   pub byte-ones : (j k : ℕ) → k ≤ 8 → bitsBefore map (8 * j + k) ≡ bitsBefore map (8 * j) + ones (getD map j 0 % 2 ^ k)
   unfolding bitsBefore ones
   byte-ones j zero h =

@@ -1,4 +1,4 @@
--- A bitmap is a list of bytes: page p has bit p % 8, "lowest bit first", of byte p / 8. Past the map's end every bit is 0.
+-- A bitmap is a list of bytes: index p has bit p % 8, "lowest bit first", of byte p / 8. Past the map's end every bit is 0.
 use Prim.Native.Nat.{ℕ, zero, suc, _+_, _-_, _*_, _/_, _%_, _^_}
 use mathlib.Core.Bool.{Bool, cond}
 use mathlib.Core.List.{List}
@@ -7,7 +7,7 @@ use lib.Dec.{eqb}
 use Rattle.bitmap.specs.declared.Next.{Next}
 use Rattle.bitmap.specs.declared.Next.the-variants.{At, Nothing}
 
--- the bit of page p, 0 or 1
+-- the bit at index p, 0 or 1
 abbrev pub bit : List ℕ → ℕ → ℕ
 bit map p = getD map (p / 8) 0 / 2 ^ (p % 8) % 2
 
@@ -19,11 +19,11 @@ unfoldable pub bitsBefore : List ℕ → ℕ → ℕ
 bitsBefore map zero = 0
 bitsBefore map (suc p) = bitsBefore map p + bit map p
 
--- the least marked page among the n pages from p on
+-- the least set index among the n from p on
 unfoldable pub nextAmong : ℕ → List ℕ → ℕ → Next
 nextAmong zero map p = Nothing
 nextAmong (suc n) map p = cond (isMarked map p) (At p) (nextAmong n map (suc p))
 
--- the least marked page at or after p
+-- the least set index at or after p
 abbrev pub nextMarked : List ℕ → ℕ → Next
 nextMarked map p = nextAmong (8 * length map - p) map p

@@ -22,7 +22,7 @@ use Rattle.lookup.specs.Answers.{valueLook, infoAnswer, viewAnswer, viewBytes, 
 use Rattle.lookup.proofs.Agree.{refused-untouched}
 use Rattle.listing.specs.declared.KeyFacts.the-variants as facts
 use Rattle.listing.specs.declared.Member.the-variants as member
-use Rattle.listing.specs.Members.{subkeyAnswer, valueAnswer, infoAnswer as infoAt, copyAnswer as copyAt, factsAnswer}
+use Rattle.listing.specs.Members.{subkeyAnswer, valueAnswer, infoAt, copyAt, factsAnswer}
 use Rattle.listing.proofs.Any.{copy-stays}
 use Rattle.recovery.specs.declared.Started.the-variants as started
 use Rattle.recovery.specs.Calls.{startAnswer}

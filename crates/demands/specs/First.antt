@@ -31,7 +31,7 @@ use Rattle.lookup.specs.Answers.{infoAnswer, viewAnswer, copyAnswer, copyOut}
 use Rattle.lookup.specs.Refused.{OfValue, OfView, OfCopy}
 use Rattle.listing.specs.declared.KeyFacts.the-variants as facts
 use Rattle.listing.specs.declared.Member.the-variants as member
-use Rattle.listing.specs.Members.{subkeyAnswer, valueAnswer, infoAnswer as infoAt, copyAnswer as copyAt, copyOut as outAt, factsAnswer}
+use Rattle.listing.specs.Members.{subkeyAnswer, valueAnswer, infoAt, copyAt, outAt, factsAnswer}
 use Rattle.listing.specs.Refused.{OfSubkey, OfNth, OfInfo, OfCopied, OfFacts}
 use Rattle.recovery.specs.declared.NextPage.the-variants as next
 use Rattle.recovery.specs.declared.Started.the-variants as started

@@ -15,7 +15,7 @@ use Rattle.lookup.specs.declared.Copied.{Copied}
 use Rattle.lookup.specs.Answers.{infoAnswer, viewAnswer, viewStart, viewBytes, copyAnswer, copyOut}
 use Rattle.listing.specs.declared.KeyFacts.{KeyFacts}
 use Rattle.listing.specs.declared.Member.{Member}
-use Rattle.listing.specs.Members.{subkeyAnswer, valueAnswer, infoAnswer as infoAt, copyAnswer as copyAt, copyOut as outAt, factsAnswer}
+use Rattle.listing.specs.Members.{subkeyAnswer, valueAnswer, infoAt, copyAt, outAt, factsAnswer}
 use Rattle.recovery.specs.declared.Started.{Started}
 use Rattle.recovery.specs.declared.Stepped.{Stepped}
 use Rattle.recovery.specs.declared.NextPage.{NextPage}

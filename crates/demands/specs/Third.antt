@@ -20,7 +20,7 @@ use Rattle.lookup.specs.declared.ValueFound.the-variants as value
 use Rattle.lookup.specs.Answers.{infoAnswer, viewAnswer, viewBytes, copyAnswer, copyOut}
 use Rattle.listing.specs.declared.KeyFacts.the-variants as facts
 use Rattle.listing.specs.declared.Member.the-variants as member
-use Rattle.listing.specs.Members.{subkeyAnswer, valueAnswer, infoAnswer as infoAt, copyAnswer as copyAt, copyOut as outAt, factsAnswer}
+use Rattle.listing.specs.Members.{subkeyAnswer, valueAnswer, infoAt, copyAt, outAt, factsAnswer}
 use Rattle.old_log.specs.Layout.{isLogged}
 use Rattle.recovery.specs.Calls.{closeHive}
 use Rattle.recovery.specs.Finished.{finished, afterPages, Covers}

@@ -37,7 +37,7 @@ ghost use Rattle.cells.specs.Survey.{mapLeft};
 ghost use Rattle.tree.specs.Tree.{checkAnswer};
 ghost use Rattle.paths.specs.Answers.{findAnswer};
 ghost use Rattle.lookup.specs.Answers.{infoAnswer, viewAnswer, copyAnswer, copyOut};
-ghost use Rattle.listing.specs.Members.{subkeyAnswer, valueAnswer, infoAnswer as infoAt, copyAnswer as copyAt, copyOut as outAt, factsAnswer};
+ghost use Rattle.listing.specs.Members.{subkeyAnswer, valueAnswer, infoAt, copyAt, outAt, factsAnswer};
 ghost use Rattle.recovery.specs.Calls.{startAnswer, pageAnswer, pageHive, closeAnswer, closeHive, nextAnswer};
 ghost use Rattle.recovery.specs.AtOnce.{allAnswer, allHive, markAnswer};
 ghost use Rattle.hive_c.specs.Flat.{granted as grantedOf, refused as refusedOf, reportIn, keyIn, formOf, valueIn, copyIn, narrowIn, memberIn, factsIn, startIn, stepIn, pageIn, markIn};

@@ -34,7 +34,7 @@ use Rattle.lookup.specs.declared.ValueFound.the-variants as value
 use Rattle.lookup.specs.Answers.{infoOf}
 use Rattle.lookup.proofs.ValueFinds.{list-good, each-good, value-good}
 use Rattle.listing.specs.declared.Member.the-variants.{At, NoMore}
-use Rattle.listing.specs.Members.{entryOf, nthIn, nthBelow, childLook, subkeyAnswer, nthOf, valueLook, valueAnswer, infoAnswer}
+use Rattle.listing.specs.Members.{entryOf, nthIn, nthBelow, childLook, subkeyAnswer, nthOf, entryLook, valueAnswer, infoAt}
 use Rattle.listing.proofs.Members.{subkey-none, subkey-is, in-none, in-is, subkey-in, value-in, info-in}
 
 -- past the first of two lists
@@ -152,25 +152,25 @@ module _ (h : List ℕ) (w : CleanAndWellFormed h) (o : Offset) (i : List·Mem�
     pub value-there : n < length (valuesOf (binsData h) (keyOf (binsData h) o))
         → let v = getD (valuesOf (binsData h) (keyOf (binsData h) o)) n nowhere in
         valueAnswer h o n ≡ At (entryOf v (valueOf (binsData h) (minorOf (sector h)) v .name))
-    unfolding valueLook nthOf
+    unfolding entryLook nthOf
     value-there p =
         let vs = valuesOf (binsData h) (keyOf (binsData h) o) in
         let minor = minorOf (sector h) in
         let list = list-good (binsData h) (w .formed .tiled) minor (keyOf (binsData h) o) (key-stands .values) in
-        let e : valueLook (binsData h) o n ≡ Found (getD vs n nowhere) = rw (key-tested, list, lt-leb (length vs) n p) in
+        let e : entryLook (binsData h) o n ≡ Found (getD vs n nowhere) = rw (key-tested, list, lt-leb (length vs) n p) in
         let g = value-good (binsData h) (w .formed .tiled) minor (keyOf (binsData h) o) (key-stands .values) (getD vs n nowhere) (at-in vs n nowhere p) in
         value-in h o base n ∙ in-is (binsData h) o n minor e ∙ rw g
 
     pub values-end : length (valuesOf (binsData h) (keyOf (binsData h) o)) ≤ n → valueAnswer h o n ≡ NoMore
-    unfolding valueLook nthOf
+    unfolding entryLook nthOf
     values-end p =
         let vs = valuesOf (binsData h) (keyOf (binsData h) o) in
         let list = list-good (binsData h) (w .formed .tiled) (minorOf (sector h)) (keyOf (binsData h) o) (key-stands .values) in
-        let e : valueLook (binsData h) o n ≡ Missing = rw (key-tested, list, le-leb (length vs) n p) in
+        let e : entryLook (binsData h) o n ≡ Missing = rw (key-tested, list, le-leb (length vs) n p) in
         value-in h o base n ∙ in-none (binsData h) o n (minorOf (sector h)) e
 
   -- each of its values has facts
   pub info-there : (v : Offset) → List·Memᴰ v (valuesOf (binsData h) (keyOf (binsData h) o))
-      → infoAnswer h v ≡ value.At (infoOf (valueOf (binsData h) (minorOf (sector h)) v))
+      → infoAt h v ≡ value.At (infoOf (valueOf (binsData h) (minorOf (sector h)) v))
   info-there v j =
       info-in h v base ∙ rw (each-good (binsData h) (w .formed .tiled) (minorOf (sector h)) (keyOf (binsData h) o) (key-stands .values) v j)

@@ -50,7 +50,7 @@ use Rattle.listing.specs.declared.Facts.{Facts}
 use Rattle.listing.specs.declared.KeyFacts.the-variants as facts
 use Rattle.listing.specs.declared.Member.{Member}
 use Rattle.listing.specs.declared.Member.the-variants.{At, Refused}
-use Rattle.listing.specs.Members.{entryOf, memberWhere, memberOf, inHive, nthIn, nthBelow, childLook, subkeyIn, subkeyAnswer, nthOf, valueLook, valueIn, valueAnswer, infoAnswer, copyAnswer, copyOut, factsOf, factsWhere, factsAnswer}
+use Rattle.listing.specs.Members.{entryOf, memberWhere, memberOf, inHive, nthIn, nthBelow, childLook, subkeyIn, subkeyAnswer, nthOf, entryLook, valueIn, valueAnswer, infoAt, copyAt, outAt, factsOf, factsWhere, factsAnswer}
 use Rattle.listing.specs.Refused.{of-base, of-record, of-named, OfSubkey, OfNth, OfInfo, OfCopied, as-info, too-short, OfFacts}
 
 -- ---- a name that is answered lies in the hive, so a host may read it there
@@ -100,7 +100,7 @@ module _ (h : List ℕ) where
     value-name p =
         let minor = minorOf (sector h) in
         let b = hive-at (baseFault h) _ p in
-        let m = member-at (valueLook (binsData h) o n) _ (b .1) in
+        let m = member-at (entryLook (binsData h) o n) _ (b .1) in
         let w = where-at (valueFault Header (binsData h) [] (m .0)) _ (m .1) in
         name-lies (b .0) (m .0) (valueOf (binsData h) minor (m .0) .name) e (name-inside Header (binsData h) [] minor (m .0) (w .0)) (w .1)
 
@@ -169,9 +169,9 @@ module _ (h : List ℕ) (k : Offset) where
       (λ l i f e. of-named g (one-of (its-leaf (eqb-false _ _ z) (list-fit Header d [] ruled o t) i) (leaf-unfit Header d [] ruled l f e))) n)))
 
   -- the same of its values
-  value-found : (n : ℕ) {v : Offset} → valueLook (binsData h) k n ≡ Found v
+  value-found : (n : ℕ) {v : Offset} → entryLook (binsData h) k n ≡ Found v
       → Fit Header (binsData h) a-key k × (valueListFault Header (binsData h) [] (keyOf (binsData h) k) ≡ Sound) × List·Memᴰ v (valuesOf (binsData h) (keyOf (binsData h) k))
-  unfolding valueLook nthOf
+  unfolding entryLook nthOf
   value-found n {v} e =
       let s = sound-found (keyFault Header (binsData h) [] k) _ e in
       let t = sound-found (valueListFault Header (binsData h) [] (keyOf (binsData h) k)) _ (s .1) in
@@ -184,8 +184,8 @@ module _ (h : List ℕ) (k : Offset) where
       by true p q = absurd (let z : _≡_ {A = ℕ} 0 1 = cc in omega arith)
       by false p q = let z : getD vs n nowhere ≡ v = cc in subst (λ (o : Offset). List·Memᴰ o vs) z (at-in vs n nowhere (leb-false _ _ p))
 
-  value-each : (n : ℕ) → Each (OfNth h k) (valueLook (binsData h) k n)
-  unfolding valueLook nthOf
+  value-each : (n : ℕ) → Each (OfNth h k) (entryLook (binsData h) k n)
+  unfolding entryLook nthOf
   value-each n =
       let d = binsData h in
       let P = OfNth h k in
@@ -225,7 +225,7 @@ module _ (h : List ℕ) (o : Offset) where
     unfolding valueAnswer valueIn
     value-refuses =
         hive-refuses (OfNth h o) (baseFault h) _ (λ f e. of-base (base-refuses h f e)) r
-        (member-refuses (OfNth h o) (valueLook (binsData h) o n) _ (value-each h o n)
+        (member-refuses (OfNth h o) (entryLook (binsData h) o n) _ (value-each h o n)
         (λ v e. let x = value-found h o n e in
         where-refuses (OfNth h o) (valueFault Header (binsData h) [] v) _
         (λ f q. of-named (x .0)
@@ -236,8 +236,8 @@ module _ (h : List ℕ) (o : Offset) where
   info-of Sound p q = absurd (let z : _≡_ {A = ℕ} 0 1 = cc in omega arith)
   info-of (Flawed g) {r} p q = (g, let z : refusalOf g ≡ r = cc in sym z, p g refl)
 
-  pub info-refuses : {r : Refusal} → infoAnswer h o ≡ value.Refused r → Because (OfInfo h o) r
-  unfolding infoAnswer wholeValueFault
+  pub info-refuses : {r : Refusal} → infoAt h o ≡ value.Refused r → Because (OfInfo h o) r
+  unfolding infoAt wholeValueFault
   info-refuses =
       let d = binsData h in
       let x = dataIn d (minorOf (sector h)) o in
@@ -246,14 +246,14 @@ module _ (h : List ℕ) (o : Offset) where
       (λ a. every-next (OfInfo h o) (valueFault Header d [] o) _ (λ f e. of-record (value-unfit Header d [] (ruled h o) o f e))
       (λ b f e. of-named (value-fit Header d [] (ruled h o) o b) (data-unfit Header d [] (ruled h o) x f e))))
 
-  pub copy-refuses : (n : ℕ) {r : Refusal} → copyAnswer h o n ≡ copied.Refused r → Because (OfCopied h o n) r
-  unfolding copyAnswer
+  pub copy-refuses : (n : ℕ) {r : Refusal} → copyAt h o n ≡ copied.Refused r → Because (OfCopied h o n) r
+  unfolding copyAt
   copy-refuses n =
-      copied-refuses (OfCopied h o n) n (infoAnswer h o) (λ g p. let w = info-refuses p in (w .0, w .1, as-info (w .2))) (λ i p s. too-short p s)
+      copied-refuses (OfCopied h o n) n (infoAt h o) (λ g p. let w = info-refuses p in (w .0, w .1, as-info (w .2))) (λ i p s. too-short p s)
 
-  pub copy-stays : (out : List ℕ) {f : Refusal} → copyAnswer h o (length out) ≡ copied.Refused f → copyOut h o out ≡ out
-  unfolding copyAnswer copyOut
-  copy-stays out = refused-stays (binsData h) out (infoAnswer h o)
+  pub copy-stays : (out : List ℕ) {f : Refusal} → copyAt h o (length out) ≡ copied.Refused f → outAt h o out ≡ out
+  unfolding copyAt outAt
+  copy-stays out = refused-stays (binsData h) out (infoAt h o)
 
   facts-of : (v : Verdict) {r : Refusal} → Every (OfFacts h o) v → factsWhere v (factsOf (binsData h) o) ≡ facts.Refused r → Because (OfFacts h o) r
   facts-of Sound p q = absurd (let z : _≡_ {A = ℕ} 0 1 = cc in omega arith)

@@ -35,10 +35,10 @@ use Rattle.records.proofs.LawsAnswer.{keyed-whole, keyed-flawed, leafed-whole, 
 use Rattle.records.proofs.LawsElements.{elements-length, element-at, elements-are}
 use Rattle.records.proofs.LawsPlaces.{elements-lie, leaves-lie, leaves-are}
 use Rattle.values.specs.declared.Entries.{Entries}
-use Rattle.values.specs.declared.Listing.the-variants as listedAs
+use Rattle.values.specs.declared.Entered.the-variants as enteredAs
 use Rattle.values.specs.declared.Value.{Value}
 use Rattle.values.specs.declared.Valued.the-variants as valuedAs
-use Rattle.values.specs.Entries.{Room, entriesOf, listing}
+use Rattle.values.specs.Entries.{Room, entriesOf, entered}
 use Rattle.values.specs.Records.{valueFault, dataIn, fieldsOf, valueOf, valued}
 use Rattle.values.specs.Segments.{lengthOf}
 use Rattle.values.specs.Lists.{valuesOf, valueListFault, valueEntries, wholeValueFault}
@@ -46,7 +46,7 @@ use Rattle.values.specs.Parts.{Lies}
 use Rattle.values.proofs.LawsLists.{list-room, list-values}
 use Rattle.values.proofs.LawsValues.{lies}
 use Rattle.values.proofs.Rooms.{entries-length}
-use Rattle.values.proofs.Segment_faults.{listed, unlisted}
+use Rattle.values.proofs.Segment_faults.{entered-whole, entered-flawed}
 use Rattle.values.proofs.Valued_at.{is-whole, is-flawed}
 use Rattle.paths.specs.declared.Look.the-variants.{Found, Missing, Faulty}
 use Rattle.lookup.specs.declared.Copied.the-variants as copied
@@ -57,7 +57,7 @@ use Rattle.lookup.proofs.Answered.{where-at}
 use Rattle.listing.specs.declared.Entry.{Entry}
 use Rattle.listing.specs.declared.KeyFacts.the-variants as facts
 use Rattle.listing.specs.declared.Member.the-variants.{At, NoMore, Refused}
-use Rattle.listing.specs.Members.{entryOf, memberWhere, nthIn, nthBelow, childLook, subkeyIn, subkeyAnswer, nthOf, valueLook, valueIn, valueAnswer, infoAnswer, copyAnswer, copyOut, factsOf, factsWhere, factsAnswer}
+use Rattle.listing.specs.Members.{entryOf, memberWhere, nthIn, nthBelow, childLook, subkeyIn, subkeyAnswer, nthOf, entryLook, valueIn, valueAnswer, infoAt, copyAt, outAt, factsOf, factsWhere, factsAnswer}
 
 -- a record by its offset
 module _ (d : List ℕ) (o : Offset) where
@@ -165,16 +165,16 @@ module _ (d : List ℕ) (k : Key) (n : ℕ) where
         rw (ne-eqb (k .subkeys) 0 z, w .0, w .1, leaves-are d (k .list))
 
   -- the values of a key
-  pub list-bad : {f : Flaw} → listing (valueListFault Header d [] k) (valueEntries k) ≡ listedAs.Flawed f → nthOf d k n ≡ Faulty f
+  pub list-bad : {f : Flaw} → entered (valueListFault Header d [] k) (valueEntries k) ≡ enteredAs.Flawed f → nthOf d k n ≡ Faulty f
   unfolding nthOf
-  list-bad e = rw (unlisted (valueListFault Header d [] k) _ e)
+  list-bad e = rw (entered-flawed (valueListFault Header d [] k) _ e)
 
-  module _ {e : Entries} (q : listing (valueListFault Header d [] k) (valueEntries k) ≡ listedAs.Whole e) where
+  module _ {e : Entries} (q : entered (valueListFault Header d [] k) (valueEntries k) ≡ enteredAs.Whole e) where
     whole : (valueListFault Header d [] k ≡ Sound) × (valuesOf d k ≡ entriesOf d e)
-    whole = let w = listed (valueListFault Header d [] k) _ q in (w .0, list-values Header d [] k (w .0) e (w .1))
+    whole = let w = entered-whole (valueListFault Header d [] k) _ q in (w .0, list-values Header d [] k (w .0) e (w .1))
 
     pub values-room : Room d e
-    values-room = let w = listed (valueListFault Header d [] k) _ q in list-room Header d [] k (w .0) e (w .1)
+    values-room = let w = entered-whole (valueListFault Header d [] k) _ q in list-room Header d [] k (w .0) e (w .1)
 
     pub value-there : n < e .count → {v : Offset} → v ≡ getD (entriesOf d e) n nowhere → nthOf d k n ≡ Found v
     unfolding nthOf
@@ -194,12 +194,12 @@ module _ (d : List ℕ) (o : Offset) (n : ℕ) where
   unfolding childLook
   child-on e = let w = keyed-whole (keyFault Header d [] o) _ e in rw (w .0, w .1)
 
-  pub look-bad : {f : Flaw} → keyed (keyFault Header d [] o) (keyOf d o) ≡ key.Flawed f → valueLook d o n ≡ Faulty f
-  unfolding valueLook
+  pub look-bad : {f : Flaw} → keyed (keyFault Header d [] o) (keyOf d o) ≡ key.Flawed f → entryLook d o n ≡ Faulty f
+  unfolding entryLook
   look-bad e = rw (keyed-flawed (keyFault Header d [] o) _ e)
 
-  pub look-on : {k : Key} → keyed (keyFault Header d [] o) (keyOf d o) ≡ key.Whole k → valueLook d o n ≡ nthOf d k n
-  unfolding valueLook
+  pub look-on : {k : Key} → keyed (keyFault Header d [] o) (keyOf d o) ≡ key.Whole k → entryLook d o n ≡ nthOf d k n
+  unfolding entryLook
   look-on e = let w = keyed-whole (keyFault Header d [] o) _ e in rw (w .0, w .1)
 
   pub subkey-bad : {f : Flaw} → childLook d o n ≡ Faulty f → subkeyIn d o n ≡ Refused (refusalOf f)
@@ -215,15 +215,15 @@ module _ (d : List ℕ) (o : Offset) (n : ℕ) where
   subkey-is e = rw e
 
   module _ (minor : ℕ) where
-    pub in-bad : {f : Flaw} → valueLook d o n ≡ Faulty f → valueIn d minor o n ≡ Refused (refusalOf f)
+    pub in-bad : {f : Flaw} → entryLook d o n ≡ Faulty f → valueIn d minor o n ≡ Refused (refusalOf f)
     unfolding valueIn
     in-bad e = rw e
 
-    pub in-none : valueLook d o n ≡ Missing → valueIn d minor o n ≡ NoMore
+    pub in-none : entryLook d o n ≡ Missing → valueIn d minor o n ≡ NoMore
     unfolding valueIn
     in-none e = rw e
 
-    pub in-is : {v : Offset} → valueLook d o n ≡ Found v → valueIn d minor o n ≡ memberWhere (valueFault Header d [] v) (entryOf v (valueOf d minor v .name))
+    pub in-is : {v : Offset} → entryLook d o n ≡ Found v → valueIn d minor o n ≡ memberWhere (valueFault Header d [] v) (entryOf v (valueOf d minor v .name))
     unfolding valueIn
     in-is e = rw e
 
@@ -238,8 +238,8 @@ module _ (h : List ℕ) (o : Offset) where
     unfolding valueAnswer
     value-stop n = rw e
 
-    pub info-stop : infoAnswer h o ≡ found.Refused (refusalOf f)
-    unfolding infoAnswer
+    pub info-stop : infoAt h o ≡ found.Refused (refusalOf f)
+    unfolding infoAt
     info-stop = ap (λ (v : Verdict). infoWhere v (infoOf (valueOf (binsData h) (minorOf (sector h)) o))) (stop _ _ e)
 
     pub facts-stop : factsAnswer h o ≡ facts.Refused (refusalOf f)
@@ -255,9 +255,9 @@ module _ (h : List ℕ) (o : Offset) where
     unfolding valueAnswer
     value-in n = rw e
 
-    pub info-in : infoAnswer h o
+    pub info-in : infoAt h o
         ≡ infoWhere (wholeValueFault Header (binsData h) [] (minorOf (sector h)) o) (infoOf (valueOf (binsData h) (minorOf (sector h)) o))
-    unfolding infoAnswer
+    unfolding infoAt
     info-in = ap (λ (v : Verdict). infoWhere v (infoOf (valueOf (binsData h) (minorOf (sector h)) o))) (on _ _ e)
 
     pub facts-in : factsAnswer h o ≡ factsWhere (keyFault Header (binsData h) [] o) (factsOf (binsData h) o)
@@ -266,9 +266,9 @@ module _ (h : List ℕ) (o : Offset) where
 
 -- a copy of the value at an offset: what was told lies in the hive
 module _ (h : List ℕ) (v : Offset) where
-  pub info-told : {i : Info} → infoAnswer h v ≡ found.At i
+  pub info-told : {i : Info} → infoAt h v ≡ found.At i
       → (baseFault h ≡ Sound) × (Lies (binsData h) (i .content)) × (i .len ≡ lengthOf (i .content))
-  unfolding infoAnswer wholeValueFault infoOf valueOf fieldsOf dataIn
+  unfolding infoAt wholeValueFault infoOf valueOf fieldsOf dataIn
   info-told e =
       let d = binsData h in
       let minor = minorOf (sector h) in
@@ -278,20 +278,20 @@ module _ (h : List ℕ) (v : Offset) where
       (b .0, rw (← w .1) (lies Header d [] minor v (x .0) Header [] (x .1)), rw (← w .1))
 
   module _ (out : List ℕ) where
-    module _ {f : Refusal} (e : infoAnswer h v ≡ found.Refused f) where
-      pub copy-stop : copyAnswer h v (length out) ≡ copied.Refused f
-      unfolding copyAnswer
+    module _ {f : Refusal} (e : infoAt h v ≡ found.Refused f) where
+      pub copy-stop : copyAt h v (length out) ≡ copied.Refused f
+      unfolding copyAt
       copy-stop = rw e
 
-      pub out-stop : copyOut h v out ≡ out
-      unfolding copyOut
+      pub out-stop : outAt h v out ≡ out
+      unfolding outAt
       out-stop = rw e
 
-    module _ {i : Info} (e : infoAnswer h v ≡ found.At i) where
-      pub copy-on : copyAnswer h v (length out) ≡ copiedTo (length out) (found.At i)
-      unfolding copyAnswer
+    module _ {i : Info} (e : infoAt h v ≡ found.At i) where
+      pub copy-on : copyAt h v (length out) ≡ copiedTo (length out) (found.At i)
+      unfolding copyAt
       copy-on = rw e
 
-      pub out-on : copyOut h v out ≡ written (binsData h) out (found.At i)
-      unfolding copyOut
+      pub out-on : outAt h v out ≡ written (binsData h) out (found.At i)
+      unfolding outAt
       out-on = rw e

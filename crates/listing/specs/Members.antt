@@ -78,30 +78,30 @@ subkeyAnswer h o n = inHive (baseFault h) (subkeyIn (binsData h) o n)
 unfoldable pub nthOf : List ℕ → Key → ℕ → Look
 nthOf d k n = onSound (valueListFault Header d [] k) (cond (leb (length (valuesOf d k)) n) Missing (Found (getD (valuesOf d k) n nowhere)))
 
-unfoldable pub valueLook : List ℕ → Offset → ℕ → Look
-valueLook d o n = onSound (keyFault Header d [] o) (nthOf d (keyOf d o) n)
+unfoldable pub entryLook : List ℕ → Offset → ℕ → Look
+entryLook d o n = onSound (keyFault Header d [] o) (nthOf d (keyOf d o) n)
 
 unfoldable pub valueIn : List ℕ → ℕ → Offset → ℕ → Member
-valueIn d minor o n = memberOf (valueLook d o n) (λ v. memberWhere (valueFault Header d [] v) (entryOf v (valueOf d minor v .name)))
+valueIn d minor o n = memberOf (entryLook d o n) (λ v. memberWhere (valueFault Header d [] v) (entryOf v (valueOf d minor v .name)))
 
 -- nth_value
 unfoldable pub valueAnswer : List ℕ → Offset → ℕ → Member
 valueAnswer h o n = inHive (baseFault h) (valueIn (binsData h) (minorOf (sector h)) o n)
 
 -- info_at: as `value_info` answers for the value that it finds
-unfoldable pub infoAnswer : List ℕ → Offset → ValueFound
-infoAnswer h v =
+unfoldable pub infoAt : List ℕ → Offset → ValueFound
+infoAt h v =
     let d = binsData h in
     let minor = minorOf (sector h) in
     infoWhere (baseFault h next wholeValueFault Header d [] minor v) (infoOf (valueOf d minor v))
 
 -- copy_at: as `value_copy` copies the value that it finds
-unfoldable pub copyAnswer : List ℕ → Offset → ℕ → Copied
-copyAnswer h v n = copiedTo n (infoAnswer h v)
+unfoldable pub copyAt : List ℕ → Offset → ℕ → Copied
+copyAt h v n = copiedTo n (infoAt h v)
 
 -- the output afterwards
-unfoldable pub copyOut : List ℕ → Offset → List ℕ → List ℕ
-copyOut h v out = written (binsData h) out (infoAnswer h v)
+unfoldable pub outAt : List ℕ → Offset → List ℕ → List ℕ
+outAt h v out = written (binsData h) out (infoAt h v)
 
 -- what a key's record says of it: "Its stamp, the 64-bit number at 4 of its record, says when it was last written"
 unfoldable pub factsOf : List ℕ → Offset → Facts

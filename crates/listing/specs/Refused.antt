@@ -14,7 +14,7 @@ use Rattle.values.specs.Records.{dataIn}
 use Rattle.values.specs.Refused.{Role, a-key, a-value, Fit, Unfit, Among, Lists, Values, Data}
 use Rattle.lookup.specs.declared.Info.{Info}
 use Rattle.lookup.specs.declared.ValueFound.the-variants.{At as ValueAt}
-use Rattle.listing.specs.Members.{infoAnswer}
+use Rattle.listing.specs.Members.{infoAt}
 
 pub data OfRecord (h : List ℕ) (w : Role) (o : Offset) (named : Role → Offset → Type 0) : Flaw → Type 0 where
   of-base : {f : Flaw} → OfBase h f → OfRecord h w o named f
@@ -37,7 +37,7 @@ OfInfo h v = OfRecord h a-value v (Data Header (binsData h) (dataIn (binsData h)
 pub data OfCopied (h : List ℕ) (v : Offset) (room : ℕ) : Flaw → Type 0 where
   as-info : {f : Flaw} → OfInfo h v f → OfCopied h v room f
   -- 20: "output too short"
-  too-short : {i : Info} → infoAnswer h v ≡ ValueAt i → room < i .len → OfCopied h v room (flaw OutputShort nowhere)
+  too-short : {i : Info} → infoAt h v ≡ ValueAt i → room < i .len → OfCopied h v room (flaw OutputShort nowhere)
 
 -- key_facts of the key at an offset: what it names is not read
 abbrev pub OfFacts : List ℕ → Offset → Flaw → Type 0

@@ -15,8 +15,8 @@ use records::Keyed;
 use records::Leafed;
 use records::Leaves;
 use records::Name;
+use values::Entered;
 use values::Entries;
-use values::Listing;
 use values::Valued;
 ghost use mathlib.Core.Path.{_≡_};
 ghost use mathlib.Core.List.{[]};
@@ -28,7 +28,7 @@ ghost use Rattle.cells.specs.Named.{dataAt};
 ghost use Rattle.records.specs.Keys.{keyFault, keyOf};
 ghost use Rattle.records.specs.Places.{LeavesLie, leavesNamed};
 ghost use Rattle.values.specs.Records.{valueFault, valueOf};
-ghost use Rattle.listing.specs.Members.{entryOf, memberWhere, nthIn, nthBelow, childLook, subkeyIn, subkeyAnswer, nthOf, valueLook, valueIn, valueAnswer, infoAnswer, copyAnswer, copyOut, factsOf, factsWhere, factsAnswer};
+ghost use Rattle.listing.specs.Members.{entryOf, memberWhere, nthIn, nthBelow, childLook, subkeyIn, subkeyAnswer, nthOf, entryLook, valueIn, valueAnswer, infoAt, copyAt, outAt, factsOf, factsWhere, factsAnswer};
 
 // A key or a value that a list names, and where its name stands in the file: `len` bytes from `name` on, one for each character if narrow, else UTF-16LE.
 pub struct Entry {
@@ -158,8 +158,8 @@ fn nth_of(bins: &[u8], k: Key, n: usize) -> Look
     ensures { λ r. ⌜ r ≡ nthOf (now (bins .entry)) k n ⌝ }
 {
     match values::value_list(bins, b"", Rule::Header, k) {
-        Listing::Flawed(f) => Look::Faulty(f),
-        Listing::Whole(e) => {
+        Entered::Flawed(f) => Look::Faulty(f),
+        Entered::Whole(e) => {
             if n < e.count {
                 Look::Found(values::entry(bins, e, n))
             } else {
@@ -169,8 +169,8 @@ fn nth_of(bins: &[u8], k: Key, n: usize) -> Look
     }
 }
 
-fn value_look(bins: &[u8], key: Offset, n: usize) -> Look
-    ensures { λ r. ⌜ r ≡ valueLook (now (bins .entry)) key n ⌝ }
+fn entry_look(bins: &[u8], key: Offset, n: usize) -> Look
+    ensures { λ r. ⌜ r ≡ entryLook (now (bins .entry)) key n ⌝ }
 {
     match records::key_at(bins, b"", Rule::Header, key) {
         Keyed::Flawed(f) => Look::Faulty(f),
@@ -181,7 +181,7 @@ fn value_look(bins: &[u8], key: Offset, n: usize) -> Look
 fn value_in(bins: &[u8], minor: u32, key: Offset, n: usize) -> Member
     ensures { λ r. ⌜ r ≡ valueIn (now (bins .entry)) minor key n ⌝ }
 {
-    match value_look(bins, key, n) {
+    match entry_look(bins, key, n) {
         Look::Faulty(f) => Member::Refused(fields::refused(f)),
         Look::Missing => Member::NoMore,
         Look::Found(v) => value_entry(bins, minor, v),
@@ -200,18 +200,18 @@ pub fn nth_value(hive: &[u8], key: Offset, n: usize) -> Member
 
 // The facts of the value at an offset, for all three cases of data.
 pub fn info_at(hive: &[u8], v: Offset) -> ValueFound
-    ensures { λ r. ⌜ r ≡ infoAnswer (now (hive .entry)) v ⌝ }
+    ensures { λ r. ⌜ r ≡ infoAt (now (hive .entry)) v ⌝ }
 {
     match base::base_flaw(hive) {
         Verdict::Flawed(f) => ValueFound::Refused(fields::refused(f)),
-        Verdict::Sound => lookup::info_at(base::bins_of(hive), base::minor_of(hive), v),
+        Verdict::Sound => lookup::whole_info(base::bins_of(hive), base::minor_of(hive), v),
     }
 }
 
 // The data of the value at an offset, segments joined.
 pub fn copy_at(hive: &[u8], v: Offset, out: &mut [u8]) -> Copied
-    ensures { λ r. ⌜ r ≡ copyAnswer (now (hive .entry)) v (length (now (out .entry))) ⌝ }
-    ensures { λ _. ⌜ now (out .exit) ≡ copyOut (now (hive .entry)) v (now (out .entry)) ⌝ }
+    ensures { λ r. ⌜ r ≡ copyAt (now (hive .entry)) v (length (now (out .entry))) ⌝ }
+    ensures { λ _. ⌜ now (out .exit) ≡ outAt (now (hive .entry)) v (now (out .entry)) ⌝ }
 {
     match info_at(hive, v) {
         ValueFound::Refused(f) => Copied::Refused(f),

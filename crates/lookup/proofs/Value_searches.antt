@@ -15,15 +15,15 @@ use Rattle.names.specs.Comparison.{sameName}
 use Rattle.records.specs.declared.Key.{Key}
 use Rattle.records.specs.Keys.{keyOf, codesOf, NameIn}
 use Rattle.values.specs.declared.Entries.{Entries}
-use Rattle.values.specs.declared.Listing.the-variants as listedAs
+use Rattle.values.specs.declared.Entered.the-variants as enteredAs
 use Rattle.values.specs.declared.Value.{Value}
 use Rattle.values.specs.declared.Valued.the-variants as valuedAs
-use Rattle.values.specs.Entries.{Room, entriesOf, listing}
+use Rattle.values.specs.Entries.{Room, entriesOf, entered}
 use Rattle.values.specs.Records.{valueFault, valueOf, valued}
 use Rattle.values.specs.Lists.{valuesOf, valueListFault, valueEntries}
 use Rattle.values.proofs.LawsLists.{list-room, list-values}
 use Rattle.values.proofs.LawsValues.{name-inside}
-use Rattle.values.proofs.Segment_faults.{listed, unlisted}
+use Rattle.values.proofs.Segment_faults.{entered-whole, entered-flawed}
 use Rattle.values.proofs.Valued_at.{is-whole, is-flawed}
 use Rattle.paths.specs.declared.Look.{Look}
 use Rattle.paths.specs.declared.Look.the-variants.{Found, Missing, Faulty}
@@ -52,17 +52,17 @@ module _ (d : List ℕ) (minor : ℕ) (x : List ℕ) (v : Offset) where
 
 -- the values of a key
 module _ (d : List ℕ) (minor : ℕ) (x : List ℕ) (k : Key) where
-  pub list-bad : {f : Flaw} → listing (valueListFault Header d [] k) (valueEntries k) ≡ listedAs.Flawed f → lookupValue d minor x k ≡ Faulty f
+  pub list-bad : {f : Flaw} → entered (valueListFault Header d [] k) (valueEntries k) ≡ enteredAs.Flawed f → lookupValue d minor x k ≡ Faulty f
   unfolding lookupValue
-  list-bad e = rw (unlisted (valueListFault Header d [] k) _ e)
+  list-bad e = rw (entered-flawed (valueListFault Header d [] k) _ e)
 
-  module _ {e : Entries} (q : listing (valueListFault Header d [] k) (valueEntries k) ≡ listedAs.Whole e) where
+  module _ {e : Entries} (q : entered (valueListFault Header d [] k) (valueEntries k) ≡ enteredAs.Whole e) where
     pub values-room : Room d e
-    values-room = let w = listed (valueListFault Header d [] k) _ q in list-room Header d [] k (w .0) e (w .1)
+    values-room = let w = entered-whole (valueListFault Header d [] k) _ q in list-room Header d [] k (w .0) e (w .1)
 
     pub values-are : lookupValue d minor x k ≡ searchValues d minor x (entriesOf d e)
     unfolding lookupValue
-    values-are = let w = listed (valueListFault Header d [] k) _ q in rw (w .0, list-values Header d [] k (w .0) e (w .1))
+    values-are = let w = entered-whole (valueListFault Header d [] k) _ q in rw (w .0, list-values Header d [] k (w .0) e (w .1))
 
   -- a value that is found has passed its tests
   pub value-tested : {v : Offset} → lookupValue d minor x k ≡ Found v → valueFault Header d [] v ≡ Sound

@@ -8,8 +8,8 @@ use fields::Refusal;
 use fields::Verdict;
 use paths::Look;
 use records::Key;
+use values::Entered;
 use values::Entries;
-use values::Listing;
 use values::Value;
 use values::ValueData;
 use values::Valued;
@@ -74,8 +74,8 @@ fn lookup_value(bins: &[u8], minor: u32, name: &[u16], k: Key) -> Look
     ensures { λ r. ⌜ r ≡ lookupValue (now (bins .entry)) minor (now (name .entry)) k ⌝ }
 {
     match values::value_list(bins, b"", Rule::Header, k) {
-        Listing::Flawed(f) => Look::Faulty(f),
-        Listing::Whole(e) => search_values(bins, minor, name, e),
+        Entered::Flawed(f) => Look::Faulty(f),
+        Entered::Whole(e) => search_values(bins, minor, name, e),
     }
 }
 
@@ -135,7 +135,7 @@ fn info_where(bins: &[u8], x: Value) -> ValueFound
 }
 
 // The value at an offset: its record, then its data.
-pub fn info_at(bins: &[u8], minor: u32, v: Offset) -> ValueFound
+pub fn whole_info(bins: &[u8], minor: u32, v: Offset) -> ValueFound
     ensures { λ r. ⌜ r ≡ infoWhere (wholeValueFault Header (now (bins .entry)) [] minor v) (infoOf (valueOf (now (bins .entry)) minor v)) ⌝ }
 {
     match values::value_at(bins, b"", Rule::Header, minor, v) {
@@ -176,7 +176,7 @@ pub fn value_info(hive: &[u8], path: &[u16], name: &[u16]) -> ValueFound
     ensures { λ r. ⌜ r ≡ infoAnswer (now (hive .entry)) (now (path .entry)) (now (name .entry)) ⌝ }
 {
     match value_look(hive, path, name) {
-        Look::Found(v) => info_at(base::bins_of(hive), base::minor_of(hive), v),
+        Look::Found(v) => whole_info(base::bins_of(hive), base::minor_of(hive), v),
         Look::Missing => ValueFound::Refused(fields::refused(Flaw {
             fault: Fault::NoValue,
             place: Offset(0),

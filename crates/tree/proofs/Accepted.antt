@@ -27,8 +27,8 @@ use Rattle.records.specs.declared.Key.{Key}
 use Rattle.records.specs.Keys.{keyOf}
 use Rattle.records.specs.Lists.{childrenBelow, children}
 use Rattle.tree.specs.declared.Hive.{Hive}
-use Rattle.tree.specs.declared.Listed.{Listed}
-use Rattle.tree.specs.declared.Listed.the-variants.{Start, First, After}
+use Rattle.tree.specs.declared.Arrival.{Arrival}
+use Rattle.tree.specs.declared.Arrival.the-variants.{Start, First, After}
 use Rattle.tree.specs.Tree.{Free, _after_, chargeOf, nameAt, parentFault, isBefore, orderFault, placeFault, hashFault, levelFault, totalFault, restFault, ownFault, keyCharge, listCharge, treeCharge, levels, rootChild}
 use Rattle.tree.specs.WellFormed.{KeyStands, ChildStands, Ascends, none, more, TreeStands, key}
 use Rattle.tree.proofs.Facts.{key-exactly}
@@ -94,7 +94,7 @@ module _ (d m : List ℕ) (hive : Hive) (tiles : BinsTile d 0) (mapped : Mapped 
 
   -- ---- no charge: it stands
 
-  key-stands : (n : ℕ) (c : Child) (l : Listed) → keyCharge d m hive n c l ≡ Free → KeyStands d (hive .minor) (c .at)
+  key-stands : (n : ℕ) (c : Child) (l : Arrival) → keyCharge d m hive n c l ≡ Free → KeyStands d (hive .minor) (c .at)
   key-stands n c l e =
       let x = key-parts d m hive n c l e in
       let o = x .1 in
@@ -108,19 +108,19 @@ module _ (d m : List ℕ) (hive : Hive) (tiles : BinsTile d 0) (mapped : Mapped 
       }
 
   -- listed below a key
-  abbrev Below : Offset → Listed → Type 0
+  abbrev Below : Offset → Arrival → Type 0
   Below p l = (l ≡ First p) ⊎ ((b : Offset) × (l ≡ After p b))
 
-  parent-at : (p : Offset) (k : Key) (at : Offset) (l : Listed) → Below p l → placeFault d (hive .root) k at l ≡ Sound → parentFault (hive .root) k at p ≡ Sound
+  parent-at : (p : Offset) (k : Key) (at : Offset) (l : Arrival) → Below p l → placeFault d (hive .root) k at l ≡ Sound → parentFault (hive .root) k at p ≡ Sound
   unfolding placeFault
-  parent-at p k at l (inl q) e = subst (λ (x : Listed). placeFault d (hive .root) k at x ≡ Sound) q e
-  parent-at p k at l (inr (b, q)) e = both _ _ (subst (λ (x : Listed). placeFault d (hive .root) k at x ≡ Sound) q e) .0
+  parent-at p k at l (inl q) e = subst (λ (x : Arrival). placeFault d (hive .root) k at x ≡ Sound) q e
+  parent-at p k at l (inr (b, q)) e = both _ _ (subst (λ (x : Arrival). placeFault d (hive .root) k at x ≡ Sound) q e) .0
 
   order-at : (p b at : Offset) → placeFault d (hive .root) (keyOf d at) at (After p b) ≡ Sound → compare (nameAt d b) (nameAt d at) ≡ Before
   unfolding placeFault
   order-at p b at e = order-of b at (both (parentFault (hive .root) (keyOf d at) at p) _ e .1)
 
-  child-stands : (n : ℕ) (p : Offset) (c : Child) (l : Listed) → Below p l → keyCharge d m hive n c l ≡ Free → ChildStands d (hive .root) p c
+  child-stands : (n : ℕ) (p : Offset) (c : Child) (l : Arrival) → Below p l → keyCharge d m hive n c l ≡ Free → ChildStands d (hive .root) p c
   child-stands n p c l b e =
       let o = key-parts d m hive n c l e .1 in
       let q = parent-of (keyOf d (c .at)) (c .at) p (parent-at p (keyOf d (c .at)) (c .at) l b (o .place)) in
@@ -128,8 +128,8 @@ module _ (d m : List ℕ) (hive : Hive) (tiles : BinsTile d 0) (mapped : Mapped 
 
   module _ (n : ℕ) (p : Offset) where
     -- each key of a list without charge has none, at some place in it
-    each-free : (l : Listed) (cs : List Child) → Below p l → listCharge (treeCharge d m hive n) p l cs ≡ Free → (c : Child) → List·Memᴰ c cs
-        → (x : Listed) × Below p x × (treeCharge d m hive n c x ≡ Free)
+    each-free : (l : Arrival) (cs : List Child) → Below p l → listCharge (treeCharge d m hive n) p l cs ≡ Free → (c : Child) → List·Memᴰ c cs
+        → (x : Arrival) × Below p x × (treeCharge d m hive n c x ≡ Free)
     unfolding listCharge
     each-free l [] q e c i = absurd (List·Memᴰ·not-nil i)
     each-free l (f ∷ cs) q e c i =
@@ -159,7 +159,7 @@ module _ (d m : List ℕ) (hive : Hive) (tiles : BinsTile d 0) (mapped : Mapped 
     rises [] e = none
     rises (c ∷ cs) e = rise c cs (both-free (treeCharge d m hive n c (First p)) _ e .1)
 
-  pub stands : (n : ℕ) (c : Child) (l : Listed) → treeCharge d m hive n c l ≡ Free → TreeStands d hive n (c .at)
+  pub stands : (n : ℕ) (c : Child) (l : Arrival) → treeCharge d m hive n c l ≡ Free → TreeStands d hive n (c .at)
   stands zero c l e = absurd (key-zero d m hive c l (key-free d m hive 0 c l e))
   stands (suc n) c l e =
       key (key-stands (suc n) c l (key-free d m hive (suc n) c l e)) (rises n (c .at) (children d (c .at)) below)
@@ -172,7 +172,7 @@ module _ (d m : List ℕ) (hive : Hive) (tiles : BinsTile d 0) (mapped : Mapped 
 
   -- ---- it stands: no charge
 
-  of-stands : (n : ℕ) (c : Child) (l : Listed) → KeyStands d (hive .minor) (c .at) → placeFault d (hive .root) (keyOf d (c .at)) (c .at) l ≡ Sound
+  of-stands : (n : ℕ) (c : Child) (l : Arrival) → KeyStands d (hive .minor) (c .at) → placeFault d (hive .root) (keyOf d (c .at)) (c .at) l ≡ Sound
       → hashFault d (keyOf d (c .at)) c ≡ Sound → keyCharge d m hive (suc n) c l ≡ Free
   unfolding keyCharge ownFault restFault levelFault
   of-stands n c l s p h =
@@ -195,7 +195,7 @@ module _ (d m : List ℕ) (hive : Hive) (tiles : BinsTile d 0) (mapped : Mapped 
 
   module _ (n : ℕ) (p : Offset) where
     abbrev Each : List Child → Type 0
-    Each cs = (c : Child) → List·Memᴰ c cs → (l : Listed) → placeFault d (hive .root) (keyOf d (c .at)) (c .at) l ≡ Sound
+    Each cs = (c : Child) → List·Memᴰ c cs → (l : Arrival) → placeFault d (hive .root) (keyOf d (c .at)) (c .at) l ≡ Sound
         → hashFault d (keyOf d (c .at)) c ≡ Sound → treeCharge d m hive n c l ≡ Free
 
     lists-after : (b : Child) (cs : List Child) → Ascends d (b ∷ cs) → ((c : Child) → List·Memᴰ c cs → ChildStands d (hive .root) p c) → Each cs
@@ -216,7 +216,7 @@ module _ (d m : List ℕ) (hive : Hive) (tiles : BinsTile d 0) (mapped : Mapped 
         free _ _ (each c (List·Memᴰ·head refl) (First p) (first-of p c s) (of-hash c (s .hash)))
         (lists-after c cs a (λ e i. ch e (List·Memᴰ·tail i)) (λ e i. each e (List·Memᴰ·tail i)))
 
-  pub stands-free : (n : ℕ) (c : Child) (l : Listed) → placeFault d (hive .root) (keyOf d (c .at)) (c .at) l ≡ Sound
+  pub stands-free : (n : ℕ) (c : Child) (l : Arrival) → placeFault d (hive .root) (keyOf d (c .at)) (c .at) l ≡ Sound
       → hashFault d (keyOf d (c .at)) c ≡ Sound → TreeStands d hive n (c .at) → treeCharge d m hive n c l ≡ Free
   stands-free (suc n) c l p h (key s a ch tree) =
       tree-free d m hive n c l (of-stands n c l s p h)

@@ -13,8 +13,8 @@ use Rattle.records.specs.Keys.{keyFault, keyOf}
 use Rattle.records.specs.Lists.{children, listsFault}
 use Rattle.values.specs.Lists.{valuesFault}
 use Rattle.tree.specs.declared.Hive.{Hive}
-use Rattle.tree.specs.declared.Listed.{Listed}
-use Rattle.tree.specs.declared.Listed.the-variants.{First}
+use Rattle.tree.specs.declared.Arrival.{Arrival}
+use Rattle.tree.specs.declared.Arrival.the-variants.{First}
 use Rattle.tree.specs.Tree.{Charge, Free, Of, _after_, chargeOf, placeFault, hashFault, levelFault, totalFault, restFault, ownFault, keyCharge, listCharge, treeCharge}
 
 pub both-free : (a b : Charge) → a after b ≡ Free → (a ≡ Free) × (b ≡ Free)
@@ -36,7 +36,7 @@ clear-of Sound e = refl
 clear-of (Flawed f) e = absurd (let z : _≡_ {A = ℕ} 0 1 = cc in omega arith)
 
 -- what a key's own tests say, part by part
-pub record Own (d m : List ℕ) (hive : Hive) (n : ℕ) (k : Key) (c : Child) (l : Listed) : Type 0 where
+pub record Own (d m : List ℕ) (hive : Hive) (n : ℕ) (k : Key) (c : Child) (l : Arrival) : Type 0 where
   pub place : placeFault d (hive .root) k (c .at) l ≡ Sound
   pub hash : hashFault d k c ≡ Sound
   pub level : levelFault n (c .at) ≡ Sound
@@ -45,7 +45,7 @@ pub record Own (d m : List ℕ) (hive : Hive) (n : ℕ) (k : Key) (c : Child) (l
   pub total : totalFault d k (c .at) ≡ Sound
 
 module _ (d m : List ℕ) (hive : Hive) where
-  pub own-parts : (n : ℕ) (k : Key) (c : Child) (l : Listed) → ownFault d m hive n k c l ≡ Sound → Own d m hive n k c l
+  pub own-parts : (n : ℕ) (k : Key) (c : Child) (l : Arrival) → ownFault d m hive n k c l ≡ Sound → Own d m hive n k c l
   unfolding ownFault restFault
   own-parts n k c l e =
       let p = both (placeFault d (hive .root) k (c .at) l) _ e in
@@ -60,27 +60,27 @@ module _ (d m : List ℕ) (hive : Hive) where
   unfolding levelFault
   level-zero c e = let z : _≡_ {A = ℕ} 0 1 = cc in omega arith
 
-  pub key-parts : (n : ℕ) (c : Child) (l : Listed) → keyCharge d m hive n c l ≡ Free
+  pub key-parts : (n : ℕ) (c : Child) (l : Arrival) → keyCharge d m hive n c l ≡ Free
       → (keyFault Map d m (c .at) ≡ Sound) × Own d m hive n (keyOf d (c .at)) c l
   unfolding keyCharge
   key-parts n c l e =
       let x = both-free (chargeOf (keyFault Map d m (c .at))) _ e in
       (clear-of _ (x .0), own-parts n (keyOf d (c .at)) c l (clear-of _ (x .1)))
 
-  pub key-zero : (c : Child) (l : Listed) → keyCharge d m hive 0 c l ≡ Free → ⊥
+  pub key-zero : (c : Child) (l : Arrival) → keyCharge d m hive 0 c l ≡ Free → ⊥
   key-zero c l e = level-zero c (key-parts 0 c l e .1 .level)
 
-  pub key-free : (n : ℕ) (c : Child) (l : Listed) → treeCharge d m hive n c l ≡ Free → keyCharge d m hive n c l ≡ Free
+  pub key-free : (n : ℕ) (c : Child) (l : Arrival) → treeCharge d m hive n c l ≡ Free → keyCharge d m hive n c l ≡ Free
   unfolding treeCharge
   key-free zero c l e = e
   key-free (suc n) c l e = both-free _ _ e .0
 
-  pub lists-free : (n : ℕ) (c : Child) (l : Listed) → treeCharge d m hive (suc n) c l ≡ Free
+  pub lists-free : (n : ℕ) (c : Child) (l : Arrival) → treeCharge d m hive (suc n) c l ≡ Free
       → listCharge (treeCharge d m hive n) (c .at) (First (c .at)) (children d (c .at)) ≡ Free
   unfolding treeCharge
   lists-free n c l e = both-free (keyCharge d m hive (suc n) c l) _ e .1
 
-  pub tree-free : (n : ℕ) (c : Child) (l : Listed) → keyCharge d m hive (suc n) c l ≡ Free
+  pub tree-free : (n : ℕ) (c : Child) (l : Arrival) → keyCharge d m hive (suc n) c l ≡ Free
       → listCharge (treeCharge d m hive n) (c .at) (First (c .at)) (children d (c .at)) ≡ Free → treeCharge d m hive (suc n) c l ≡ Free
   unfolding treeCharge
   tree-free n c l p q = free _ _ p q

@@ -1,4 +1,4 @@
--- The counts that the walk adds in 64 bits are those of the listing: a listing with no key twice is no longer than the bins data.
+-- The counts that the walk adds in 64 bits are those of the list: a list with no key twice is no longer than the bins data.
 use Prim.Native.Nat.{ℕ, zero, suc, _+_, _-_, _*_, _%_, _^_, _<_, _≤_}
 use native.Mathlib.Omega.{arith}
 use mathlib.Core.Path.{_≡_, refl, sym, ap, ap₂, _∙_, subst}
@@ -131,7 +131,7 @@ module _ (d : List ℕ) (hive : Hive) where
       (λ k i. let u = listed-stands n (hive .root) s k i .in-use in let w = wholly-inside d k u in
       omega (arith, w .inside .before, w .inside .some, w .header .inside))
 
-  -- so their counts, added in 64 bits, are the listing's
+  -- so their counts, added in 64 bits, are the list's
   pub counted : BinsTile d 0 → length d ≤ binsLimit → (n : ℕ) → TreeStands d hive n (hive .root)
       → tallied d (record { keys = 0; values = 0 }) (keysIn d n (hive .root))
       ≡ record { keys = length (keysIn d n (hive .root)); values = valuesIn d (keysIn d n (hive .root)) }

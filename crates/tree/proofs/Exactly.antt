@@ -19,7 +19,7 @@ use Rattle.cells.proofs.Fronts.{front-facts, front-good, survey-on}
 use Rattle.cells.proofs.Tiles.{tiled-exactly, counts-are}
 use Rattle.cells.proofs.Mapped.{surveyed}
 use Rattle.tree.specs.declared.Checked.the-variants.{Accepted}
-use Rattle.tree.specs.declared.Listed.the-variants.{Start}
+use Rattle.tree.specs.declared.Arrival.the-variants.{Start}
 use Rattle.tree.specs.declared.Report.{Report}
 use Rattle.tree.specs.Tree.{Charge, Free, Of, treeCharge, answer, levels, hiveOf, rootChild, keysOf, valuesIn, reportOf, checkAnswer}
 use Rattle.tree.specs.WellFormed.{CleanAndWellFormed}
@@ -95,6 +95,6 @@ module _ (h m : List ℕ) where
       let a = accepted-as e in
       rw (a .report) (counts-are (binsData h) b (surveyed h m (a .tally) (a .surveys) .1 .counts))
 
-  -- the report's keys and values are those of the pre-order listing
+  -- the report's keys and values are those in pre-order
   pub report-counts : {r : Report} → checkAnswer h m ≡ Accepted r → (r .keys ≡ length (keysOf h)) × (r .values ≡ valuesIn (binsData h) (keysOf h))
   report-counts e = let a = accepted-as e in rw (a .report) (refl, refl)

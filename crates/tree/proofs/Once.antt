@@ -1,4 +1,4 @@
--- In a tree that stands the listing of its keys has none twice.
+-- In a tree that stands the list of its keys has none twice.
 -- From each key its parent field leads in so many steps to the root, and in no fewer: so many and no other number. So where a key was listed is told
 -- by the key itself.
 use Prim.Native.Nat.{ℕ, zero, suc, _+_, _<_}

@@ -18,7 +18,7 @@ use Rattle.cells.proofs.Fronts.{front-facts}
 use Rattle.cells.proofs.Mapped.{surveyed}
 use Rattle.tree.specs.declared.Checked.the-variants.{Accepted, Refused}
 use Rattle.tree.specs.declared.Count.{Count}
-use Rattle.tree.specs.declared.Listed.the-variants.{Start}
+use Rattle.tree.specs.declared.Arrival.the-variants.{Start}
 use Rattle.tree.specs.declared.Walk.the-variants.{Counted, Refused as Stopped}
 use Rattle.tree.specs.Tree.{treeCharge, keysIn, tallied, keyAnswer, levels, hiveOf, rootChild, keysOf, valuesIn, checkAnswer}
 use Rattle.tree.specs.Steps.{Ready, walkAnswer}

@@ -39,8 +39,8 @@ use Rattle.values.proofs.Refusals.{key-fit, key-unfit, value-fit, value-unfit, 
 use Rattle.tree.specs.declared.Checked.the-variants.{Refused}
 use Rattle.tree.specs.declared.Hive.{Hive}
 use Rattle.tree.specs.declared.Report.{Report}
-use Rattle.tree.specs.declared.Listed.{Listed}
-use Rattle.tree.specs.declared.Listed.the-variants.{Start, First, After}
+use Rattle.tree.specs.declared.Arrival.{Arrival}
+use Rattle.tree.specs.declared.Arrival.the-variants.{Start, First, After}
 use Rattle.tree.specs.Tree.{Charge, Free, Of, chargeOf, _after_, nameAt, isBefore, parentFault, orderFault, placeFault, hashFault, levelFault, totalFault, restFault, ownFault, keyCharge, listCharge, treeCharge, levels, hiveOf, rootChild, answer, onTiled, checkAnswer}
 use Rattle.tree.specs.Told.{Because, Reached, the-root, a-child, Follows, at-once, later, OfTree, of-root, of-lists, of-values, of-data, no-order, other-hash, other-parent, root-listed, other-total, too-deep, Told, of-survey, of-tree}
 use Rattle.tree.proofs.Charges.{clear-of, key-parts}
@@ -64,18 +64,18 @@ module _ (d m : List ℕ) (tiles : BinsTile d 0) (mapped : Mapped d m) (hive : H
   ruled = by-map d m tiles mapped
 
   -- where a key is listed, and its level
-  data Place : ℕ → Child → Listed → Type 0 where
+  data Place : ℕ → Child → Arrival → Type 0 where
     at-start : Place 0 (rootChild hive) Start
     at-first : {n : ℕ} {k : Offset} {c : Child} → Reached d (hive .root) n k → List·Memᴰ c (children d k) → Place (suc n) c (First k)
     at-after : {n : ℕ} {k : Offset} {b c : Child} → Reached d (hive .root) n k → Follows b c (children d k) → Place (suc n) c (After k (b .at))
 
-  reached : {n : ℕ} {c : Child} {l : Listed} → Place n c l → Fit Map d a-key (c .at) → Reached d (hive .root) n (c .at)
+  reached : {n : ℕ} {c : Child} {l : Arrival} → Place n c l → Fit Map d a-key (c .at) → Reached d (hive .root) n (c .at)
   reached at-start f = the-root f
   reached (at-first k i) f = a-child k i f
   reached (at-after k i) f = a-child k (follows-in i) f
 
   -- the key's cell and record
-  record-tells : {n : ℕ} {c : Child} {l : Listed} → Place n c l → Every (OfTree d hive) (keyFault Map d m (c .at))
+  record-tells : {n : ℕ} {c : Child} {l : Arrival} → Place n c l → Every (OfTree d hive) (keyFault Map d m (c .at))
   record-tells at-start f e = of-root (key-unfit Map d m ruled (hive .root) f e)
   record-tells {c = c} (at-first k i) f e = of-lists k (one-of (its-child i) (key-unfit Map d m ruled (c .at) f e))
   record-tells {c = c} (at-after k i) f e = of-lists k (one-of (its-child (follows-in i)) (key-unfit Map d m ruled (c .at) f e))
@@ -93,7 +93,7 @@ module _ (d m : List ℕ) (tiles : BinsTile d 0) (mapped : Mapped d m) (hive : H
       same true p q = eqb-true _ _ p
       same false p q = absurd (let z : _≡_ {A = ℕ} 0 1 = cc in omega arith)
 
-  place-tells : {n : ℕ} {c : Child} {l : Listed} → Place n c l → Fit Map d a-key (c .at)
+  place-tells : {n : ℕ} {c : Child} {l : Arrival} → Place n c l → Fit Map d a-key (c .at)
       → Every (OfTree d hive) (placeFault d (hive .root) (keyOf d (c .at)) (c .at) l)
   unfolding placeFault orderFault
   place-tells at-start g = every-sound (OfTree d hive)
@@ -102,7 +102,7 @@ module _ (d m : List ℕ) (tiles : BinsTile d 0) (mapped : Mapped d m) (hive : H
       every-next (OfTree d hive) (parentFault (hive .root) (keyOf d (c .at)) (c .at) k) _ (parent-tells c r (follows-in i) g)
       (λ s. every-unless (OfTree d hive) (isBefore (compare (nameAt d (b .at)) (nameAt d (c .at)))) _ (λ e. no-order r i g (not-before _ e)))
 
-  hash-tells : {n : ℕ} {c : Child} {l : Listed} → Place n c l → Fit Map d a-key (c .at) → Every (OfTree d hive) (hashFault d (keyOf d (c .at)) c)
+  hash-tells : {n : ℕ} {c : Child} {l : Arrival} → Place n c l → Fit Map d a-key (c .at) → Every (OfTree d hive) (hashFault d (keyOf d (c .at)) c)
   unfolding hashFault
   hash-tells at-start g = every-sound (OfTree d hive)
   hash-tells {c = c} (at-first r i) g =
@@ -136,7 +136,7 @@ module _ (d m : List ℕ) (tiles : BinsTile d 0) (mapped : Mapped d m) (hive : H
         (λ b. every-next (OfTree d hive) (listsFault Map d m (keyOf d k)) _ (λ f p. of-lists r (lists-unfit Map d m ruled k f p))
         (λ c. every-unless (OfTree d hive) (eqb (length (children d k)) (keyOf d k .subkeys)) _ (λ p. other-total r (eqb-false _ _ p)))))
 
-  own-tells : {lv : ℕ} {c : Child} {l : Listed} → Place lv c l → Fit Map d a-key (c .at) → (n : ℕ) → lv + n ≡ 513
+  own-tells : {lv : ℕ} {c : Child} {l : Arrival} → Place lv c l → Fit Map d a-key (c .at) → (n : ℕ) → lv + n ≡ 513
       → Every (OfTree d hive) (ownFault d m hive n (keyOf d (c .at)) c l)
   unfolding ownFault
   own-tells {c = c} {l = l} p g n e =
@@ -156,19 +156,19 @@ module _ (d m : List ℕ) (tiles : BinsTile d 0) (mapped : Mapped d m) (hive : H
   flaw-charges Sound p r e = absurd (let z : _≡_ {A = ℕ} 0 1 = cc in omega arith)
   flaw-charges (Flawed f) p r e = (f, let z : refusalOf f ≡ r = cc in sym z, p f refl)
 
-  key-charges : {lv : ℕ} {c : Child} {l : Listed} → Place lv c l → (n : ℕ) → lv + n ≡ 513 → Charges (keyCharge d m hive n c l)
+  key-charges : {lv : ℕ} {c : Child} {l : Arrival} → Place lv c l → (n : ℕ) → lv + n ≡ 513 → Charges (keyCharge d m hive n c l)
   unfolding keyCharge
   key-charges {c = c} {l = l} p n e =
       after-charges (chargeOf (keyFault Map d m (c .at))) _ (flaw-charges (keyFault Map d m (c .at)) (record-tells p))
       (λ s. flaw-charges (ownFault d m hive n (keyOf d (c .at)) c l) (own-tells p (key-fit Map d m ruled (c .at) (clear-of _ s)) n e))
 
   -- what is left of a key's children, and where the first of them is listed
-  record Left (lv : ℕ) (k : Offset) (l : Listed) (cs : List Child) : Type 0 where
+  record Left (lv : ℕ) (k : Offset) (l : Arrival) (cs : List Child) : Type 0 where
     follow : (b c : Child) → Follows b c cs → Follows b c (children d k)
     head : (c : Child) (es : List Child) → cs ≡ c ∷ es → Place (suc lv) c l
 
-  list-charges : {lv : ℕ} {k : Offset} → Reached d (hive .root) lv k → (each : Child → Listed → Charge)
-      → ((c : Child) (l : Listed) → Place (suc lv) c l → Charges (each c l)) → (l : Listed) (cs : List Child) → Left lv k l cs → Charges (listCharge each k l cs)
+  list-charges : {lv : ℕ} {k : Offset} → Reached d (hive .root) lv k → (each : Child → Arrival → Charge)
+      → ((c : Child) (l : Arrival) → Place (suc lv) c l → Charges (each c l)) → (l : Arrival) (cs : List Child) → Left lv k l cs → Charges (listCharge each k l cs)
   unfolding listCharge
   list-charges r each p l [] s = λ f e. absurd (let z : _≡_ {A = ℕ} 0 1 = cc in omega arith)
   list-charges {k = k} r each p l (c ∷ cs) s =
@@ -178,7 +178,7 @@ module _ (d m : List ℕ) (tiles : BinsTile d 0) (mapped : Mapped d m) (hive : H
         head = λ b es q. at-after r (s .follow c b (subst (λ (xs : List Child). Follows c b (c ∷ xs)) (sym q) at-once));
       }))
 
-  tree-charges : (n : ℕ) {lv : ℕ} {c : Child} {l : Listed} → Place lv c l → lv + n ≡ 513 → Charges (treeCharge d m hive n c l)
+  tree-charges : (n : ℕ) {lv : ℕ} {c : Child} {l : Arrival} → Place lv c l → lv + n ≡ 513 → Charges (treeCharge d m hive n c l)
   unfolding treeCharge
   tree-charges zero p e = key-charges p zero e
   tree-charges (suc n) {lv} {c} {l} p e =

@@ -21,10 +21,10 @@ use Rattle.records.specs.Keys.{codesOf}
 use Rattle.records.specs.Lists.{childrenBelow, listsFault}
 use Rattle.values.specs.Lists.{valuesFault}
 use Rattle.tree.specs.declared.Hive.{Hive}
-use Rattle.tree.specs.declared.Listed.{Listed}
-use Rattle.tree.specs.declared.Listed.the-variants.{Start, First, After}
+use Rattle.tree.specs.declared.Arrival.{Arrival}
+use Rattle.tree.specs.declared.Arrival.the-variants.{Start, First, After}
 use Rattle.tree.specs.Tree.{nameAt, isBefore, parentFault, orderFault, placeFault, hashFault, levelFault, totalFault, restFault, ownFault}
-use Rattle.tree.specs.Steps.{ListedFits, Fits, listingFault}
+use Rattle.tree.specs.Steps.{ArrivalFits, Fits, subkeysFault}
 
 module _ (root : Offset) (k : Key) (at p : Offset) where
   pub parent-other : (k .parent .0 ≡ p .0 → ⊥) → parentFault root k at p ≡ Flawed (flaw Parent at)
@@ -44,7 +44,7 @@ module _ (d : List ℕ) (b : Offset) (k : Key) (at : Offset) where
   unfolding orderFault
   order-is o e = rw e
 
-module _ (d : List ℕ) (root : Offset) (k : Key) (at : Offset) (l : Listed) where
+module _ (d : List ℕ) (root : Offset) (k : Key) (at : Offset) (l : Arrival) where
   pub place-start : l ≡ Start → placeFault d root k at l ≡ Sound
   unfolding placeFault
   place-start e = rw e
@@ -61,7 +61,7 @@ module _ (d : List ℕ) (root : Offset) (k : Key) (at : Offset) (l : Listed) whe
   unfolding placeFault
   place-on e q = rw e (on _ _ q)
 
-pub sibling-fits : (d : List ℕ) (l : Listed) {p b : Offset} → ListedFits d l → l ≡ After p b → Fits d b
+pub sibling-fits : (d : List ℕ) (l : Arrival) {p b : Offset} → ArrivalFits d l → l ≡ After p b → Fits d b
 sibling-fits d l f e = rw e at f
 
 module _ (d : List ℕ) (k : Key) (c : Child) where
@@ -78,38 +78,38 @@ module _ (d : List ℕ) (k : Key) (c : Child) where
   hash-bad e q = rw (e, ne-eqb (c .hash) (hashOf (codesOf d (k .name))) (λ s. q (sym s)))
 
 module _ (d m : List ℕ) (k : Key) (at : Offset) where
-  pub listing-stop : {f : Flaw} → listsFault Map d m k ≡ Flawed f → listingFault d m k at ≡ Flawed f
-  unfolding listingFault
-  listing-stop e = stop _ _ e
+  pub subkeys-stop : {f : Flaw} → listsFault Map d m k ≡ Flawed f → subkeysFault d m k at ≡ Flawed f
+  unfolding subkeysFault
+  subkeys-stop e = stop _ _ e
 
-  pub listing-other : listsFault Map d m k ≡ Sound → (length (childrenBelow d k) ≡ k .subkeys → ⊥) → listingFault d m k at ≡ Flawed (flaw Parent at)
-  unfolding listingFault totalFault
-  listing-other e q = on _ _ e ∙ fails (flaw Parent at) (ne-eqb _ _ q)
+  pub subkeys-other : listsFault Map d m k ≡ Sound → (length (childrenBelow d k) ≡ k .subkeys → ⊥) → subkeysFault d m k at ≡ Flawed (flaw Parent at)
+  unfolding subkeysFault totalFault
+  subkeys-other e q = on _ _ e ∙ fails (flaw Parent at) (ne-eqb _ _ q)
 
-  pub listing-good : listsFault Map d m k ≡ Sound → length (childrenBelow d k) ≡ k .subkeys → listingFault d m k at ≡ Sound
-  unfolding listingFault totalFault
-  listing-good e q = on _ _ e ∙ holds (flaw Parent at) (eq-eqb _ _ q)
+  pub subkeys-good : listsFault Map d m k ≡ Sound → length (childrenBelow d k) ≡ k .subkeys → subkeysFault d m k at ≡ Sound
+  unfolding subkeysFault totalFault
+  subkeys-good e q = on _ _ e ∙ holds (flaw Parent at) (eq-eqb _ _ q)
 
   module _ (minor n : ℕ) where
     pub rest-level : n ≡ 0 → restFault d m minor n k at ≡ Flawed (flaw Level at)
     unfolding restFault levelFault
     rest-level e = rw e (stop _ _ refl)
 
-    rest-past : (n ≡ 0 → ⊥) → restFault d m minor n k at ≡ valuesFault Map d m minor k next listingFault d m k at
-    unfolding restFault levelFault listingFault
+    rest-past : (n ≡ 0 → ⊥) → restFault d m minor n k at ≡ valuesFault Map d m minor k next subkeysFault d m k at
+    unfolding restFault levelFault subkeysFault
     rest-past = by n
       where
-        by : (i : ℕ) → (i ≡ 0 → ⊥) → restFault d m minor i k at ≡ valuesFault Map d m minor k next listingFault d m k at
+        by : (i : ℕ) → (i ≡ 0 → ⊥) → restFault d m minor i k at ≡ valuesFault Map d m minor k next subkeysFault d m k at
         by zero e = absurd (e refl)
         by (suc i) e = on _ _ refl
 
     pub rest-values : (n ≡ 0 → ⊥) → {f : Flaw} → valuesFault Map d m minor k ≡ Flawed f → restFault d m minor n k at ≡ Flawed f
     rest-values e q = rest-past e ∙ stop _ _ q
 
-    pub rest-lists : (n ≡ 0 → ⊥) → valuesFault Map d m minor k ≡ Sound → restFault d m minor n k at ≡ listingFault d m k at
+    pub rest-lists : (n ≡ 0 → ⊥) → valuesFault Map d m minor k ≡ Sound → restFault d m minor n k at ≡ subkeysFault d m k at
     rest-lists e q = rest-past e ∙ on _ _ q
 
-module _ (d m : List ℕ) (hive : Hive) (n : ℕ) (k : Key) (c : Child) (l : Listed) where
+module _ (d m : List ℕ) (hive : Hive) (n : ℕ) (k : Key) (c : Child) (l : Arrival) where
   pub own-place : {f : Flaw} → placeFault d (hive .root) k (c .at) l ≡ Flawed f → ownFault d m hive n k c l ≡ Flawed f
   unfolding ownFault
   own-place e = stop _ _ e

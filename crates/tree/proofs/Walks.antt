@@ -22,8 +22,8 @@ use Rattle.records.specs.Places.{noChild}
 use Rattle.records.proofs.LawsKey.{key-room, name-room}
 use Rattle.tree.specs.declared.Count.{Count}
 use Rattle.tree.specs.declared.Hive.{Hive}
-use Rattle.tree.specs.declared.Listed.{Listed}
-use Rattle.tree.specs.declared.Listed.the-variants.{First, After}
+use Rattle.tree.specs.declared.Arrival.{Arrival}
+use Rattle.tree.specs.declared.Arrival.the-variants.{First, After}
 use Rattle.tree.specs.declared.Walk.the-variants.{Counted, Refused}
 use Rattle.tree.specs.Tree.{Charge, Free, Of, _after_, ownFault, keyCharge, listCharge, treeCharge, joined, keysIn, tally, tallied, walked, keyAnswer, listAnswer}
 use Rattle.tree.specs.Steps.{Fits, lastOf}
@@ -48,59 +48,59 @@ joined-append f [] es = refl
 joined-append f (c ∷ cs) es = ap (λ (l : List Offset). f (c .at) ++ l) (joined-append f cs es) ∙ sym (append-assoc (f (c .at)) (joined f cs) (joined f es))
 
 -- where the next key stands after some children
-lastListed : Offset → Listed → List Child → Listed
-lastListed key l [] = l
-lastListed key l (c ∷ cs) = lastListed key (After key (c .at)) cs
+lastArrival : Offset → Arrival → List Child → Arrival
+lastArrival key l [] = l
+lastArrival key l (c ∷ cs) = lastArrival key (After key (c .at)) cs
 
 last-at : (c e : Child) (cs : List Child) → getD (c ∷ e ∷ cs) (length (c ∷ e ∷ cs) - 1) noChild ≡ getD (e ∷ cs) (length (e ∷ cs) - 1) noChild
 last-at c e cs =
     let p : length (c ∷ e ∷ cs) - 1 ≡ suc (length (e ∷ cs) - 1) = omega arith in
     ap (λ (i : ℕ). getD (c ∷ e ∷ cs) i noChild) p
 
-last-listed : (key : Offset) (l : Listed) (cs : List Child) → 0 < length cs → lastListed key l cs ≡ After key (getD cs (length cs - 1) noChild .at)
-unfolding lastListed
-last-listed key l [] p = absurd (omega arith)
-last-listed key l (c ∷ []) p = refl
-last-listed key l (c ∷ e ∷ cs) p =
-    last-listed key (After key (c .at)) (e ∷ cs) (omega arith) ∙ ap (λ (x : Child). After key (x .at)) (sym (last-at c e cs))
+last-arrival : (key : Offset) (l : Arrival) (cs : List Child) → 0 < length cs → lastArrival key l cs ≡ After key (getD cs (length cs - 1) noChild .at)
+unfolding lastArrival
+last-arrival key l [] p = absurd (omega arith)
+last-arrival key l (c ∷ []) p = refl
+last-arrival key l (c ∷ e ∷ cs) p =
+    last-arrival key (After key (c .at)) (e ∷ cs) (omega arith) ∙ ap (λ (x : Child). After key (x .at)) (sym (last-at c e cs))
 
-charge-append : (each : Child → Listed → Charge) (key : Offset) (l : Listed) (cs es : List Child)
-    → listCharge each key l (cs ++ es) ≡ listCharge each key l cs after listCharge each key (lastListed key l cs) es
-unfolding listCharge lastListed _after_
+charge-append : (each : Child → Arrival → Charge) (key : Offset) (l : Arrival) (cs es : List Child)
+    → listCharge each key l (cs ++ es) ≡ listCharge each key l cs after listCharge each key (lastArrival key l cs) es
+unfolding listCharge lastArrival _after_
 charge-append each key l [] es = refl
 charge-append each key l (c ∷ cs) es =
     ap (λ (x : Charge). each c l after x) (charge-append each key (After key (c .at)) cs es)
-    ∙ sym (after-assoc (each c l) (listCharge each key (After key (c .at)) cs) (listCharge each key (lastListed key (After key (c .at)) cs) es))
+    ∙ sym (after-assoc (each c l) (listCharge each key (After key (c .at)) cs) (listCharge each key (lastArrival key (After key (c .at)) cs) es))
 
 module _ (d m : List ℕ) (hive : Hive) where
   -- ---- a key
 
-  pub key-record : (n : ℕ) (c : Child) (l : Listed) (t : Count) {f : Flaw} {r : Refusal} → keyFault Map d m (c .at) ≡ Flawed f → r ≡ refusalOf f
+  pub key-record : (n : ℕ) (c : Child) (l : Arrival) (t : Count) {f : Flaw} {r : Refusal} → keyFault Map d m (c .at) ≡ Flawed f → r ≡ refusalOf f
       → keyAnswer d m hive n c l t ≡ Refused r
   unfolding keyAnswer treeCharge keyCharge _after_
   key-record zero c l t e q = rw (e, q)
   key-record (suc n) c l t e q = rw (e, q)
 
-  pub key-own : (n : ℕ) (c : Child) (l : Listed) (t : Count) (k : Key) {f : Flaw} {r : Refusal} → k ≡ keyOf d (c .at)
+  pub key-own : (n : ℕ) (c : Child) (l : Arrival) (t : Count) (k : Key) {f : Flaw} {r : Refusal} → k ≡ keyOf d (c .at)
       → keyFault Map d m (c .at) ≡ Sound → ownFault d m hive n k c l ≡ Flawed f → r ≡ refusalOf f → keyAnswer d m hive n c l t ≡ Refused r
   unfolding keyAnswer treeCharge keyCharge _after_
   key-own zero c l t k i e p q = let s = rw i at p in rw (e, s, q)
   key-own (suc n) c l t k i e p q = let s = rw i at p in rw (e, s, q)
 
-  own-zero : (k : Key) (c : Child) (l : Listed) → ownFault d m hive 0 k c l ≡ Sound → ⊥
+  own-zero : (k : Key) (c : Child) (l : Arrival) → ownFault d m hive 0 k c l ≡ Sound → ⊥
   own-zero k c l e = level-zero d m hive c (own-parts d m hive 0 k c l e .level)
 
-  pub level-left : (n : ℕ) (k : Key) (c : Child) (l : Listed) → ownFault d m hive n k c l ≡ Sound → 1 ≤ n
+  pub level-left : (n : ℕ) (k : Key) (c : Child) (l : Arrival) → ownFault d m hive n k c l ≡ Sound → 1 ≤ n
   level-left zero k c l e = absurd (own-zero k c l e)
   level-left (suc n) k c l e = omega arith
 
-  key-on-suc : (n : ℕ) (c : Child) (l : Listed) (t : Count) → keyFault Map d m (c .at) ≡ Sound
+  key-on-suc : (n : ℕ) (c : Child) (l : Arrival) (t : Count) → keyFault Map d m (c .at) ≡ Sound
       → ownFault d m hive (suc n) (keyOf d (c .at)) c l ≡ Sound
       → keyAnswer d m hive (suc n) c l t ≡ listAnswer d m hive n (c .at) (First (c .at)) (children d (c .at)) (tally t (keyOf d (c .at)))
   unfolding keyAnswer listAnswer treeCharge keyCharge keysIn tallied _after_
   key-on-suc n c l t e p = rw (e, p)
 
-  pub key-on : (n : ℕ) (c : Child) (l : Listed) (t u : Count) (k : Key) → k ≡ keyOf d (c .at) → keyFault Map d m (c .at) ≡ Sound
+  pub key-on : (n : ℕ) (c : Child) (l : Arrival) (t u : Count) (k : Key) → k ≡ keyOf d (c .at) → keyFault Map d m (c .at) ≡ Sound
       → ownFault d m hive n k c l ≡ Sound → u ≡ tally t k
       → keyAnswer d m hive n c l t ≡ listAnswer d m hive (n - 1) (c .at) (First (c .at)) (childrenBelow d k) u
   key-on zero c l t u k i e p q = absurd (own-zero k c l p)
@@ -109,31 +109,31 @@ module _ (d m : List ℕ) (hive : Hive) where
   -- ---- a list, key by key
 
   module _ (n : ℕ) (key : Offset) where
-    stop-cons : (l : Listed) (c : Child) (cs : List Child) (t : Count) {f : Refusal} → keyAnswer d m hive n c l t ≡ Refused f
+    stop-cons : (l : Arrival) (c : Child) (cs : List Child) (t : Count) {f : Refusal} → keyAnswer d m hive n c l t ≡ Refused f
         → listAnswer d m hive n key l (c ∷ cs) t ≡ Refused f
     unfolding keyAnswer listAnswer listCharge _after_
     stop-cons l c cs t e = rw (refused-of (treeCharge d m hive n c l) _ e)
 
-    on-cons : (l : Listed) (c : Child) (cs : List Child) (t : Count) {u : Count} → keyAnswer d m hive n c l t ≡ Counted u
+    on-cons : (l : Arrival) (c : Child) (cs : List Child) (t : Count) {u : Count} → keyAnswer d m hive n c l t ≡ Counted u
         → listAnswer d m hive n key l (c ∷ cs) t ≡ listAnswer d m hive n key (After key (c .at)) cs u
     unfolding keyAnswer listAnswer listCharge joined _after_
     on-cons l c cs t e =
         let x = counted-free (treeCharge d m hive n c l) _ e in
         rw (x .0, tallied-append d t (keysIn d n (c .at)) (joined (keysIn d n) cs), x .1)
 
-    pub end-nil : (l : Listed) (t : Count) → listAnswer d m hive n key l [] t ≡ Counted t
+    pub end-nil : (l : Arrival) (t : Count) → listAnswer d m hive n key l [] t ≡ Counted t
     unfolding listAnswer listCharge joined tallied
     end-nil l t = refl
 
     -- one list after another
-    stop-append : (l : Listed) (cs es : List Child) (t : Count) {f : Refusal} → listAnswer d m hive n key l cs t ≡ Refused f
+    stop-append : (l : Arrival) (cs es : List Child) (t : Count) {f : Refusal} → listAnswer d m hive n key l cs t ≡ Refused f
         → listAnswer d m hive n key l (cs ++ es) t ≡ Refused f
     unfolding listAnswer _after_
     stop-append l cs es t e =
         rw (charge-append (treeCharge d m hive n) key l cs es, refused-of (listCharge (treeCharge d m hive n) key l cs) _ e)
 
-    on-append : (l : Listed) (cs es : List Child) (t : Count) {u : Count} → listAnswer d m hive n key l cs t ≡ Counted u
-        → listAnswer d m hive n key l (cs ++ es) t ≡ listAnswer d m hive n key (lastListed key l cs) es u
+    on-append : (l : Arrival) (cs es : List Child) (t : Count) {u : Count} → listAnswer d m hive n key l cs t ≡ Counted u
+        → listAnswer d m hive n key l (cs ++ es) t ≡ listAnswer d m hive n key (lastArrival key l cs) es u
     unfolding listAnswer _after_
     on-append l cs es t e =
         let x = counted-free (listCharge (treeCharge d m hive n) key l cs) _ e in
@@ -146,7 +146,7 @@ module _ (d m : List ℕ) (hive : Hive) where
         )
 
     -- the loop over a leaf: at index i, after l and with the count t
-    module _ (l₀ : Listed) (t₀ : Count) (cs : List Child) (i : ℕ) (l : Listed) (t : Count)
+    module _ (l₀ : Arrival) (t₀ : Count) (cs : List Child) (i : ℕ) (l : Arrival) (t : Count)
         (inv : listAnswer d m hive n key l₀ cs t₀ ≡ listAnswer d m hive n key l (drop i cs) t) where
       pub leaf-stop : (c : Child) {f : Refusal} → i < length cs → c ≡ getD cs i noChild → keyAnswer d m hive n c l t ≡ Refused f
           → listAnswer d m hive n key l₀ cs t₀ ≡ Refused f
@@ -165,7 +165,7 @@ module _ (d m : List ℕ) (hive : Hive) where
     unfolding childrenIn
     leaves-cons os j o p q = rw (drop-cons os j nowhere p, ← q, add-one j)
 
-    module _ (l₀ : Listed) (t₀ : Count) (os : List Offset) (j : ℕ) (l : Listed) (t : Count)
+    module _ (l₀ : Arrival) (t₀ : Count) (os : List Offset) (j : ℕ) (l : Arrival) (t : Count)
         (inv : listAnswer d m hive n key l₀ (childrenIn d os) t₀ ≡ listAnswer d m hive n key l (childrenIn d (drop j os)) t) where
       pub leaves-stop : (o : Offset) {f : Refusal} → j < length os → o ≡ getD os j nowhere
           → listAnswer d m hive n key l (leafChildren (dataAt d o)) t ≡ Refused f → listAnswer d m hive n key l₀ (childrenIn d os) t₀ ≡ Refused f
@@ -177,7 +177,7 @@ module _ (d m : List ℕ) (hive : Hive) where
       unfolding lastOf
       leaves-on o k p q some last e =
           inv
-          ∙ rw (leaves-cons os j o p q, last, ← last-listed key l (leafChildren (dataAt d o)) some)
+          ∙ rw (leaves-cons os j o p q, last, ← last-arrival key l (leafChildren (dataAt d o)) some)
           (on-append l (leafChildren (dataAt d o)) (childrenIn d (drop (j + 1) os)) t e)
 
       pub leaves-end : length os ≤ j → listAnswer d m hive n key l₀ (childrenIn d os) t₀ ≡ Counted t
@@ -189,14 +189,14 @@ module _ (d m : List ℕ) (hive : Hive) where
     fits : (o : Offset) → keyFault Map d m o ≡ Sound → Fits d o
     fits o e = record { room = key-room Map d m o e; name = name-room Map d m o e }
 
-    free-fits : (c : Child) (l : Listed) → treeCharge d m hive n c l ≡ Free → Fits d (c .at)
+    free-fits : (c : Child) (l : Arrival) → treeCharge d m hive n c l ≡ Free → Fits d (c .at)
     free-fits c l e = fits (c .at) (key-parts d m hive n c l (key-free d m hive n c l e) .0)
 
-    pub key-fits : (c : Child) (l : Listed) (t : Count) {u : Count} → keyAnswer d m hive n c l t ≡ Counted u → Fits d (c .at)
+    pub key-fits : (c : Child) (l : Arrival) (t : Count) {u : Count} → keyAnswer d m hive n c l t ≡ Counted u → Fits d (c .at)
     unfolding keyAnswer
     key-fits c l t e = free-fits c l (counted-free (treeCharge d m hive n c l) _ e .0)
 
-    last-fits : (l : Listed) (cs : List Child) → 0 < length cs → listCharge (treeCharge d m hive n) key l cs ≡ Free → Fits d (getD cs (length cs - 1) noChild .at)
+    last-fits : (l : Arrival) (cs : List Child) → 0 < length cs → listCharge (treeCharge d m hive n) key l cs ≡ Free → Fits d (getD cs (length cs - 1) noChild .at)
     unfolding listCharge
     last-fits l [] p e = absurd (omega arith)
     last-fits l (c ∷ []) p e = free-fits c l (both-free _ _ e .0)
@@ -204,7 +204,7 @@ module _ (d m : List ℕ) (hive : Hive) where
         subst (λ (x : Child). Fits d (x .at)) (sym (last-at c f cs))
         (last-fits (After key (c .at)) (f ∷ cs) (omega arith) (both-free (treeCharge d m hive n c l) _ e .1))
 
-    pub leaf-fits : (l : Listed) (o : Offset) (t : Count) {u : Count} → 0 < length (leafChildren (dataAt d o))
+    pub leaf-fits : (l : Arrival) (o : Offset) (t : Count) {u : Count} → 0 < length (leafChildren (dataAt d o))
         → listAnswer d m hive n key l (leafChildren (dataAt d o)) t ≡ Counted u → Fits d (lastOf d o)
     unfolding listAnswer lastOf
     leaf-fits l o t p e =

@@ -16,8 +16,8 @@ use Rattle.records.specs.declared.Key.{Key}
 use Rattle.records.specs.Keys.{keyOf, NameIn}
 use Rattle.records.specs.Places.{noChild}
 use Rattle.records.specs.Lists.{leafChildren, listsFault}
-use Rattle.tree.specs.declared.Listed.{Listed}
-use Rattle.tree.specs.declared.Listed.the-variants.{Start, First, After}
+use Rattle.tree.specs.declared.Arrival.{Arrival}
+use Rattle.tree.specs.declared.Arrival.the-variants.{Start, First, After}
 use Rattle.tree.specs.declared.Checked.{Checked}
 use Rattle.tree.specs.Tree.{totalFault, treeCharge, levels, hiveOf, rootChild, reportOf, answer}
 
@@ -31,14 +31,14 @@ pub record Fits (d : List ℕ) (o : Offset) : Type 0 where
   pub name : NameLies d (keyOf d o)
 
 -- the sibling before a key was tested
-abbrev pub ListedFits : List ℕ → Listed → Type 0
-ListedFits d Start = Unit
-ListedFits d (First p) = Unit
-ListedFits d (After p b) = Fits d b
+abbrev pub ArrivalFits : List ℕ → Arrival → Type 0
+ArrivalFits d Start = Unit
+ArrivalFits d (First p) = Unit
+ArrivalFits d (After p b) = Fits d b
 
 -- "all its lists and the total"
-unfoldable pub listingFault : List ℕ → List ℕ → Key → Offset → Verdict
-listingFault d m k at = listsFault Map d m k next totalFault d k at
+unfoldable pub subkeysFault : List ℕ → List ℕ → Key → Offset → Verdict
+subkeysFault d m k at = listsFault Map d m k next totalFault d k at
 
 -- the last key of a leaf
 unfoldable pub lastOf : List ℕ → Offset → Offset

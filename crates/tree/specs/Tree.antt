@@ -31,8 +31,8 @@ use Rattle.tree.specs.declared.Checked.{Checked}
 use Rattle.tree.specs.declared.Checked.the-variants.{Accepted, Refused}
 use Rattle.tree.specs.declared.Count.{Count}
 use Rattle.tree.specs.declared.Hive.{Hive}
-use Rattle.tree.specs.declared.Listed.{Listed}
-use Rattle.tree.specs.declared.Listed.the-variants.{Start, First, After}
+use Rattle.tree.specs.declared.Arrival.{Arrival}
+use Rattle.tree.specs.declared.Arrival.the-variants.{Start, First, After}
 use Rattle.tree.specs.declared.Report.{Report}
 use Rattle.tree.specs.declared.Walk.{Walk}
 use Rattle.tree.specs.declared.Walk.the-variants.{Counted, Refused as Stopped}
@@ -73,7 +73,7 @@ unfoldable pub orderFault : List ℕ → Offset → Key → Offset → Verdict
 orderFault d sibling k at = unless (isBefore (compare (nameAt d sibling) (codesOf d (k .name)))) (flaw Order at)
 
 -- where the key was listed: "parent or root listed (neither at the start); order"
-unfoldable pub placeFault : List ℕ → Offset → Key → Offset → Listed → Verdict
+unfoldable pub placeFault : List ℕ → Offset → Key → Offset → Arrival → Verdict
 placeFault d root k at Start = Sound
 placeFault d root k at (First p) = parentFault root k at p
 placeFault d root k at (After p b) = parentFault root k at p next orderFault d b k at
@@ -100,26 +100,26 @@ restFault d m minor n k at =
     next totalFault d k at
 
 -- all of a key's tests but that of its record
-unfoldable pub ownFault : List ℕ → List ℕ → Hive → ℕ → Key → Child → Listed → Verdict
+unfoldable pub ownFault : List ℕ → List ℕ → Hive → ℕ → Key → Child → Arrival → Verdict
 ownFault d m hive n k c l =
     placeFault d (hive .root) k (c .at) l
     next hashFault d k c
     next restFault d m (hive .minor) n k (c .at)
 
-unfoldable pub keyCharge : List ℕ → List ℕ → Hive → ℕ → Child → Listed → Charge
+unfoldable pub keyCharge : List ℕ → List ℕ → Hive → ℕ → Child → Arrival → Charge
 keyCharge d m hive n c l = chargeOf (keyFault Map d m (c .at)) after chargeOf (ownFault d m hive n (keyOf d (c .at)) c l)
 
 -- "A key is checked by way of its lists, and a list by way of its keys."
-unfoldable pub listCharge : (Child → Listed → Charge) → Offset → Listed → List Child → Charge
+unfoldable pub listCharge : (Child → Arrival → Charge) → Offset → Arrival → List Child → Charge
 listCharge each key l [] = Free
 listCharge each key l (c ∷ cs) = each c l after listCharge each key (After key (c .at)) cs
 
-unfoldable pub treeCharge : List ℕ → List ℕ → Hive → ℕ → Child → Listed → Charge
+unfoldable pub treeCharge : List ℕ → List ℕ → Hive → ℕ → Child → Arrival → Charge
 treeCharge d m hive zero c l = keyCharge d m hive zero c l
 treeCharge d m hive (suc n) c l =
     keyCharge d m hive (suc n) c l after listCharge (treeCharge d m hive n) (c .at) (First (c .at)) (children d (c .at))
 
--- the keys of the tree below a key with so many levels, itself first: a pre-order listing
+-- the keys of the tree below a key with so many levels, itself first: in pre-order
 unfoldable pub joined : (Offset → List Offset) → List Child → List Offset
 joined f [] = []
 joined f (c ∷ cs) = f (c .at) ++ joined f cs
@@ -182,8 +182,8 @@ abbrev pub walked : Charge → Count → Walk
 walked Free t = Counted t
 walked (Of f) t = Stopped f
 
-unfoldable pub keyAnswer : List ℕ → List ℕ → Hive → ℕ → Child → Listed → Count → Walk
+unfoldable pub keyAnswer : List ℕ → List ℕ → Hive → ℕ → Child → Arrival → Count → Walk
 keyAnswer d m hive n c l t = walked (treeCharge d m hive n c l) (tallied d t (keysIn d n (c .at)))
 
-unfoldable pub listAnswer : List ℕ → List ℕ → Hive → ℕ → Offset → Listed → List Child → Count → Walk
+unfoldable pub listAnswer : List ℕ → List ℕ → Hive → ℕ → Offset → Arrival → List Child → Count → Walk
 listAnswer d m hive n key l cs t = walked (listCharge (treeCharge d m hive n) key l cs) (tallied d t (joined (keysIn d n) cs))

@@ -18,7 +18,7 @@ ghost use Rattle.cells.specs.declared.Rule.the-variants.{Map};
 ghost use Rattle.fields.specs.declared.Verdict.the-variants.{Sound};
 ghost use Rattle.records.specs.Lists.{leafChildren, leafFault, childrenBelow, listsFault};
 ghost use Rattle.tree.specs.Tree.{parentFault, orderFault, placeFault, hashFault, restFault, ownFault, tally as tallyOf, keyAnswer, listAnswer, checkAnswer};
-ghost use Rattle.tree.specs.Steps.{NameLies, Fits, ListedFits, listingFault, lastOf, Ready, walkAnswer};
+ghost use Rattle.tree.specs.Steps.{NameLies, Fits, ArrivalFits, subkeysFault, lastOf, Ready, walkAnswer};
 
 // "The check reports bins, keys reached, values (one for each value list element of those keys), used bytes and free bytes"
 pub struct Report {
@@ -41,7 +41,7 @@ pub struct Hive {
 }
 
 // Where a key was found: at the start, first below a key, or below a key after a sibling.
-pub enum Listed {
+pub enum Arrival {
     Start,
     First(Offset),
     After(Offset, Offset),
@@ -88,15 +88,15 @@ fn order_flaw(bins: &[u8], sibling: Offset, k: Key, at: Offset) -> Verdict
 }
 
 // Where the key was listed: "parent or root listed (neither at the start); order".
-fn place_flaw(bins: &[u8], root: Offset, k: Key, at: Offset, l: Listed) -> Verdict
+fn place_flaw(bins: &[u8], root: Offset, k: Key, at: Offset, l: Arrival) -> Verdict
     requires { ⌜ NameLies (now bins) k ⌝ }
-    requires { ⌜ ListedFits (now bins) l ⌝ }
+    requires { ⌜ ArrivalFits (now bins) l ⌝ }
     ensures { λ r. ⌜ r ≡ placeFault (now (bins .entry)) root k at l ⌝ }
 {
     match l {
-        Listed::Start => Verdict::Sound,
-        Listed::First(p) => parent_flaw(root, k, at, p),
-        Listed::After(p, b) => match parent_flaw(root, k, at, p) {
+        Arrival::Start => Verdict::Sound,
+        Arrival::First(p) => parent_flaw(root, k, at, p),
+        Arrival::After(p, b) => match parent_flaw(root, k, at, p) {
             Verdict::Flawed(f) => Verdict::Flawed(f),
             Verdict::Sound => order_flaw(bins, b, k, at),
         },
@@ -119,8 +119,8 @@ fn hash_flaw(bins: &[u8], k: Key, c: Child) -> Verdict
 }
 
 // "all its lists and the total"
-fn listing_flaw(bins: &[u8], map: &[u8], k: Key, at: Offset) -> Verdict
-    ensures { λ r. ⌜ r ≡ listingFault (now (bins .entry)) (now (map .entry)) k at ⌝ }
+fn subkeys_flaw(bins: &[u8], map: &[u8], k: Key, at: Offset) -> Verdict
+    ensures { λ r. ⌜ r ≡ subkeysFault (now (bins .entry)) (now (map .entry)) k at ⌝ }
 {
     match records::total_of(bins, map, Rule::Map, k) {
         Totalled::Flawed(f) => Verdict::Flawed(f),
@@ -142,7 +142,7 @@ fn rest_flaw(bins: &[u8], map: &[u8], minor: u32, levels: u32, k: Key, at: Offse
     }
     match values::values_flaw(bins, map, Rule::Map, minor, k) {
         Verdict::Flawed(f) => Verdict::Flawed(f),
-        Verdict::Sound => listing_flaw(bins, map, k, at),
+        Verdict::Sound => subkeys_flaw(bins, map, k, at),
     }
 }
 
@@ -154,10 +154,10 @@ fn own_flaw(
     levels: u32,
     k: Key,
     c: Child,
-    l: Listed,
+    l: Arrival,
 ) -> Verdict
     requires { ⌜ NameLies (now bins) k ⌝ }
-    requires { ⌜ ListedFits (now bins) l ⌝ }
+    requires { ⌜ ArrivalFits (now bins) l ⌝ }
     ensures { λ r. ⌜ r ≡ ownFault (now (bins .entry)) (now (map .entry)) hive levels k c l ⌝ }
 {
     let at = c.at;
@@ -196,11 +196,11 @@ fn check_key(
     map: &[u8],
     hive: Hive,
     c: Child,
-    l: Listed,
+    l: Arrival,
     levels: u32,
     t: Count,
 ) -> Walk
-    requires { ⌜ ListedFits (now bins) l ⌝ }
+    requires { ⌜ ArrivalFits (now bins) l ⌝ }
     ensures { λ r. ⌜ r ≡ keyAnswer (now (bins .entry)) (now (map .entry)) hive levels c l t ⌝ }
 {
     let at = c.at;
@@ -227,14 +227,14 @@ fn check_list(
     from: Count,
 ) -> Walk
     requires { ⌜ listsFault Map (now bins) (now map) k ≡ Sound ⌝ }
-    ensures { λ r. ⌜ r ≡ listAnswer (now (bins .entry)) (now (map .entry)) hive levels key (Listed.First key) (childrenBelow (now (bins .entry)) k) from ⌝ }
+    ensures { λ r. ⌜ r ≡ listAnswer (now (bins .entry)) (now (map .entry)) hive levels key (Arrival.First key) (childrenBelow (now (bins .entry)) k) from ⌝ }
 {
     if k.subkeys == 0 {
         return Walk::Counted(from);
     }
     let ls = records::leaves_fields(bins, k.list);
     let mut t = from;
-    let mut l = Listed::First(key);
+    let mut l = Arrival::First(key);
     let mut j: usize = 0;
     while j < ls.count {
         let o = records::leaf_offset(bins, ls, j);
@@ -246,7 +246,7 @@ fn check_list(
             }
         }
         let last = last_of(bins, map, o);
-        l = Listed::After(key, last);
+        l = Arrival::After(key, last);
         j += 1;
     }
     Walk::Counted(t)
@@ -259,12 +259,12 @@ fn check_leaf(
     hive: Hive,
     key: Offset,
     o: Offset,
-    first: Listed,
+    first: Arrival,
     levels: u32,
     from: Count,
 ) -> Walk
     requires { ⌜ leafFault Map (now bins) (now map) o ≡ Sound ⌝ }
-    requires { ⌜ ListedFits (now bins) first ⌝ }
+    requires { ⌜ ArrivalFits (now bins) first ⌝ }
     ensures { λ r. ⌜ r ≡ listAnswer (now (bins .entry)) (now (map .entry)) hive levels key first (leafChildren (dataAt (now (bins .entry)) o)) from ⌝ }
 {
     let leaf = records::leaf_fields(bins, o);
@@ -281,7 +281,7 @@ fn check_leaf(
             }
         }
         let at = c.at;
-        l = Listed::After(key, at);
+        l = Arrival::After(key, at);
         i += 1;
     }
     Walk::Counted(t)
@@ -305,7 +305,7 @@ fn walk_tree(hive: &[u8], map: &[u8], t: Tally) -> Checked
         map,
         Hive { minor, root },
         start,
-        Listed::Start,
+        Arrival::Start,
         513,
         none,
     ) {

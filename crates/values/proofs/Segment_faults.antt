@@ -22,20 +22,20 @@ use Rattle.cells.specs.declared.Rule.{Rule}
 use Rattle.cells.specs.Named.{cellOf, dataOf, dataAt}
 use Rattle.cells.proofs.Naming.{cell-data-at}
 use Rattle.values.specs.declared.Entries.{Entries}
-use Rattle.values.specs.declared.Listing.the-variants as listedAs
-use Rattle.values.specs.Entries.{entriesAt, Room, listing}
+use Rattle.values.specs.declared.Entered.the-variants as enteredAs
+use Rattle.values.specs.Entries.{entriesAt, Room, entered}
 use Rattle.values.specs.Segments.{roomFault, segmentsFor, isDb, dbFault, segmentList, segmentsIn, segmentsOf, segmentFault, segmentListFault, segmentsFault}
 use Rattle.values.proofs.Cell_tests.{lacks, passes, refuses}
 use Rattle.values.proofs.Rooms.{roomy}
 
 -- a list that is whole, and one that is not
-pub listed : (v : Verdict) (x : Entries) {e : Entries} → listing v x ≡ listedAs.Whole e → (v ≡ Sound) × (x ≡ e)
-listed Sound x e = (refl, cc)
-listed (Flawed f) x e = absurd (let z : _≡_ {A = ℕ} 0 1 = cc in omega arith)
+pub entered-whole : (v : Verdict) (x : Entries) {e : Entries} → entered v x ≡ enteredAs.Whole e → (v ≡ Sound) × (x ≡ e)
+entered-whole Sound x e = (refl, cc)
+entered-whole (Flawed f) x e = absurd (let z : _≡_ {A = ℕ} 0 1 = cc in omega arith)
 
-pub unlisted : (v : Verdict) (x : Entries) {f : Flaw} → listing v x ≡ listedAs.Flawed f → v ≡ Flawed f
-unlisted Sound x e = absurd (let z : _≡_ {A = ℕ} 0 1 = cc in omega arith)
-unlisted (Flawed g) x e = cc
+pub entered-flawed : (v : Verdict) (x : Entries) {f : Flaw} → entered v x ≡ enteredAs.Flawed f → v ≡ Flawed f
+entered-flawed Sound x e = absurd (let z : _≡_ {A = ℕ} 0 1 = cc in omega arith)
+entered-flawed (Flawed g) x e = cc
 
 pub db-long : (r : List ℕ) (size : ℕ) → isDb r size ≡ true → 8 ≤ length r
 unfolding isDb
@@ -58,8 +58,8 @@ module _ (rule : Rule) (d m : List ℕ) (o : Offset) (size : ℕ) where
 
     -- what is left is the segment list
     pub db-list : isDb r size ≡ true → (l n : ℕ) → l ≡ u32At r 4 → n ≡ segmentsFor size
-        → listing (roomFault rule d m (record { 0 = l }) (4 * n)) (entriesAt (record { 0 = l }) n)
-        ≡ listing (segmentListFault rule d m o size) (entriesAt (segmentList d o) (segmentsFor size))
+        → entered (roomFault rule d m (record { 0 = l }) (4 * n)) (entriesAt (record { 0 = l }) n)
+        ≡ entered (segmentListFault rule d m o size) (entriesAt (segmentList d o) (segmentsFor size))
     unfolding segmentListFault dbFault
     db-list p l n at count =
         let f = on _ (roomFault rule d m (segmentList d o) (4 * segmentsFor size)) (passes (λ r. isDb r size) rule d m o e r q p) in

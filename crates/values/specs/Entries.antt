@@ -8,8 +8,8 @@ use Rattle.fields.specs.declared.Verdict.the-variants.{Sound, Flawed}
 use Rattle.cells.specs.Named.{dataAt}
 use Rattle.records.specs.Offsets.{offsetsAt}
 use Rattle.values.specs.declared.Entries.{Entries}
-use Rattle.values.specs.declared.Listing.{Listing}
-use Rattle.values.specs.declared.Listing.the-variants as listedAs
+use Rattle.values.specs.declared.Entered.{Entered}
+use Rattle.values.specs.declared.Entered.the-variants as enteredAs
 
 -- n elements from the start of a cell's data on
 abbrev pub entriesAt : Offset → ℕ → Entries
@@ -23,6 +23,6 @@ unfoldable pub entriesOf : List ℕ → Entries → List Offset
 entriesOf d e = offsetsAt (dataAt d (e .cell)) 0 (e .count)
 
 -- where the elements stand, where the list's tests are sound
-abbrev pub listing : Verdict → Entries → Listing
-listing Sound e = listedAs.Whole e
-listing (Flawed f) e = listedAs.Flawed f
+abbrev pub entered : Verdict → Entries → Entered
+entered Sound e = enteredAs.Whole e
+entered (Flawed f) e = enteredAs.Flawed f

@@ -13,7 +13,7 @@ ghost use lib.Seq.{paste};
 ghost use Rattle.fields.specs.Faults.{nowhere, faultOver};
 ghost use Rattle.cells.specs.Named.{dataAt};
 ghost use Rattle.values.specs.Records.{isValueName, isDataSize, valueNarrow, isValue, valueFault, isSegmented, contentOf, fieldsOf, valueOf, valued};
-ghost use Rattle.values.specs.Entries.{entriesAt, Room, entriesOf, listing};
+ghost use Rattle.values.specs.Entries.{entriesAt, Room, entriesOf, entered};
 ghost use Rattle.values.specs.Segments.{roomFault, segmentsFor, isDb, segmentLength, segmentList, segmentsIn, segmentFault, segmentListFault, segmentsFault, dataFault, joinedBytes, bytesOf, lengthOf};
 ghost use Rattle.values.specs.Parts.{partOf, Lies, SegmentsLie};
 ghost use Rattle.values.specs.Lists.{valueListFault, valueEntries, wholeValueFault, valuesFault};
@@ -180,18 +180,18 @@ pub struct Entries {
     pub count: usize,
 }
 
-pub enum Listing {
+pub enum Entered {
     Whole(Entries),
     Flawed(Flaw),
 }
 
 // The list whose cell an offset names, with room for so many elements.
-fn list_at(bins: &[u8], map: &[u8], rule: Rule, o: Offset, count: u32) -> Listing
-    ensures { λ r. ⌜ r ≡ listing (roomFault rule (now (bins .entry)) (now (map .entry)) o (4 * count)) (entriesAt o count) ⌝ }
+fn list_at(bins: &[u8], map: &[u8], rule: Rule, o: Offset, count: u32) -> Entered
+    ensures { λ r. ⌜ r ≡ entered (roomFault rule (now (bins .entry)) (now (map .entry)) o (4 * count)) (entriesAt o count) ⌝ }
 {
     match room_flaw(bins, map, rule, o, 4 * (count as usize)) {
-        Verdict::Flawed(f) => Listing::Flawed(f),
-        Verdict::Sound => Listing::Whole(Entries {
+        Verdict::Flawed(f) => Entered::Flawed(f),
+        Verdict::Sound => Entered::Whole(Entries {
             cell: o,
             count: count as usize,
         }),
@@ -245,15 +245,15 @@ fn is_db(r: &[u8], size: u32) -> bool
 }
 
 // "`db` cell and record, segment list's cell and room"
-fn segment_list(bins: &[u8], map: &[u8], rule: Rule, o: Offset, size: u32) -> Listing
-    ensures { λ r. ⌜ r ≡ listing (segmentListFault rule (now (bins .entry)) (now (map .entry)) o size) (entriesAt (segmentList (now (bins .entry)) o) (segmentsFor size)) ⌝ }
+fn segment_list(bins: &[u8], map: &[u8], rule: Rule, o: Offset, size: u32) -> Entered
+    ensures { λ r. ⌜ r ≡ entered (segmentListFault rule (now (bins .entry)) (now (map .entry)) o size) (entriesAt (segmentList (now (bins .entry)) o) (segmentsFor size)) ⌝ }
 {
     match cells::find_cell(bins, map, rule, o) {
-        Found::Missing(f) => Listing::Flawed(f),
+        Found::Missing(f) => Entered::Flawed(f),
         Found::Named(c) => {
             let r = cells::cell_data(bins, c);
             if !is_db(r, size) {
-                return Listing::Flawed(Flaw {
+                return Entered::Flawed(Flaw {
                     fault: Fault::Record,
                     place: o,
                 });
@@ -288,8 +288,8 @@ fn segments_flaw(bins: &[u8], map: &[u8], rule: Rule, o: Offset, size: u32) -> V
     ensures { λ r. ⌜ r ≡ segmentsFault rule (now (bins .entry)) (now (map .entry)) o size ⌝ }
 {
     match segment_list(bins, map, rule, o, size) {
-        Listing::Flawed(f) => Verdict::Flawed(f),
-        Listing::Whole(e) => each_segment_flaw(bins, map, rule, e, size as usize),
+        Entered::Flawed(f) => Verdict::Flawed(f),
+        Entered::Whole(e) => each_segment_flaw(bins, map, rule, e, size as usize),
     }
 }
 
@@ -326,13 +326,13 @@ fn whole_value_flaw(bins: &[u8], map: &[u8], rule: Rule, minor: u32, v: Offset) 
 }
 
 // The value list of a key: its cell, and its room for all elements. Value count 0 reads nothing.
-pub fn value_list(bins: &[u8], map: &[u8], rule: Rule, k: records::Key) -> Listing
-    ensures { λ r. ⌜ r ≡ listing (valueListFault rule (now (bins .entry)) (now (map .entry)) k) (valueEntries k) ⌝ }
+pub fn value_list(bins: &[u8], map: &[u8], rule: Rule, k: records::Key) -> Entered
+    ensures { λ r. ⌜ r ≡ entered (valueListFault rule (now (bins .entry)) (now (map .entry)) k) (valueEntries k) ⌝ }
 {
     let count = k.values;
     let list = k.value_list;
     if count == 0 {
-        return Listing::Whole(Entries {
+        return Entered::Whole(Entries {
             cell: Offset(0),
             count: 0,
         });
@@ -362,8 +362,8 @@ pub fn values_flaw(bins: &[u8], map: &[u8], rule: Rule, minor: u32, k: records::
     ensures { λ r. ⌜ r ≡ valuesFault rule (now (bins .entry)) (now (map .entry)) minor k ⌝ }
 {
     match value_list(bins, map, rule, k) {
-        Listing::Flawed(f) => Verdict::Flawed(f),
-        Listing::Whole(e) => each_value_flaw(bins, map, rule, minor, e),
+        Entered::Flawed(f) => Verdict::Flawed(f),
+        Entered::Whole(e) => each_value_flaw(bins, map, rule, minor, e),
     }
 }
 

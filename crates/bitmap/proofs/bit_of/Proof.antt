@@ -10,7 +10,7 @@ shared-slice-read-b : tie.Need-shared-slice-read-b
 shared-slice-read-b c = search needs
 
 cast-b : tie.Need-cast-b
-cast-b c = omega (arith, c .shared-slice-known .given (c .before .before .args .page / 8))
+cast-b c = omega (arith, c .shared-slice-known .given (c .before .before .args .index / 8))
 
 shr-result : tie.Need-shr-result
 shr-result c = search needs

@@ -19,10 +19,10 @@ ones-of-words-requires c κs = (omega arith, (omega arith, omega arith))
 ones-of-bytes-requires : tie.Need-ones-of-bytes-requires
 ones-of-bytes-requires c κs = (omega arith, (omega arith, omega arith))
 
--- the bytes wholly before the page
+-- the bytes wholly before the index
 whole : (c : tie.After-ones-of-bytes)
     → c .before .ones-of-words .result + c .ones-of-bytes .result
-    ≡ bitsBefore (c .before .before .before .before .args .map .now) (8 * (c .before .before .before .before .args .page / 8))
+    ≡ bitsBefore (c .before .before .before .before .args .map .now) (8 * (c .before .before .before .before .args .index / 8))
 whole c =
     ap (λ (n : ℕ). n + c .ones-of-bytes .result) (c .before .ones-of-words .ensures) ∙ c .ones-of-bytes .ensures
     ∙ c .before .before .bytes-before .ensures .2
@@ -30,20 +30,20 @@ whole c =
 add-result : tie.Need-add-result
 add-result c =
     let s = c .before .before .before .before in
-    omega (arith, whole c, before-le (s .args .map .now) (8 * (s .args .page / 8)))
+    omega (arith, whole c, before-le (s .args .map .now) (8 * (s .args .index / 8)))
 
 ones-in-byte-requires : tie.Need-ones-in-byte-requires
 ones-in-byte-requires c κs = search needs
 
 counted : (c : tie.After-ones-in-byte)
     → c .before .before .ones-of-words .result + c .before .ones-of-bytes .result + c .ones-in-byte .result
-    ≡ bitsBefore (c .before .before .before .before .before .args .map .now) (c .before .before .before .before .before .args .page)
+    ≡ bitsBefore (c .before .before .before .before .before .args .map .now) (c .before .before .before .before .before .args .index)
 counted c = ap (λ (n : ℕ). n + c .ones-in-byte .result) (whole (c .before)) ∙ c .ones-in-byte .ensures
 
 add-result-2 : tie.Need-add-result-2
 add-result-2 c =
     let s = c .before .before .before .before .before in
-    omega (arith, counted c, before-le (s .args .map .now) (s .args .page))
+    omega (arith, counted c, before-le (s .args .map .now) (s .args .index))
 
 returns : tie.Need-returns
 returns c = counted c

@@ -10,7 +10,7 @@ use Rattle.bitmap.proofs.bytes_before.Tie as tie
 returns : tie.Need-returns
 returns c =
     let map = c .before .args .map .now in
-    (omega arith, omega (arith, c .if1 .taken), sym (past-end map (8 * length map) (8 * (c .before .args .page / 8)) (omega arith) (omega (arith, c .if1 .taken))))
+    (omega arith, omega (arith, c .if1 .taken), sym (past-end map (8 * length map) (8 * (c .before .args .index / 8)) (omega arith) (omega (arith, c .if1 .taken))))
 
 returns-2 : tie.Need-returns-2
 returns-2 c = search needs

@@ -10,10 +10,10 @@ use Rattle.bitmap.proofs.next_marked.Statement.{statement}
 use Rattle.bitmap.proofs.next_marked.Tie as tie
 
 abbrev Inv-loop : tie.InvT-loop
-Inv-loop map from page₀ page = nextMarked map page ≡ nextMarked map from
+Inv-loop map from index₀ index = nextMarked map index ≡ nextMarked map from
 
 abbrev μ-loop : tie.MeasureT-loop
-μ-loop map from page₀ page = 8 * length map - page
+μ-loop map from index₀ index = 8 * length map - index
 
 loop-holds : tie.Need-loop-holds Inv-loop μ-loop
 loop-holds c = refl
@@ -22,19 +22,19 @@ is-marked-requires : tie.Need-is-marked-requires Inv-loop μ-loop
 is-marked-requires c κs = search needs
 
 returns : tie.Need-returns Inv-loop μ-loop
-returns c = sym (next-here (c .before .before .before .before .before .args .map .now) (c .before .before .before .loop .page) (omega arith) (sym (c .before .is-marked .ensures) ∙ c .if1 .taken)) ∙ c .before .before .before .loop .inv
+returns c = sym (next-here (c .before .before .before .before .before .args .map .now) (c .before .before .before .loop .index) (omega arith) (sym (c .before .is-marked .ensures) ∙ c .if1 .taken)) ∙ c .before .before .before .loop .inv
 
-add-page : tie.Need-add-page Inv-loop μ-loop
-add-page c = omega arith
+add-index : tie.Need-add-index Inv-loop μ-loop
+add-index c = omega arith
 
 loop-less : tie.Need-loop-less Inv-loop μ-loop
 loop-less c = omega arith
 
 loop-again : tie.Need-loop-again Inv-loop μ-loop
-loop-again c = rw add-one (sym (next-on (c .before .before .before .before .before .args .map .now) (c .before .before .before .loop .page) (omega arith) (sym (c .before .is-marked .ensures) ∙ c .if1 .left)) ∙ c .before .before .before .loop .inv)
+loop-again c = rw add-one (sym (next-on (c .before .before .before .before .before .args .map .now) (c .before .before .before .loop .index) (omega arith) (sym (c .before .is-marked .ensures) ∙ c .if1 .left)) ∙ c .before .before .before .loop .inv)
 
 returns-2 : tie.Need-returns-2 Inv-loop μ-loop
-returns-2 c = sym (next-end (c .before .before .before .args .map .now) (c .before .loop .page) (omega arith)) ∙ c .before .loop .inv
+returns-2 c = sym (next-end (c .before .before .before .args .map .now) (c .before .loop .index) (omega arith)) ∙ c .before .loop .inv
 
 pub next-marked-spec : {M : Type 1} → statement M
 next-marked-spec =
@@ -45,7 +45,7 @@ next-marked-spec =
     loop-holds
     is-marked-requires
     returns
-    add-page
+    add-index
     loop-less
     loop-again
     returns-2)

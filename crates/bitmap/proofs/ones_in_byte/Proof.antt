@@ -27,21 +27,21 @@ shl-result c = search needs
 
 rem-result : tie.Need-rem-result
 rem-result c =
-    let k = c .before .before .args .page % 8 in
-    rw (power k (mod-lt (c .before .before .args .page) (lit< tt))) (pow-pos k)
+    let k = c .before .before .args .index % 8 in
+    rw (power k (mod-lt (c .before .before .args .index) (lit< tt))) (pow-pos k)
 
 cast-result-2 : tie.Need-cast-result-2
 cast-result-2 c =
     let s = c .before .before in
-    let x = getD (s .args .map .now) (s .args .page / 8) 0 in
-    let low : x % (1 * 2 ^ (s .args .page % 8) % 2 ^ 8) < 2 ^ 8 = lt-of-le-of-lt (mod-le x (1 * 2 ^ (s .args .page % 8) % 2 ^ 8)) (c .shared-slice-known .given (s .args .page / 8) .fits) in
-    omega (arith, ones-le 8 (x % (1 * 2 ^ (s .args .page % 8) % 2 ^ 8)) low)
+    let x = getD (s .args .map .now) (s .args .index / 8) 0 in
+    let low : x % (1 * 2 ^ (s .args .index % 8) % 2 ^ 8) < 2 ^ 8 = lt-of-le-of-lt (mod-le x (1 * 2 ^ (s .args .index % 8) % 2 ^ 8)) (c .shared-slice-known .given (s .args .index / 8) .fits) in
+    omega (arith, ones-le 8 (x % (1 * 2 ^ (s .args .index % 8) % 2 ^ 8)) low)
 
 returns : tie.Need-returns
 returns c =
     let s = c .before .before in
     let map = s .args .map .now in
-    let p = s .args .page in
+    let p = s .args .index in
     let e : 8 * (p / 8) + p % 8 ≡ p = omega arith in
     ap (λ (n : ℕ). bitsBefore map (8 * (p / 8)) + ones (getD map (p / 8) 0 % n)) (power (p % 8) (mod-lt p (lit< tt)))
     ∙ sym (byte-ones map (p / 8) (p % 8) (le-of-lt (mod-lt p (lit< tt)))) ∙ ap (bitsBefore map) e
@@ -49,7 +49,7 @@ returns c =
 returns-2 : tie.Need-returns-2
 returns-2 c =
     let map = c .before .args .map .now in
-    let p = c .before .args .page in
+    let p = c .before .args .index in
     add-zero (bitsBefore map (8 * (p / 8))) ∙ sym (past-end map (8 * (p / 8)) p (omega (arith, c .if1 .left)) (omega arith))
 
 pub ones-in-byte-spec : {M : Type 1} → statement M

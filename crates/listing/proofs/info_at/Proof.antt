@@ -23,14 +23,14 @@ bins-of-requires c κs = sym (c .before .before .base-flaw .ensures) ∙ c .enum
 minor-of-requires : tie.Need-minor-of-requires
 minor-of-requires c κs = sym (c .before .before .before .base-flaw .ensures) ∙ c .before .enum-told .given .1
 
-info-at-requires : tie.Need-info-at-requires
-info-at-requires c κs = search needs
+whole-info-requires : tie.Need-whole-info-requires
+whole-info-requires c κs = search needs
 
 returns : tie.Need-returns
 returns c = ap Refused (c .refused .ensures) ∙ sym (info-stop _ _ (sym (c .before .before .before .before .base-flaw .ensures) ∙ c .before .before .f .given .1))
 
 returns-2 : tie.Need-returns-2
-returns-2 c = c .info-at .ensures ∙ rw (c .before .before .bins-of .ensures, c .before .minor-of .ensures) (sym (info-in _ _ (sym (c .before .before .before .before .before .base-flaw .ensures) ∙ c .before .before .before .enum-told .given .1)))
+returns-2 c = c .whole-info .ensures ∙ rw (c .before .before .bins-of .ensures, c .before .minor-of .ensures) (sym (info-in _ _ (sym (c .before .before .before .before .before .base-flaw .ensures) ∙ c .before .before .before .enum-told .given .1)))
 
 pub info-at-spec : {M : Type 1} → statement M
 info-at-spec =
@@ -42,6 +42,6 @@ info-at-spec =
     enum-told
     bins-of-requires
     minor-of-requires
-    info-at-requires
+    whole-info-requires
     returns
     returns-2)

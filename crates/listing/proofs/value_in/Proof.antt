@@ -5,8 +5,8 @@ use borrow.Author.Needs.{needs}
 use Rattle.listing.proofs.value_in.Statement.{statement}
 use Rattle.listing.proofs.value_in.Tie as tie
 
-value-look-requires : tie.Need-value-look-requires
-value-look-requires c κs = search needs
+entry-look-requires : tie.Need-entry-look-requires
+entry-look-requires c κs = search needs
 
 enum-known-f : tie.Need-enum-known-f
 enum-known-f c = search needs
@@ -24,19 +24,19 @@ value-entry-requires : tie.Need-value-entry-requires
 value-entry-requires c κs = search needs
 
 returns : tie.Need-returns
-returns c = ap Refused (c .refused .ensures) ∙ sym (in-bad _ _ _ _ (sym (c .before .before .before .before .value-look .ensures) ∙ c .before .before .f .given .1))
+returns c = ap Refused (c .refused .ensures) ∙ sym (in-bad _ _ _ _ (sym (c .before .before .before .before .entry-look .ensures) ∙ c .before .before .f .given .1))
 
 returns-2 : tie.Need-returns-2
-returns-2 c = sym (in-none _ _ _ _ (sym (c .before .before .value-look .ensures) ∙ c .enum-told .given .1))
+returns-2 c = sym (in-none _ _ _ _ (sym (c .before .before .entry-look .ensures) ∙ c .enum-told .given .1))
 
 returns-3 : tie.Need-returns-3
-returns-3 c = c .value-entry .ensures ∙ sym (in-is _ _ _ _ (sym (c .before .before .before .before .value-look .ensures) ∙ c .before .before .v .given .1))
+returns-3 c = c .value-entry .ensures ∙ sym (in-is _ _ _ _ (sym (c .before .before .before .before .entry-look .ensures) ∙ c .before .before .v .given .1))
 
 pub value-in-spec : {M : Type 1} → statement M
 value-in-spec =
     tie.close
     (tie.spec
-    value-look-requires
+    entry-look-requires
     enum-known-f
     refused-requires
     enum-told

@@ -19,8 +19,8 @@ bins-of-requires c κs = value-facts _ _ _ (sym (c .before .before .before .valu
 minor-of-requires : tie.Need-minor-of-requires
 minor-of-requires c κs = value-facts _ _ _ (sym (c .before .before .before .before .value-look .ensures) ∙ c .before .before .v .given .1) .0
 
-info-at-requires : tie.Need-info-at-requires
-info-at-requires c κs = search needs
+whole-info-requires : tie.Need-whole-info-requires
+whole-info-requires c κs = search needs
 
 enum-told : tie.Need-enum-told
 enum-told c = search needs
@@ -35,7 +35,7 @@ refused-requires-2 : tie.Need-refused-requires-2
 refused-requires-2 c κs = search needs
 
 returns : tie.Need-returns
-returns c = c .info-at .ensures ∙ rw (c .before .before .bins-of .ensures, c .before .minor-of .ensures) (sym (info-found _ _ _ (sym (c .before .before .before .before .before .before .value-look .ensures) ∙ c .before .before .before .before .v .given .1)))
+returns c = c .whole-info .ensures ∙ rw (c .before .before .bins-of .ensures, c .before .minor-of .ensures) (sym (info-found _ _ _ (sym (c .before .before .before .before .before .before .value-look .ensures) ∙ c .before .before .before .before .v .given .1)))
 
 returns-2 : tie.Need-returns-2
 returns-2 c = ap Refused (c .refused .ensures) ∙ sym (info-missing _ _ _ (sym (c .before .before .before .value-look .ensures) ∙ c .before .enum-told .given .1))
@@ -51,7 +51,7 @@ value-info-spec =
     enum-known-v
     bins-of-requires
     minor-of-requires
-    info-at-requires
+    whole-info-requires
     enum-told
     refused-requires
     enum-known-f

@@ -19,7 +19,7 @@ use Rattle.records.proofs.LawsAnswer.{keyed-whole, keyed-flawed}
 use Rattle.records.proofs.LawsKey.{name-room}
 use Rattle.records.proofs.LawsPlaces.{leaf-tested, leaf-some, elements-lie, leaves-lie, named-length}
 use Rattle.tree.specs.Tree.{listAnswer}
-use Rattle.tree.specs.Steps.{ListedFits}
+use Rattle.tree.specs.Steps.{ArrivalFits}
 use Rattle.records.proofs.LawsElements.{elements-length, element-at, elements-are}
 use Rattle.tree.proofs.Charges.{own-parts}
 use Rattle.tree.proofs.Walks.{key-record, key-own, level-left, key-on, end-nil, leaf-stop, leaf-on, leaf-end, leaves-stop, leaves-on, leaves-end, key-fits, leaf-fits}
@@ -57,7 +57,7 @@ abbrev μ-list : Measures 2 list-kinds.ps ℕ
 -- what is left of a leaf answers as the whole does, and the sibling before was tested
 abbrev Inv-leaf : leaf-lts.InvT-loop
 Inv-leaf bins map hive key levels leaf t₀ l₀ i₀ t l i =
-    (i ≤ leaf .count) × ElementsLie bins leaf × ListedFits bins l
+    (i ≤ leaf .count) × ElementsLie bins leaf × ArrivalFits bins l
     × (listAnswer bins map hive levels key l₀ (elementsOf bins leaf) t₀ ≡ listAnswer bins map hive levels key l (drop i (elementsOf bins leaf)) t)
 
 abbrev μ-leaf-loop : leaf-lts.MeasureT-loop
@@ -65,7 +65,7 @@ abbrev μ-leaf-loop : leaf-lts.MeasureT-loop
 
 abbrev Inv-list : list-lts.InvT-loop
 Inv-list bins map hive key levels ls t₀ l₀ j₀ t l j =
-    (j ≤ ls .count) × LeavesLie bins ls × ((o : Offset) → List·Memᴰ o (leavesNamed bins ls) → leafFault Map bins map o ≡ Sound) × ListedFits bins l
+    (j ≤ ls .count) × LeavesLie bins ls × ((o : Offset) → List·Memᴰ o (leavesNamed bins ls) → leafFault Map bins map o ≡ Sound) × ArrivalFits bins l
     × (listAnswer bins map hive levels key l₀ (childrenIn bins (leavesNamed bins ls)) t₀
     ≡ listAnswer bins map hive levels key l (childrenIn bins (drop j (leavesNamed bins ls))) t)
 

@@ -19,14 +19,14 @@ enum-known-f c = search needs
 enum-told : tie.Need-enum-told
 enum-told c = search needs
 
-listing-flaw-requires : tie.Need-listing-flaw-requires
-listing-flaw-requires c κs = search needs
+subkeys-flaw-requires : tie.Need-subkeys-flaw-requires
+subkeys-flaw-requires c κs = search needs
 
 returns-2 : tie.Need-returns-2
 returns-2 c = sym (rest-values _ _ _ _ _ _ (c .before .before .before .before .if1 .left) (sym (c .before .before .before .values-flaw .ensures) ∙ c .before .f .given .1))
 
 returns-3 : tie.Need-returns-3
-returns-3 c = c .listing-flaw .ensures ∙ sym (rest-lists _ _ _ _ _ _ (c .before .before .before .before .if1 .left) (sym (c .before .before .before .values-flaw .ensures) ∙ c .before .enum-told .given .1))
+returns-3 c = c .subkeys-flaw .ensures ∙ sym (rest-lists _ _ _ _ _ _ (c .before .before .before .before .if1 .left) (sym (c .before .before .before .values-flaw .ensures) ∙ c .before .enum-told .given .1))
 
 pub rest-flaw-spec : {M : Type 1} → statement M
 rest-flaw-spec =
@@ -37,6 +37,6 @@ rest-flaw-spec =
     values-flaw-requires
     enum-known-f
     enum-told
-    listing-flaw-requires
+    subkeys-flaw-requires
     returns-2
     returns-3)

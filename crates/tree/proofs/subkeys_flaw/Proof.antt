@@ -1,4 +1,4 @@
-use Rattle.tree.proofs.Tests.{listing-stop, listing-other, listing-good}
+use Rattle.tree.proofs.Tests.{subkeys-stop, subkeys-other, subkeys-good}
 use Rattle.records.proofs.LawsAnswer.{totalled-total, totalled-flawed}
 use Rattle.records.specs.Lists.{childrenBelow, listsFault}
 use Rattle.cells.specs.declared.Rule.the-variants.{Map}
@@ -6,8 +6,8 @@ use mathlib.Core.Path.{sym, _∙_}
 use lib.ListN.{length}
 use denote.Ref.{now}
 use borrow.Author.Needs.{needs}
-use Rattle.tree.proofs.listing_flaw.Statement.{statement}
-use Rattle.tree.proofs.listing_flaw.Tie as tie
+use Rattle.tree.proofs.subkeys_flaw.Statement.{statement}
+use Rattle.tree.proofs.subkeys_flaw.Tie as tie
 
 total-of-requires : tie.Need-total-of-requires
 total-of-requires c κs = search needs
@@ -27,19 +27,19 @@ flawed-requires c κs = search needs
 returns : tie.Need-returns
 returns c = let a = c .before .before .before .before .before .before .before .before .before .args in
     let t = totalled-total (listsFault Map (now (a .bins)) (now (a .map)) (a .k)) (length (childrenBelow (now (a .bins)) (a .k))) (sym (c .before .before .before .before .before .before .total-of .ensures) ∙ c .before .before .before .before .n .given .1) in
-    c .flawed .ensures ∙ sym (listing-other _ _ _ _ (t .0) (λ e. c .before .if1 .taken (t .1 ∙ e)))
+    c .flawed .ensures ∙ sym (subkeys-other _ _ _ _ (t .0) (λ e. c .before .if1 .taken (t .1 ∙ e)))
 
 returns-2 : tie.Need-returns-2
 returns-2 c = let a = c .before .before .before .before .before .before .args in
-    sym (listing-stop _ _ _ _ (totalled-flawed (listsFault Map (now (a .bins)) (now (a .map)) (a .k)) (length (childrenBelow (now (a .bins)) (a .k))) (sym (c .before .before .before .total-of .ensures) ∙ c .before .f .given .1)))
+    sym (subkeys-stop _ _ _ _ (totalled-flawed (listsFault Map (now (a .bins)) (now (a .map)) (a .k)) (length (childrenBelow (now (a .bins)) (a .k))) (sym (c .before .before .before .total-of .ensures) ∙ c .before .f .given .1)))
 
 returns-3 : tie.Need-returns-3
 returns-3 c = let a = c .before .before .before .before .before .before .before .before .args in
     let t = totalled-total (listsFault Map (now (a .bins)) (now (a .map)) (a .k)) (length (childrenBelow (now (a .bins)) (a .k))) (sym (c .before .before .before .before .before .total-of .ensures) ∙ c .before .before .before .n .given .1) in
-    sym (listing-good _ _ _ _ (t .0) (sym (t .1) ∙ c .if1 .left))
+    sym (subkeys-good _ _ _ _ (t .0) (sym (t .1) ∙ c .if1 .left))
 
-pub listing-flaw-spec : {M : Type 1} → statement M
-listing-flaw-spec =
+pub subkeys-flaw-spec : {M : Type 1} → statement M
+subkeys-flaw-spec =
     tie.close
     (tie.spec
     total-of-requires

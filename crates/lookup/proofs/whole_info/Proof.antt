@@ -3,8 +3,8 @@ use Rattle.lookup.specs.declared.ValueFound.the-variants.{Refused}
 use Prim.Native.Nat.{_-_}
 use mathlib.Core.Path.{sym, ap, _∙_}
 use borrow.Author.Needs.{needs}
-use Rattle.lookup.proofs.info_at.Statement.{statement}
-use Rattle.lookup.proofs.info_at.Tie as tie
+use Rattle.lookup.proofs.whole_info.Statement.{statement}
+use Rattle.lookup.proofs.whole_info.Tie as tie
 
 slice-aggregate-value-at : tie.Need-slice-aggregate-value-at
 slice-aggregate-value-at c = search needs
@@ -30,8 +30,8 @@ returns c = ap Refused (c .refused .ensures) ∙ sym (info-bad _ _ _ (sym (c .be
 returns-2 : tie.Need-returns-2
 returns-2 c = c .info-where .ensures ∙ sym (info-on _ _ _ (sym (c .before .before .before .before .value-at .ensures) ∙ c .before .before .x .given .1))
 
-pub info-at-spec : {M : Type 1} → statement M
-info-at-spec =
+pub whole-info-spec : {M : Type 1} → statement M
+whole-info-spec =
     tie.close
     (tie.spec
     slice-aggregate-value-at

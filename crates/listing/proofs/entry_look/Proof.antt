@@ -1,8 +1,8 @@
 use Rattle.listing.proofs.Members.{look-bad, look-on}
 use mathlib.Core.Path.{sym, _∙_}
 use borrow.Author.Needs.{needs}
-use Rattle.listing.proofs.value_look.Statement.{statement}
-use Rattle.listing.proofs.value_look.Tie as tie
+use Rattle.listing.proofs.entry_look.Statement.{statement}
+use Rattle.listing.proofs.entry_look.Tie as tie
 
 slice-aggregate-key-at : tie.Need-slice-aggregate-key-at
 slice-aggregate-key-at c = search needs
@@ -25,8 +25,8 @@ returns c = sym (look-bad _ _ _ (sym (c .before .before .before .key-at .ensures
 returns-2 : tie.Need-returns-2
 returns-2 c = c .nth-of .ensures ∙ sym (look-on _ _ _ (sym (c .before .before .before .before .key-at .ensures) ∙ c .before .before .k .given .1))
 
-pub value-look-spec : {M : Type 1} → statement M
-value-look-spec =
+pub entry-look-spec : {M : Type 1} → statement M
+entry-look-spec =
     tie.close
     (tie.spec
     slice-aggregate-key-at
