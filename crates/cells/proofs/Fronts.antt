@@ -15,7 +15,8 @@ use Rattle.base.specs.Block.{sector, binsOf, baseFault, binsData}
 use Rattle.base.proofs.Laws.{base-facts}
 use Rattle.cells.specs.declared.Surveyed.{Surveyed}
 use Rattle.cells.specs.declared.Surveyed.the-variants.{Refused}
-use Rattle.cells.specs.Tiling.{layout, surveyOf, Data}
+use Rattle.cells.specs.Tiling.{layout, surveyOf}
+use Rattle.cells.specs.Steps.{Data}
 use Rattle.cells.specs.Map.{mapAfter}
 use Rattle.cells.specs.Survey.{frontFault, surveyAnswer, mapLeft}
 

@@ -22,7 +22,8 @@ use Rattle.cells.specs.declared.Rule.{Rule}
 use Rattle.cells.specs.declared.Rule.the-variants.{Map, Header}
 use Rattle.cells.specs.Tiling.{goodSize}
 use Rattle.cells.specs.Map.{isMarked}
-use Rattle.cells.specs.Named.{isNamed, cellAt, byHeader, cellOf, lengthNamed, lengthBy, cellFault, dataOf, dataAt, Inside}
+use Rattle.cells.specs.Named.{isNamed, cellAt, byHeader, cellOf, cellFault, dataOf, dataAt}
+use Rattle.cells.specs.Steps.{lengthNamed, lengthBy, Inside}
 use Rattle.cells.specs.Tiled.{Good}
 use Rattle.cells.proofs.Steps.{good}
 

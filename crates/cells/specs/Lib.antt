@@ -5,3 +5,4 @@ pub mod Named
 pub mod Tiled
 pub mod Counts
 pub mod Refused
+pub mod Steps

@@ -1,5 +1,5 @@
 -- The cell in use that an offset names: by the work map in the check, and by the cell's own header in lookup.
-use Prim.Native.Nat.{ℕ, _+_, _-_, _%_, _≤_, _<_}
+use Prim.Native.Nat.{ℕ, _+_, _-_, _%_}
 use mathlib.Core.Bool.{Bool, cond, _&&_}
 use mathlib.Core.List.{List}
 use lib.Dec.{eqb, leb}
@@ -38,14 +38,6 @@ unfoldable pub cellOf : Rule → List ℕ → List ℕ → Offset → Found
 cellOf Header d m o = byHeader d o
 cellOf Map d m o = cond (isMarked m (o .0)) (byHeader d o) (Missing (flaw NoCell o))
 
--- how long that cell is, its size field and all, by its header and by a rule; 0 where there is none, which is no cell's length
-unfoldable pub lengthNamed : List ℕ → ℕ → ℕ
-lengthNamed d o = cond (isNamed d o) (sizeAt d o .bytes) 0
-
-unfoldable pub lengthBy : Rule → List ℕ → List ℕ → ℕ → ℕ
-lengthBy Header d m o = lengthNamed d o
-lengthBy Map d m o = cond (isMarked m o) (lengthNamed d o) 0
-
 -- the test alone: sound where the offset names a cell
 abbrev pub verdictOf : Found → Verdict
 verdictOf (Named c) = Sound
@@ -61,16 +53,6 @@ dataOf d c = take (c .len) (drop (c .at .0 + 4) d)
 -- the data of the cell at an offset, which upper definitions read
 unfoldable pub dataAt : List ℕ → Offset → List ℕ
 dataAt d o = dataOf d (cellAt d o)
-
--- a cell's data lie inside the bins data
-pub record Inside (d : List ℕ) (c : Cell) : Type 0 where
-  pub ends : c .at .0 + 4 + c .len ≤ length d
-
--- a part of a cell's data, so many bytes from a position on, lies inside them. No bytes from the start on would lie in the data of any offset, whether
--- or not it names a cell: nothing is read there, so that is no part.
-pub record PartIn (d : List ℕ) (o : Offset) (at len : ℕ) : Type 0 where
-  pub some : 0 < at + len
-  pub ends : at + len ≤ length (dataAt d o)
 
 -- the bytes of such a part
 abbrev pub partIn : List ℕ → Offset → ℕ → ℕ → List ℕ

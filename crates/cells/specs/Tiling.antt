@@ -1,6 +1,5 @@
 -- Bins tile the bins data, and cells tile the rest of each bin. d is the bins data.
-use Prim.Native.Nat.{ℕ, zero, suc, _+_, _-_, _*_, _%_, _≤_}
-use mathlib.Core.Path.{_≡_}
+use Prim.Native.Nat.{ℕ, zero, suc, _+_, _-_, _%_}
 use mathlib.Core.Bool.{Bool, cond, not, _&&_}
 use mathlib.Core.List.{List, [], _∷_}
 use lib.Dec.{eqb, leb, ltb}
@@ -10,7 +9,6 @@ use Rattle.fields.specs.declared.Fault.the-variants.{BinHeader, CellSize}
 use Rattle.fields.specs.Number.{u32At, sizeAt}
 use Rattle.fields.specs.Bytes.{standsAt}
 use Rattle.fields.specs.Faults.{flaw}
-use Rattle.base.specs.Block.{binsLimit}
 use Rattle.cells.specs.declared.Row.{Row}
 use Rattle.cells.specs.declared.Row.the-variants.{Counted, Bad}
 use Rattle.cells.specs.declared.Surveyed.{Surveyed}
@@ -80,18 +78,3 @@ unfoldable pub surveyOf : Layout → ℕ → ℕ → ℕ → Surveyed
 surveyOf last n used free = Tiled (record { bins = n; used = used; free = free })
 surveyOf (badBin at) n used free = Refused (flaw BinHeader (record { 0 = at }))
 surveyOf (bin at t b) n used free = addRow (rowOf t 0 0) used free (λ u f. surveyOf b (n + 1) u f)
-
--- a bin from one offset to another lies in the bins data, and the map has room for it
-pub record Bin (d m : List ℕ) (start end : ℕ) : Type 0 where
-  pub order : start ≤ end
-  pub eights : start % 8 ≡ 0
-  pub ends : end % 8 ≡ 0
-  pub inside : end ≤ length d
-  pub small : length d ≤ binsLimit
-  pub room : end ≤ length m * 64
-
--- the bins data are whole pages, and the map has room for them
-pub record Data (d m : List ℕ) : Type 0 where
-  pub pages : length d % 4096 ≡ 0
-  pub small : length d ≤ binsLimit
-  pub room : length d ≤ length m * 64

@@ -10,9 +10,10 @@ ghost use mathlib.Core.Path.{_≡_};
 ghost use Prim.Native.Nat.{_+_, _-_, _*_, _/_, _%_, _≤_, _<_};
 ghost use lib.ListN.{length};
 ghost use Rattle.fields.specs.Number.{u32At};
-ghost use Rattle.cells.specs.Tiling.{goodSize, tiling, rowOf, binSize, layout, surveyOf, Bin, Data};
+ghost use Rattle.cells.specs.Tiling.{goodSize, tiling, rowOf, binSize, layout, surveyOf};
+ghost use Rattle.cells.specs.Steps.{Bin, Data, lengthNamed, lengthBy, Inside, PartIn};
 ghost use Rattle.cells.specs.Map.{markAt, marks, marksAll, zeros, isMarked, mapAfter};
-ghost use Rattle.cells.specs.Named.{lengthNamed, lengthBy, cellOf, dataOf, dataAt, Inside, PartIn, partIn, partPlace};
+ghost use Rattle.cells.specs.Named.{cellOf, dataOf, dataAt, partIn, partPlace};
 ghost use Rattle.cells.specs.Survey.{frontFault, surveyAnswer, mapLeft};
 
 // "the absolute value is a nonzero multiple of 8 and stays inside the bin", of which room bytes are left.

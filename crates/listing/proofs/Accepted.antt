@@ -19,7 +19,7 @@ use Rattle.cells.specs.Tiled.{BinsTile}
 use Rattle.records.specs.declared.Child.{Child}
 use Rattle.records.specs.Keys.{keyFault, keyOf}
 use Rattle.records.specs.Lists.{leafFault, leafChildren, leavesOf, childrenIn, leavesBelow, childrenBelow, children}
-use Rattle.records.specs.Places.{noChild}
+use Rattle.records.specs.Steps.{noChild}
 use Rattle.values.specs.Records.{valueOf}
 use Rattle.values.specs.Lists.{valuesOf}
 use Rattle.tree.specs.declared.Hive.{Hive}

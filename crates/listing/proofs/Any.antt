@@ -26,7 +26,7 @@ use Rattle.records.specs.declared.Key.{Key}
 use Rattle.records.specs.declared.Name.{Name}
 use Rattle.records.specs.Keys.{keyFault, keyOf, NameIn}
 use Rattle.records.specs.Lists.{leafFault, headFault, leafChildren, leavesOf, childrenIn, children}
-use Rattle.records.specs.Places.{noChild}
+use Rattle.records.specs.Steps.{noChild}
 use Rattle.records.proofs.LawsKey.{name-room}
 use Rattle.values.specs.Records.{valueFault, dataIn, valueOf}
 use Rattle.values.specs.Lists.{valuesOf, valueListFault, wholeValueFault}

@@ -18,7 +18,7 @@ use Rattle.records.specs.declared.Key.{Key}
 use Rattle.records.specs.declared.Name.{Name}
 use Rattle.records.specs.Keys.{keyFault, keyOf}
 use Rattle.records.specs.Lists.{leafFault, headFault, leafChildren, leavesOf}
-use Rattle.records.specs.Places.{noChild}
+use Rattle.records.specs.Steps.{noChild}
 use Rattle.values.specs.Records.{valueFault, valueOf}
 use Rattle.values.specs.Lists.{valuesOf, valueListFault, wholeValueFault}
 use Rattle.paths.specs.declared.Look.{Look}

@@ -26,7 +26,7 @@ ghost use Rattle.fields.specs.Number.{u64At};
 ghost use Rattle.cells.specs.declared.Rule.the-variants.{Header};
 ghost use Rattle.cells.specs.Named.{dataAt};
 ghost use Rattle.records.specs.Keys.{keyFault, keyOf};
-ghost use Rattle.records.specs.Places.{LeavesLie, leavesNamed};
+ghost use Rattle.records.specs.Steps.{LeavesLie, leavesNamed};
 ghost use Rattle.values.specs.Records.{valueFault, valueOf};
 ghost use Rattle.listing.specs.Members.{entryOf, memberWhere, nthIn, nthBelow, childLook, subkeyIn, subkeyAnswer, nthOf, entryLook, valueIn, valueAnswer, infoAt, copyAt, outAt, factsOf, factsWhere, factsAnswer};
 

@@ -21,7 +21,8 @@ use Rattle.values.specs.declared.ValueData.{ValueData}
 use Rattle.values.specs.declared.ValueData.the-variants.{Inline, OneCell, Segments}
 use Rattle.values.specs.Records.{dataIn, fieldsOf, valueOf}
 use Rattle.values.specs.Segments.{dataFault, bytesOf, lengthOf}
-use Rattle.values.specs.Parts.{partOf, Lies}
+use Rattle.values.specs.Parts.{partOf}
+use Rattle.values.specs.Steps.{Lies}
 use Rattle.values.proofs.LawsData.{isOne, part-whole, part-lies}
 use Rattle.values.proofs.LawsValues.{lies as data-lies}
 use Rattle.paths.specs.declared.Look.{Look}

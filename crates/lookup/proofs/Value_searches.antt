@@ -18,7 +18,8 @@ use Rattle.values.specs.declared.Entries.{Entries}
 use Rattle.values.specs.declared.Entered.the-variants as enteredAs
 use Rattle.values.specs.declared.Value.{Value}
 use Rattle.values.specs.declared.Valued.the-variants as valuedAs
-use Rattle.values.specs.Entries.{Room, entriesOf, entered}
+use Rattle.values.specs.Entries.{entriesOf}
+use Rattle.values.specs.Steps.{Room, entered}
 use Rattle.values.specs.Records.{valueFault, valueOf, valued}
 use Rattle.values.specs.Lists.{valuesOf, valueListFault, valueEntries}
 use Rattle.values.proofs.LawsLists.{list-room, list-values}

@@ -21,11 +21,11 @@ ghost use denote.Ref.{ptr};
 ghost use Rattle.fields.specs.declared.Verdict.the-variants.{Sound};
 ghost use Rattle.base.specs.Block.{binsData, baseFault};
 ghost use Rattle.cells.specs.declared.Rule.the-variants.{Header};
-ghost use Rattle.values.specs.Entries.{Room, entriesOf};
+ghost use Rattle.values.specs.Entries.{entriesOf};
+ghost use Rattle.values.specs.Steps.{Room, Lies};
 ghost use Rattle.values.specs.Records.{valueOf};
 ghost use Rattle.values.specs.Segments.{dataFault, lengthOf};
 ghost use Rattle.values.specs.Lists.{wholeValueFault};
-ghost use Rattle.values.specs.Parts.{Lies};
 ghost use Rattle.lookup.specs.Search.{valueNamed, searchValues, lookupValue};
 ghost use Rattle.lookup.specs.Answers.{valueLook, infoOf, viewFault, viewedFault, infoWhere, infoAnswer, viewAnswer, viewStart, viewBytes, copiedTo, copyAnswer, written, copyOut};
 

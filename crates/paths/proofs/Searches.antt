@@ -18,7 +18,7 @@ use Rattle.records.specs.declared.Leafed.the-variants as leaf
 use Rattle.records.specs.declared.Leaves.{Leaves}
 use Rattle.records.specs.Keys.{keyFault, keyOf, keyed, codesOf, NameIn}
 use Rattle.records.specs.Lists.{leafFault, headFault}
-use Rattle.records.specs.Places.{leafOf, leafed, ElementsLie, elementsOf, leavesAt, headed, LeavesLie, leavesNamed}
+use Rattle.records.specs.Steps.{leafOf, leafed, ElementsLie, elementsOf, leavesAt, headed, LeavesLie, leavesNamed}
 use Rattle.records.proofs.LawsAnswer.{keyed-whole, keyed-flawed, leafed-whole, leafed-flawed, headed-whole, headed-flawed}
 use Rattle.records.proofs.LawsKey.{name-room}
 use Rattle.records.proofs.LawsPlaces.{elements-lie, leaves-lie, leaves-are}

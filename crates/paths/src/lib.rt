@@ -21,7 +21,7 @@ ghost use Rattle.fields.specs.declared.Verdict.the-variants.{Sound};
 ghost use Rattle.base.specs.Block.{sector, minorOf, binsData, baseFault};
 ghost use Rattle.cells.specs.declared.Rule.the-variants.{Header};
 ghost use Rattle.records.specs.Keys.{keyFault};
-ghost use Rattle.records.specs.Places.{ElementsLie, elementsOf, LeavesLie, leavesNamed};
+ghost use Rattle.records.specs.Steps.{ElementsLie, elementsOf, LeavesLie, leavesNamed};
 ghost use Rattle.tree.specs.Tree.{hiveOf};
 ghost use Rattle.paths.specs.Paths.{firstPart, partsOf, isPath};
 ghost use Rattle.paths.specs.Search.{keyNamed, searchKeys, searchLeaf, searchLeaves, searchBelow, descend as descendTo, lookupKey};

@@ -13,7 +13,8 @@ use Rattle.fields.specs.Number.{u16At, u32At}
 use Rattle.fields.specs.Bytes.{standsAt}
 use Rattle.fields.specs.Faults.{flaw, unless, _next_}
 use Rattle.cells.specs.declared.Rule.{Rule}
-use Rattle.cells.specs.Named.{cellFault, dataAt, PartIn, partIn}
+use Rattle.cells.specs.Named.{cellFault, dataAt, partIn}
+use Rattle.cells.specs.Steps.{PartIn}
 use Rattle.names.specs.Codes.{codes, charactersIn, hasCode, backslash}
 use Rattle.records.specs.declared.Key.{Key}
 use Rattle.records.specs.declared.Keyed.{Keyed}

@@ -1,4 +1,4 @@
 pub mod Offsets
 pub mod Keys
 pub mod Lists
-pub mod Places
+pub mod Steps

@@ -13,7 +13,7 @@ ghost use Rattle.names.specs.Hashing.{hashOf};
 ghost use Rattle.cells.specs.Named.{dataAt};
 ghost use Rattle.records.specs.Keys.{isFlagged, isWhole, isKeyName, isKey, keyIn, keyFault, keyOf, keyed, NameIn, nameBytes, codesOf};
 ghost use Rattle.records.specs.Lists.{hasElements, widthOf, hasLeafSignature, isLeaf, isList, childrenBelow, leafFault, headFault, listsFault};
-ghost use Rattle.records.specs.Places.{leavesIn, leavesAt, headed, LeavesLie, leafNamed, leafIn, leafOf, leafed, ElementsLie, childNamed, totalled, totalOver};
+ghost use Rattle.records.specs.Steps.{leavesIn, leavesAt, headed, LeavesLie, leafNamed, leafIn, leafOf, leafed, ElementsLie, childNamed, totalled, totalOver};
 
 // A stored name: its bytes lie in the data of a cell, from a position on.
 pub struct Name {

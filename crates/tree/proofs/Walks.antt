@@ -18,7 +18,7 @@ use Rattle.records.specs.declared.Child.{Child}
 use Rattle.records.specs.declared.Key.{Key}
 use Rattle.records.specs.Keys.{keyFault, keyOf}
 use Rattle.records.specs.Lists.{leafChildren, childrenIn, childrenBelow, children}
-use Rattle.records.specs.Places.{noChild}
+use Rattle.records.specs.Steps.{noChild}
 use Rattle.records.proofs.LawsKey.{key-room, name-room}
 use Rattle.tree.specs.declared.Count.{Count}
 use Rattle.tree.specs.declared.Hive.{Hive}

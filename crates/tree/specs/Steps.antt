@@ -14,7 +14,7 @@ use Rattle.cells.specs.Named.{dataAt}
 use Rattle.cells.specs.Tiled.{BinsTile, Mapped}
 use Rattle.records.specs.declared.Key.{Key}
 use Rattle.records.specs.Keys.{keyOf, NameIn}
-use Rattle.records.specs.Places.{noChild}
+use Rattle.records.specs.Steps.{noChild}
 use Rattle.records.specs.Lists.{leafChildren, listsFault}
 use Rattle.tree.specs.declared.Arrival.{Arrival}
 use Rattle.tree.specs.declared.Arrival.the-variants.{Start, First, After}

@@ -23,7 +23,8 @@ use Rattle.cells.specs.Named.{cellOf, dataOf, dataAt}
 use Rattle.cells.proofs.Naming.{cell-data-at}
 use Rattle.values.specs.declared.Entries.{Entries}
 use Rattle.values.specs.declared.Entered.the-variants as enteredAs
-use Rattle.values.specs.Entries.{entriesAt, Room, entered}
+use Rattle.values.specs.Entries.{entriesAt}
+use Rattle.values.specs.Steps.{Room, entered}
 use Rattle.values.specs.Segments.{roomFault, segmentsFor, isDb, dbFault, segmentList, segmentsIn, segmentsOf, segmentFault, segmentListFault, segmentsFault}
 use Rattle.values.proofs.Cell_tests.{lacks, passes, refuses}
 use Rattle.values.proofs.Rooms.{roomy}

@@ -13,9 +13,10 @@ ghost use lib.Seq.{paste};
 ghost use Rattle.fields.specs.Faults.{nowhere, faultOver};
 ghost use Rattle.cells.specs.Named.{dataAt};
 ghost use Rattle.values.specs.Records.{isValueName, isDataSize, valueNarrow, isValue, valueFault, isSegmented, contentOf, fieldsOf, valueOf, valued};
-ghost use Rattle.values.specs.Entries.{entriesAt, Room, entriesOf, entered};
+ghost use Rattle.values.specs.Entries.{entriesAt, entriesOf};
+ghost use Rattle.values.specs.Steps.{Room, entered, Lies, SegmentsLie};
 ghost use Rattle.values.specs.Segments.{roomFault, segmentsFor, isDb, segmentLength, segmentList, segmentsIn, segmentFault, segmentListFault, segmentsFault, dataFault, joinedBytes, bytesOf, lengthOf};
-ghost use Rattle.values.specs.Parts.{partOf, Lies, SegmentsLie};
+ghost use Rattle.values.specs.Parts.{partOf};
 ghost use Rattle.values.specs.Lists.{valueListFault, valueEntries, wholeValueFault, valuesFault};
 
 // "at most 16,383 characters, even bytes if UTF-16"
@@ -275,8 +276,11 @@ fn each_segment_flaw(bins: &[u8], map: &[u8], rule: Rule, e: Entries, size: usiz
     while i < count {
         let n = segment_length(left);
         let s = entry(bins, e, i);
-        if let Verdict::Flawed(f) = room_flaw(bins, map, rule, s, n) {
-            return Verdict::Flawed(f);
+        match room_flaw(bins, map, rule, s, n) {
+            Verdict::Flawed(f) => {
+                return Verdict::Flawed(f);
+            }
+            Verdict::Sound => {}
         }
         left -= n;
         i += 1;
@@ -349,8 +353,11 @@ fn each_value_flaw(bins: &[u8], map: &[u8], rule: Rule, minor: u32, e: Entries) 
     let mut seen: usize = 0;
     while seen < count {
         let v = entry(bins, e, seen);
-        if let Verdict::Flawed(f) = whole_value_flaw(bins, map, rule, minor, v) {
-            return Verdict::Flawed(f);
+        match whole_value_flaw(bins, map, rule, minor, v) {
+            Verdict::Flawed(f) => {
+                return Verdict::Flawed(f);
+            }
+            Verdict::Sound => {}
         }
         seen += 1;
     }

@@ -1,4 +1,4 @@
-use Rattle.records.specs.Places.{elementsOf, noChild}
+use Rattle.records.specs.Steps.{elementsOf, noChild}
 use Rattle.records.proofs.LawsElements.{elements-length, element-at}
 use Rattle.paths.proofs.Turns.{turn-found, turn-faulty, turn-on, turn-end}
 use Rattle.paths.specs.Search.{keyNamed, firstOf}

@@ -3,7 +3,7 @@ use native.Mathlib.Omega.{arith}
 use Rattle.cells.proofs.Parts.{data-short}
 use mathlib.Core.Path.{_≡_}
 use Rattle.records.proofs.ListFacts.{element-room}
-use Rattle.records.specs.Places.{childNamed}
+use Rattle.records.specs.Steps.{childNamed}
 use Rattle.records.proofs.child_of.Statement.{statement}
 use Rattle.records.proofs.child_of.Tie as tie
 

@@ -14,7 +14,7 @@ use Rattle.fields.specs.declared.Verdict.the-variants.{Sound}
 use Rattle.cells.specs.declared.Rule.the-variants.{Map}
 use Rattle.records.specs.Keys.{keyFault, keyOf}
 use Rattle.records.specs.Lists.{leafFault, childrenIn}
-use Rattle.records.specs.Places.{leavesNamed, LeavesLie, elementsOf, ElementsLie}
+use Rattle.records.specs.Steps.{leavesNamed, LeavesLie, elementsOf, ElementsLie}
 use Rattle.records.proofs.LawsAnswer.{keyed-whole, keyed-flawed}
 use Rattle.records.proofs.LawsKey.{name-room}
 use Rattle.records.proofs.LawsPlaces.{leaf-tested, leaf-some, elements-lie, leaves-lie, named-length}

@@ -1,0 +1,47 @@
+-- What the code asks of its callers and its loops keep. d is the bins data, m the work map.
+use Prim.Native.Nat.{ℕ, _+_, _*_, _%_, _≤_, _<_}
+use mathlib.Core.Path.{_≡_}
+use mathlib.Core.Bool.{cond}
+use mathlib.Core.List.{List}
+use lib.ListN.{length}
+use Rattle.fields.specs.Number.{sizeAt}
+use Rattle.base.specs.Block.{binsLimit}
+use Rattle.fields.specs.declared.Offset.{Offset}
+use Rattle.cells.specs.declared.Cell.{Cell}
+use Rattle.cells.specs.declared.Rule.{Rule}
+use Rattle.cells.specs.declared.Rule.the-variants.{Map, Header}
+use Rattle.cells.specs.Map.{isMarked}
+use Rattle.cells.specs.Named.{isNamed, dataAt}
+
+-- a bin from one offset to another lies in the bins data, and the map has room for it
+pub record Bin (d m : List ℕ) (start end : ℕ) : Type 0 where
+  pub order : start ≤ end
+  pub eights : start % 8 ≡ 0
+  pub ends : end % 8 ≡ 0
+  pub inside : end ≤ length d
+  pub small : length d ≤ binsLimit
+  pub room : end ≤ length m * 64
+
+-- the bins data are whole pages, and the map has room for them
+pub record Data (d m : List ℕ) : Type 0 where
+  pub pages : length d % 4096 ≡ 0
+  pub small : length d ≤ binsLimit
+  pub room : length d ≤ length m * 64
+
+-- how long the cell is that an offset names, its size field and all, by its header and by a rule; 0 where there is none, which is no cell's length
+unfoldable pub lengthNamed : List ℕ → ℕ → ℕ
+lengthNamed d o = cond (isNamed d o) (sizeAt d o .bytes) 0
+
+unfoldable pub lengthBy : Rule → List ℕ → List ℕ → ℕ → ℕ
+lengthBy Header d m o = lengthNamed d o
+lengthBy Map d m o = cond (isMarked m o) (lengthNamed d o) 0
+
+-- a cell's data lie inside the bins data
+pub record Inside (d : List ℕ) (c : Cell) : Type 0 where
+  pub ends : c .at .0 + 4 + c .len ≤ length d
+
+-- a part of a cell's data, so many bytes from a position on, lies inside them. No bytes from the start on would lie in the data of any offset, whether
+-- or not it names a cell: nothing is read there, so that is no part.
+pub record PartIn (d : List ℕ) (o : Offset) (at len : ℕ) : Type 0 where
+  pub some : 0 < at + len
+  pub ends : at + len ≤ length (dataAt d o)
