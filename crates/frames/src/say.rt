@@ -1,16 +1,8 @@
 // What is written. "All numbers are decimal"; every line ends with one newline.
 use crate::Line;
-use fields::Refusal;
+use orders::end;
+use orders::number;
 use tree::Report;
-
-fn number(before: &[u8], n: u64) {
-    io::write_all(1, before);
-    io::print_decimal(1, n);
-}
-
-fn end() {
-    io::write_all(1, b"\n");
-}
 
 pub fn hive() {
     io::write_all(1, b"hive\n");
@@ -18,14 +10,6 @@ pub fn hive() {
 
 pub fn bad_frame() {
     io::write_all(1, b"bad frame\n");
-}
-
-fn refused(r: Refusal) {
-    let fault = r.fault;
-    let place = r.place;
-    number(b"refused ", fault.number() as u64);
-    number(b" at ", place.0 as u64);
-    end();
 }
 
 fn accepted(r: Report) {
@@ -54,6 +38,6 @@ pub fn line(l: Line) {
             number(b"key at ", o.0 as u64);
             end();
         }
-        Line::Refused(r) => refused(r),
+        Line::Refused(r) => orders::refused(r),
     }
 }

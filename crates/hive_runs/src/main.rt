@@ -34,21 +34,6 @@ fn open(name: &[u8], hive: &mut [u8]) -> usize {
     n
 }
 
-fn put(hive: &mut [u8], src: &[u8]) {
-    if src.len() < 4 {
-        return;
-    }
-    let at = fields::u32_at(src, 0) as usize;
-    let n = src.len() - 4;
-    if hive.len() < n {
-        return;
-    }
-    if hive.len() - n < at {
-        return;
-    }
-    bytes::copy(&src[4..], &mut hive[at..at + n]);
-}
-
 // The units of some bytes, as far as there is room.
 fn units_of(part: &[u8], units: &mut [u16]) -> usize {
     let n = part.len() / 2;
@@ -79,7 +64,7 @@ fn take_in(
             name: 0,
         },
         2 => {
-            put(hive, part);
+            orders::put(hive, part);
             l
         }
         3 => Lengths {

@@ -3,12 +3,8 @@ use frames::Line;
 use lookup::Copied;
 use lookup::Info;
 use lookup::ValueFound;
+use orders::number;
 use values::ValueData;
-
-fn number(before: &[u8], n: u64) {
-    io::write_all(1, before);
-    io::print_decimal(1, n);
-}
 
 // The bytes as one number: the hash of a name of that many one-byte characters.
 pub fn sum(before: &[u8], s: &[u8]) {

@@ -47,34 +47,6 @@ fn follow(buf: &mut [u8], n: usize) -> usize {
     n
 }
 
-// src is a 4-byte place and what goes there.
-fn put(dst: &mut [u8], src: &[u8]) {
-    if src.len() < 4 {
-        return;
-    }
-    let at = fields::u32_at(src, 0) as usize;
-    let n = src.len() - 4;
-    if dst.len() < n {
-        return;
-    }
-    if dst.len() - n < at {
-        return;
-    }
-    bytes::copy(&src[4..], &mut dst[at..at + n]);
-}
-
-// Puts a part of one file at a place of another.
-fn put_part(dst: &mut [u8], part: &[u8], at: usize) {
-    let n = part.len();
-    if dst.len() < n {
-        return;
-    }
-    if dst.len() - n < at {
-        return;
-    }
-    bytes::copy(part, &mut dst[at..at + n]);
-}
-
 fn land(disk: &mut [u8], mem: &[u8], at: usize) {
     if mem.len() < 512 {
         return;
@@ -82,7 +54,7 @@ fn land(disk: &mut [u8], mem: &[u8], at: usize) {
     if mem.len() - 512 < at {
         return;
     }
-    put_part(disk, &mem[at..at + 512], at);
+    orders::put_part(disk, &mem[at..at + 512], at);
 }
 
 fn land_page(disk: &mut [u8], mem: &[u8], n: usize) {
@@ -98,10 +70,10 @@ fn take_in(mem: &mut [u8], disk: &mut [u8], log: &mut [u8], part: &[u8], kind: u
             io::write_all(1, part);
         }
         3 => {
-            put(mem, part);
-            put(disk, part);
+            orders::put(mem, part);
+            orders::put(disk, part);
         }
-        _ => put(log, part),
+        _ => orders::put(log, part),
     }
 }
 
@@ -146,7 +118,7 @@ fn repair(mem: &mut [u8], disk: &mut [u8], log: &[u8], kind: u8, n: usize) {
         8 => say::next(recovery::next_page(log, n)),
         9 => land_page(disk, mem, n),
         10 => land(disk, mem, 0),
-        11 => put_part(mem, disk, 0),
+        11 => orders::put_part(mem, disk, 0),
         12 => say::disk(disk),
         13 => say::stepped(recovery::all_pages(mem, log)),
         14 => say::mark(recovery::next_mark(log, n)),

@@ -1,26 +1,10 @@
 // What is written of each answer.
-use fields::Refusal;
+use orders::end;
+use orders::number;
 use recovery::NextMark;
 use recovery::NextPage;
 use recovery::Started;
 use recovery::Stepped;
-
-fn number(before: &[u8], n: usize) {
-    io::write_all(1, before);
-    io::print_decimal(1, n as u64);
-}
-
-fn end() {
-    io::write_all(1, b"\n");
-}
-
-pub fn refusal(r: Refusal) {
-    let fault = r.fault;
-    let place = r.place;
-    number(b"refused ", fault.number() as usize);
-    number(b" at ", place.0 as usize);
-    end();
-}
 
 pub fn started(a: Started) {
     match a {
@@ -28,11 +12,11 @@ pub fn started(a: Started) {
             io::write_all(1, b"clean\n");
         }
         Started::Pages(n) => {
-            number(b"pages ", n);
+            number(b"pages ", n as u64);
             end();
         }
         Started::Refused(r) => {
-            refusal(r);
+            orders::refused(r);
         }
     }
 }
@@ -46,7 +30,7 @@ pub fn stepped(a: Stepped) {
             io::write_all(1, b"done\n");
         }
         Stepped::Refused(r) => {
-            refusal(r);
+            orders::refused(r);
         }
     }
 }
@@ -57,13 +41,13 @@ pub fn next(a: NextPage) {
             io::write_all(1, b"no more\n");
         }
         NextPage::At { page, from, to } => {
-            number(b"page ", page);
-            number(b" from ", from.0);
-            number(b" to ", to.0);
+            number(b"page ", page as u64);
+            number(b" from ", from.0 as u64);
+            number(b" to ", to.0 as u64);
             end();
         }
         NextPage::Refused(r) => {
-            refusal(r);
+            orders::refused(r);
         }
     }
 }
@@ -74,18 +58,18 @@ pub fn mark(a: NextMark) {
             io::write_all(1, b"no more\n");
         }
         NextMark::At { page, to } => {
-            number(b"page ", page);
-            number(b" to ", to.0);
+            number(b"page ", page as u64);
+            number(b" to ", to.0 as u64);
             end();
         }
         NextMark::Refused(r) => {
-            refusal(r);
+            orders::refused(r);
         }
     }
 }
 
 fn next_number(n: usize) {
-    number(b" ", n);
+    number(b" ", n as u64);
 }
 
 // A line of numbers: the set bits before each of the pages 0 to n - 1.
@@ -114,6 +98,6 @@ fn sum(s: &[u8]) -> u32 {
 }
 
 pub fn disk(s: &[u8]) {
-    number(b"disk ", sum(s) as usize);
+    number(b"disk ", sum(s) as u64);
     end();
 }
