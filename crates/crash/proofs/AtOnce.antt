@@ -5,7 +5,7 @@ use mathlib.Core.Bool.{Bool, true, false}
 use mathlib.Core.List.{List, [], _∷_}
 use Rattle.sectors.specs.Sector.{stored, pagePlace, page, Bytes}
 use Rattle.sectors.proofs.Stored.{stored-again}
-use Rattle.old_log.specs.Layout.{isLogged, logged}
+use Rattle.logs.specs.Logs.{isLogged, logged}
 use Rattle.recovery.specs.declared.Started.the-variants.{Pages}
 use Rattle.recovery.specs.declared.Stepped.{Stepped}
 use Rattle.recovery.specs.declared.Stepped.the-variants.{Clean, Done, Refused}

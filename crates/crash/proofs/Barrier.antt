@@ -6,7 +6,7 @@ use mathlib.Core.Logic.{_⊎_, inl, inr}
 use mathlib.Core.Bool.{Bool, true}
 use mathlib.Core.List.{List, _∷_, List·Memᴰ, List·Memᴰ·head, List·Memᴰ·tail, List·Memᴰ·cases-cons, List·Memᴰ·not-nil}
 use Rattle.sectors.specs.Sector.{stored, page, Bytes}
-use Rattle.old_log.specs.Layout.{isLogged, logged}
+use Rattle.logs.specs.Logs.{isLogged, logged}
 use Rattle.recovery.specs.declared.Started.the-variants.{Pages}
 use Rattle.recovery.specs.declared.Stepped.{Stepped}
 use Rattle.recovery.specs.declared.Stepped.the-variants.{Clean, Done, Refused}

@@ -2,7 +2,7 @@
 use Prim.Native.Nat.{ℕ, _+_, _≤_}
 use native.Mathlib.Decide.{ℕ-discrete}
 use native.Mathlib.Omega.{arith}
-use mathlib.Core.Path.{_≡_, refl, sym, ap, ap₂, _∙_}
+use mathlib.Core.Path.{_≡_, refl, sym, ap, ap₂, subst, _∙_}
 use mathlib.Core.Logic.{_⊎_, inl, inr}
 use mathlib.Core.Bool.{Bool, true, false, _||_}
 use mathlib.Core.List.{List, [], _∷_, List·Memᴰ, List·Memᴰ·cases-cons, List·Memᴰ·not-nil}
@@ -11,14 +11,14 @@ use Rattle.base.proofs.Laws.{unclean-refused}
 use Rattle.sectors.specs.Sector.{sectorAt, stored, pagePlace, page, Bytes}
 use Rattle.sectors.proofs.Stored.{stored-again}
 use Rattle.sectors.proofs.Pages.{page-same, page-other}
-use Rattle.old_log.specs.Layout.{isLogged, logged}
-use Rattle.old_log.proofs.Facts.{logged-below, logged-length}
+use Rattle.logs.specs.Logs.{isLogged, versionsOf, logged}
+use Rattle.logs.proofs.Laws.{logged-below, logged-version, logged-length}
 use Rattle.recovery.specs.declared.Started.the-variants.{Pages}
 use Rattle.recovery.specs.declared.Started.the-variants as start
 use Rattle.recovery.specs.declared.Stepped.the-variants.{Clean, Done}
 use Rattle.recovery.specs.Calls.{startAnswer, pageAnswer, pageHive, closeAnswer, closeHive}
 use Rattle.recovery.specs.Finished.{finished, afterPages, Covers, AllIn}
-use Rattle.recovery.proofs.Within.{Within, within-self, good, inside, within-store, unclean, reached, within-page, page-done, done-logged, page-is, close-all, all-close}
+use Rattle.recovery.proofs.Within.{Within, within-self, good, inside, within-version, unclean, reached, within-page, page-done, done-logged, page-is, close-all, all-close}
 use Rattle.recovery.proofs.Repair.{lid, finished-is, close-finishes, pages-within, covered}
 use Rattle.recovery.proofs.Ended.{end-length, end-lid, end-page, end-clean, clean-page, clean-close}
 use Rattle.crash.specs.Trace.{Sent, send, land, Read, Trace, Open, Closed}
@@ -137,8 +137,7 @@ module _ (h l : List ℕ) (n : ℕ) (ok : startAnswer h l ≡ Pages n) (bytes : 
 
   within-lands : (s : Sent) (d : List ℕ) → isLogged l (s .number) ≡ true → s .bytes ≡ logged l (s .number) → Within h l d → Within h l (land s d)
   within-lands s d e x w =
-      let fit = logged-length l (good h l n ok .log) (s .number) e in
-      within-store h l n ok d w (s .number) (logged-below l (good h l n ok .log) (s .number) e) (s .bytes) (ap length x ∙ fit) (inr (e, x))
+      within-version h l n ok d w (s .number) (s .bytes) (subst (λ (y : List ℕ). List·Memᴰ y (versionsOf l (s .number))) (sym x) (logged-version l (s .number) e))
 
   end-lands : (s : Sent) (d : List ℕ) → isLogged l (s .number) ≡ true → s .bytes ≡ logged l (s .number) → d ≡ end → land s d ≡ end
   unfolding page
@@ -289,10 +288,13 @@ module _ (h l : List ℕ) (n : ℕ) (ok : startAnswer h l ≡ Pages n) (bytes : 
   until {d = d} o = until-within d (keeps o .disk)
 
   -- and whatever memory holds before the closing call is done
-  pub running : {m : List ℕ} {q : List Sent} {d : List ℕ} → Open h l false m q [] d → Running l n m
+  pub memory-within : {m : List ℕ} {q : List Sent} {d : List ℕ} → Open h l false m q [] d → Within h l m
   unfolding some
+  memory-within o = keeps o .memory
+
+  pub running : {m : List ℕ} {q : List Sent} {d : List ℕ} → Open h l false m q [] d → Running l n m
   running {m = m} o =
-      let w : Within h l m = keeps o .memory in
+      let w = memory-within o in
       record {
         until = until-within m w;
         pages = λ ps p g. page-done h l n ok (afterPages m l ps) (pages-within h l n ok ps m w) p g;

@@ -1,29 +1,27 @@
 -- The traces are not empty: a repair that two power failures interrupt, in which page 0 lands twice and a store of page 15 is lost, ends in the
 -- finished file. Hive and log are those of the figures.
 use Prim.Native.Nat.{ℕ, zero, suc}
-use mathlib.Core.Path.{_≡_, refl}
+use native.Mathlib.Omega.{arith}
+use mathlib.Core.Path.{_≡_, refl, sym, ap, _∙_}
+use mathlib.Core.Logic.{_⊎_, inl, inr}
 use mathlib.Core.Bool.{Bool, true, false, _&&_}
 use mathlib.Core.List.{List, [], _∷_, List·Memᴰ·head, List·Memᴰ·tail}
 use lib.Dec.{ltb, lit<}
 use borrow.Author.Tests.{ltb-true}
-use Rattle.fields.specs.Number.{u16At, u32At, u64At}
-use Rattle.fields.specs.Bytes.{sameBytes, standsAt}
-use Rattle.fields.specs.Faults.{_next_}
 use Rattle.fields.proofs.Bools.{and-inv}
-use Rattle.base.specs.Block.{xors, asStored, storedChecksum, isVersion, isBinsSize, usable, clean, blockFault}
-use Rattle.bitmap.specs.Bits.{bitsBefore}
 use Rattle.sectors.specs.Sector.{sectorAt, stored, page, Bytes}
-use Rattle.old_log.specs.Layout.{bitmap, isLogged, logged}
-use Rattle.old_log.specs.Tests.{isLogBase, headFault, logFault, stampsAgree, inBelow}
+use Rattle.logs.specs.Logs.{isLogged, logged}
+use Rattle.logs.specs.Small.{head, log, hive}
+use Rattle.logs.proofs.Small.{zero-logged, fifteen-logged, small-pages}
 use Rattle.recovery.specs.declared.Started.the-variants.{Pages}
 use Rattle.recovery.specs.declared.Stepped.the-variants.{Done}
-use Rattle.recovery.specs.Calls.{hiveFault, testFault, startAnswer, pageAnswer, pageHive, closeAnswer}
-use Rattle.recovery.specs.Finished.{afterPages}
-use Rattle.recovery.specs.Small.{head, log, hive}
+use Rattle.recovery.specs.Calls.{startAnswer, pageAnswer, pageHive, closeAnswer}
+use Rattle.recovery.specs.Finished.{afterPages, AllIn}
 use Rattle.recovery.proofs.Small.{small-accepted}
-use Rattle.crash.specs.Trace.{Sent, Trace, Open, failures, landedIn, times}
+use Rattle.recovery.proofs.Within.{page-is, page-stays}
+use Rattle.crash.specs.Trace.{Sent, send, land, Trace, Open, failures, landedIn, times}
 use Rattle.crash.specs.Demand.{Landed}
-use Rattle.crash.proofs.Demand3.{running, may-seal, landed}
+use Rattle.crash.proofs.Demand3.{keeps, memory-within, land-in, land-keeps, until, running, may-seal, landed}
 
 -- a list of bytes, by a test that computes
 areBytes : List ℕ → Bool
@@ -46,14 +44,6 @@ bytes : Bytes l
 unfolding areBytes log head
 bytes = bytes-of l refl
 
-zero-logged : isLogged l 0 ≡ true
-unfolding log head bitmap u32At u16At
-zero-logged = refl
-
-last-logged : isLogged l 15 ≡ true
-unfolding log head bitmap u32At u16At
-last-logged = refl
-
 -- ---- the trace
 
 -- a trace whose closing call is done, and whose closing sector may be sent
@@ -74,18 +64,46 @@ may-store : {m : List ℕ} {q : List Sent} {d : List ℕ} → Open hive l false 
 unfolding afterPages
 may-store o p e = running hive l 2 ok bytes o .pages [] p e
 
+-- a file with pages 0 and 15 in has every logged page in
+both-in : (d : List ℕ) → page d 0 ≡ logged l 0 → page d 15 ≡ logged l 15 → AllIn d l
+both-in d a b p m = go (small-pages p m)
+  where
+    go : (p ≡ 0) ⊎ (p ≡ 15) → page d p ≡ logged l p
+    go (inl z) = ap (page d) z ∙ a ∙ sym (ap (logged l) z)
+    go (inr z) = ap (page d) z ∙ b ∙ sym (ap (logged l) z)
+
+-- a page call of a logged page, and its store once it has landed: that page is in, and a page that was in stays in
+module _ {m : List ℕ} {q : List Sent} {d : List ℕ} (o : Open hive l false m q [] d) (p : ℕ) (e : isLogged l p ≡ true) where
+  abbrev made : Sent
+  made = send (pageHive m l p) p
+
+  made-in : page (pageHive m l p) p ≡ logged l p
+  made-in = page-is hive l 2 ok m (memory-within hive l 2 ok bytes o) p e
+
+  now-in : page (land made d) p ≡ logged l p
+  now-in = land-in hive l 2 ok bytes d (inl (keeps hive l 2 ok bytes o .disk)) made e made-in
+
+  made-other : (r : ℕ) → (r ≡ p → ⊥) → page (pageHive m l p) r ≡ page m r
+  made-other r z = page-stays hive l 2 ok m (memory-within hive l 2 ok bytes o) p r z
+
+  still-in : (r : ℕ) → page d r ≡ logged l r → page (land made d) r ≡ logged l r
+  still-in r i = land-keeps hive l 2 ok bytes d (inl (keeps hive l 2 ok bytes o .disk)) made e made-in r i
+
 pub cut-twice : Cut hive l
-unfolding failures landedIn times closeAnswer startAnswer pageHive pageAnswer testFault hiveFault clean stampsAgree inBelow page logged log head hive logFault headFault isLogBase usable blockFault isVersion isBinsSize storedChecksum asStored xors u64At u32At u16At standsAt sameBytes bitmap bitsBefore _next_
+unfolding failures landedIn times
 cut-twice =
     let o₀ : Open hive l false hive [] [] hive = Trace.begin in
     let o₁ = Trace.stores 0 (may-store o₀ 0 zero-logged) o₀ in
     let o₂ = Trace.fails (Trace.lands _ (List·Memᴰ·head refl) o₁) in
     let o₃ = Trace.stores 0 (may-store o₂ 0 zero-logged) o₂ in
-    let o₄ = Trace.stores 15 (may-store o₃ 15 last-logged) o₃ in
+    let o₄ = Trace.stores 15 (may-store o₃ 15 fifteen-logged) o₃ in
     let o₅ = Trace.fails (Trace.lands _ (List·Memᴰ·tail (List·Memᴰ·head refl)) o₄) in
-    let o₆ = Trace.stores 15 (may-store o₅ 15 last-logged) o₅ in
+    let o₆ = Trace.stores 15 (may-store o₅ 15 fifteen-logged) o₅ in
     let o₇ = Trace.lands _ (List·Memᴰ·head refl) o₆ in
-    cut (Trace.closes refl o₇) refl refl refl
+    let zero = now-in o₂ 0 zero-logged in
+    let memory = both-in _ (made-other o₅ 15 fifteen-logged 0 (λ z. omega arith) ∙ zero) (made-in o₅ 15 fifteen-logged) in
+    let disk = both-in _ (still-in o₅ 15 fifteen-logged 0 zero) (now-in o₅ 15 fifteen-logged) in
+    cut (Trace.closes (running hive l 2 ok bytes o₇ .until .closes .1 memory) o₇) refl refl (until hive l 2 ok bytes o₇ .closes .1 disk)
 
 -- Theorem 4.
 pub ends : Landed hive l (stored (cut-twice .disk) 0 (sectorAt (cut-twice .memory) 0))

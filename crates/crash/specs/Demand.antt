@@ -8,7 +8,7 @@ use mathlib.Core.List.{List}
 use Rattle.fields.specs.declared.Flaw.{Flaw}
 use Rattle.fields.specs.declared.Verdict.the-variants.{Flawed}
 use Rattle.base.specs.Block.{baseFault}
-use Rattle.old_log.specs.Layout.{isLogged}
+use Rattle.logs.specs.Logs.{isLogged}
 use Rattle.recovery.specs.declared.Started.the-variants as start
 use Rattle.recovery.specs.declared.Stepped.the-variants as step
 use Rattle.recovery.specs.Calls.{startAnswer, pageAnswer, pageHive, closeAnswer, closeHive}

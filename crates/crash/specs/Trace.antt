@@ -14,7 +14,7 @@ use mathlib.Core.Bool.{Bool, true, false, cond}
 use mathlib.Core.List.{List, [], _∷_, List·Memᴰ}
 use lib.Dec.{eqb}
 use Rattle.sectors.specs.Sector.{sectorAt, stored, pagePlace, page}
-use Rattle.old_log.specs.Layout.{isLogged}
+use Rattle.logs.specs.Logs.{isLogged}
 use Rattle.recovery.specs.declared.Stepped.{Stepped}
 use Rattle.recovery.specs.declared.Stepped.the-variants.{Clean, Done, Refused}
 use Rattle.recovery.specs.Calls.{pageAnswer, pageHive, closeAnswer, closeHive}

@@ -2,14 +2,13 @@
 use Prim.Native.Nat.{ℕ}
 use native.Mathlib.Omega.{arith}
 use mathlib.Core.Path.{_≡_, refl, sym, ap, _∙_}
-use mathlib.Core.Bool.{true}
 use mathlib.Core.List.{List, []}
 use lib.ListN.{getD, replicate}
 use Rattle.fields.specs.declared.Fault.the-variants.{HiveShort}
-use Rattle.fields.specs.Number.{u16At, u32At, u64At, sizeAt}
+use Rattle.fields.specs.Number.{u16At, u32At, sizeAt}
 use Rattle.fields.specs.Bytes.{sameBytes, standsAt}
 use Rattle.fields.specs.Faults.{_next_, faultOver, flaw, nowhere, refusalOf}
-use Rattle.base.specs.Block.{xors, asStored, storedChecksum, isVersion, isBinsSize, usable, clean, blockFault, baseFault}
+use Rattle.base.specs.Block.{xors, asStored, storedChecksum, isVersion, isBinsSize, blockFault, baseFault}
 use Rattle.cells.specs.Tiling.{goodSize, tilingN, tiling, rowOf, binSize, layoutN, layout, addRow, surveyOf}
 use Rattle.cells.specs.Map.{markAt, marks, isBad, marksAll, zeros, mapAfter, isMarked}
 use Rattle.cells.specs.Survey.{frontFault, surveyAnswer, mapLeft}
@@ -26,13 +25,12 @@ use Rattle.paths.specs.Paths.{split, partsOf, isPart, areParts, isPath, pathFau
 use Rattle.paths.specs.Search.{descend, lookupKey}
 use Rattle.paths.specs.Answers.{openFault, keyLook, findAnswer}
 use Rattle.sectors.specs.Sector.{page}
-use Rattle.bitmap.specs.Bits.{bitsBefore, nextAmong}
-use Rattle.old_log.specs.Layout.{bitmap, isLogged, logged}
-use Rattle.old_log.specs.Tests.{isLogBase, headFault, logFault, stampsAgree}
-use Rattle.recovery.specs.Calls.{hiveFault, testFault, startAnswer, pageAnswer, pageHive}
+use Rattle.logs.specs.Small.{log, hive}
+use Rattle.logs.proofs.Small.{small-zero, small-fifteen, zero-logged, fifteen-logged}
+use Rattle.recovery.specs.Calls.{pageHive}
 use Rattle.recovery.proofs.Accepts.{start-accepted}
-use Rattle.recovery.specs.Small.{head, log, hive}
 use Rattle.recovery.proofs.Small.{small-accepted}
+use Rattle.recovery.proofs.Within.{within-self, page-is, page-stays}
 use Rattle.figures.specs.Inputs.{header, baseBlock, rootCell, minimal}
 use Rattle.demands.specs.Frauds.{NoFraud}
 
@@ -53,29 +51,25 @@ nothing-found : findAnswer [] [] ≡ found.Refused (refusalOf (flaw HiveShort no
 unfolding findAnswer keyLook openFault baseFault _next_
 nothing-found = refl
 
--- the first call of the small repair: a byte of page 0 is the log's, and one of page 15 is still the hive's
-page-zero : getD (pageHive hive (log 512) 0) 4124 0 ≡ 7
-unfolding pageHive pageAnswer startAnswer testFault hiveFault clean hive stampsAgree page logged log head logFault headFault isLogBase usable blockFault isVersion isBinsSize storedChecksum asStored xors u64At u32At u16At standsAt sameBytes bitmap bitsBefore nextAmong _next_
-page-zero = refl
+-- the first call of the small repair: page 0 is then the log's, and page 15 still the hive's
+page-zero : getD (page (pageHive hive (log 512) 0) 0) 28 0 ≡ 7
+page-zero =
+    ap (λ (x : List ℕ). getD x 28 0) (page-is hive (log 512) 2 small-accepted hive (within-self hive (log 512)) 0 zero-logged) ∙ small-zero
 
 page-fifteen : getD (page (pageHive hive (log 512) 0) 15) 0 0 ≡ 0
-unfolding pageHive pageAnswer startAnswer testFault hiveFault clean hive stampsAgree page logged log head logFault headFault isLogBase usable blockFault isVersion isBinsSize storedChecksum asStored xors u64At u32At u16At standsAt sameBytes bitmap bitsBefore nextAmong _next_
-page-fifteen = refl
-
-is-fifteen : (isLogged (log 512) 15 ≡ true) × (getD (logged (log 512) 15) 0 0 ≡ 9)
-unfolding logged log head u32At u16At bitmap bitsBefore
-is-fifteen = (refl, refl)
+unfolding page hive
+page-fifteen = ap (λ (x : List ℕ). getD x 0 0) (page-stays hive (log 512) 2 small-accepted hive (within-self hive (log 512)) 0 15 (λ z. omega arith))
 
 pub no-fraud : NoFraud
-unfolding hive
+unfolding page hive
 no-fraud =
     record {
       refuse-hives = λ check p f. let r = f minimal (replicate 64 0) in let e = sym (r .1) ∙ p minimal (replicate 64 0) ∙ minimal-accepted in let z : _≡_ {A = ℕ} 0 1 = cc in omega arith;
       refuse-logs = λ start p f. let r = f hive (log 512) in let e = sym (r .1) ∙ p hive (log 512) ∙ small-accepted in let z : _≡_ {A = ℕ} 0 1 = cc in omega arith;
       constant-key = λ find p a f. let e = sym nothing-found ∙ sym (p [] []) ∙ f [] [] ∙ sym (f minimal []) ∙ p minimal [] ∙ minimal-root in let z : _≡_ {A = ℕ} 0 1 = cc in omega arith;
       constant-check = λ check p a f. let e = sym nothing-checked ∙ sym (p [] []) ∙ f [] [] ∙ sym (f minimal (replicate 64 0)) ∙ p minimal (replicate 64 0) ∙ minimal-accepted in let z : _≡_ {A = ℕ} 0 1 = cc in omega arith;
-      do-nothing = λ left p f. let e = sym page-zero ∙ ap (λ (x : List ℕ). getD x 4124 0) (sym (p hive (log 512) 0) ∙ f hive (log 512) 0) in let z : _≡_ {A = ℕ} 7 0 = e in omega arith;
-      install-all = λ left p f. let e = sym page-fifteen ∙ ap (λ (x : List ℕ). getD x 0 0) (ap (λ (x : List ℕ). page x 15) (sym (p hive (log 512) 0)) ∙ f hive (log 512) 0 15 (is-fifteen .0)) ∙ is-fifteen .1 in let z : _≡_ {A = ℕ} 0 9 = e in omega arith;
+      do-nothing = λ left p f. let e = sym page-zero ∙ ap (λ (x : List ℕ). getD (page x 0) 28 0) (sym (p hive (log 512) 0) ∙ f hive (log 512) 0) in let z : _≡_ {A = ℕ} 7 0 = e in omega arith;
+      install-all = λ left p f. let e = sym page-fifteen ∙ ap (λ (x : List ℕ). getD x 0 0) (ap (λ (x : List ℕ). page x 15) (sym (p hive (log 512) 0)) ∙ f hive (log 512) 0 15 fifteen-logged) ∙ small-fifteen in let z : _≡_ {A = ℕ} 0 9 = e in omega arith;
       invent-report = λ check p h m r e. let a = accepted-as h m (sym (p h m) ∙ e) in (a .tally, a .surveys, a .report);
       invent-pages = λ start p h l n e. sym (start-accepted h l n (sym (p h l) ∙ e) .1);
     }

@@ -38,7 +38,8 @@ use Rattle.recovery.specs.declared.Started.the-variants as started
 use Rattle.recovery.specs.declared.Stepped.the-variants as stepped
 use Rattle.recovery.specs.declared.NextMark.the-variants as mark
 use Rattle.recovery.specs.Calls.{startAnswer, pageAnswer, pageHive, closeAnswer, closeHive, nextAnswer}
-use Rattle.recovery.specs.Refused.{OfHead, OfLog, OfStart, OfPage, OfClose}
+use Rattle.logs.specs.Refused.{OfHead, OfLog}
+use Rattle.recovery.specs.Refused.{OfStart, OfPage, OfClose}
 use Rattle.recovery.specs.AtOnce.{allAnswer, allHive, markAnswer}
 
 pub record Demand1 : Type 0 where

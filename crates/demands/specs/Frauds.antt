@@ -9,7 +9,7 @@ use Rattle.fields.specs.declared.Refusal.{Refusal}
 use Rattle.cells.specs.declared.Surveyed.the-variants.{Tiled}
 use Rattle.cells.specs.declared.Tally.{Tally}
 use Rattle.cells.specs.Survey.{surveyAnswer}
-use Rattle.old_log.specs.Layout.{isLogged, logged, loggedCount}
+use Rattle.logs.specs.Logs.{isLogged, logged, loggedCount}
 use Rattle.sectors.specs.Sector.{page}
 use Rattle.tree.specs.declared.Checked.{Checked}
 use Rattle.tree.specs.declared.Checked.the-variants as checked

@@ -31,7 +31,7 @@ use Rattle.lookup.specs.declared.Info.{Info}
 use Rattle.lookup.specs.declared.ValueFound.the-variants as valued
 use Rattle.lookup.specs.Answers.{infoOf, infoAnswer, viewAnswer, viewBytes, copyAnswer, copyOut}
 use Rattle.lookup.specs.Reach.{FirstNamed}
-use Rattle.old_log.specs.Layout.{loggedCount}
+use Rattle.logs.specs.Logs.{loggedCount}
 use Rattle.recovery.specs.declared.Started.the-variants as started
 use Rattle.recovery.specs.Calls.{startAnswer, closeHive}
 use Rattle.recovery.specs.Accepted.{Accepted}

@@ -21,7 +21,7 @@ use Rattle.lookup.specs.Answers.{infoAnswer, viewAnswer, viewBytes, copyAnswer,
 use Rattle.listing.specs.declared.KeyFacts.the-variants as facts
 use Rattle.listing.specs.declared.Member.the-variants as member
 use Rattle.listing.specs.Members.{subkeyAnswer, valueAnswer, infoAt, copyAt, outAt, factsAnswer}
-use Rattle.old_log.specs.Layout.{isLogged}
+use Rattle.logs.specs.Logs.{isLogged}
 use Rattle.recovery.specs.Calls.{closeHive}
 use Rattle.recovery.specs.Finished.{finished, afterPages, Covers}
 use Rattle.crash.specs.Trace.{Sent, Trace, Open, Closed, AllLanded}

@@ -25,7 +25,7 @@ use Rattle.recovery.specs.declared.NextPage.{NextPage}
 use Rattle.recovery.specs.declared.NextPage.the-variants.{At, NoMore, Refused as Unread}
 use Rattle.recovery.specs.Calls.{startAnswer, nextAnswer}
 use Rattle.figures.specs.Inputs.{bare, minimal, lone, lowest, highest, used, sized}
-use Rattle.recovery.specs.Small.{log, hive}
+use Rattle.logs.specs.Small.{log, hive}
 
 -- what an answer gives, as numbers in the table's order: a count or none, or the refusal's number and place
 unfoldable pub surveyNumbers : Surveyed → List ℕ

@@ -1,13 +1,14 @@
 -- Where the parts of an old log l lie: "Base block copy in the first 512 bytes; "DIRT" at 512; bitmap at 516, one bit per 512-byte page, bins size /
 -- 4096 bytes, lowest bit first; pages from the next multiple of 512 at or after its end, one for each set bit in order."
 use Prim.Native.Nat.{ℕ, _+_, _*_, _/_}
-use mathlib.Core.Bool.{Bool}
+use mathlib.Core.Bool.{Bool, cond}
 use mathlib.Core.List.{List, [], _∷_}
 use lib.ListN.{take, drop}
 use Rattle.base.specs.Block.{sector, binsOf}
 use Rattle.bitmap.specs.declared.Next.{Next}
 use Rattle.bitmap.specs.Bits.{isMarked, bitsBefore, nextMarked}
 use Rattle.sectors.specs.Sector.{sectorAt}
+use Rattle.sectors.specs.Logged.{putBelow}
 
 -- "The log's bins size counts."
 abbrev pub logBins : List ℕ → ℕ
@@ -51,3 +52,11 @@ loggedPlace l p = pagesAt l + 512 * loggedBefore l p
 
 unfoldable pub logged : List ℕ → ℕ → List ℕ
 logged l p = sectorAt l (loggedPlace l p)
+
+-- the versions of page p that the log has: one, where the page is logged
+abbrev pub versionsOf : List ℕ → ℕ → List (List ℕ)
+versionsOf l p = cond (isLogged l p) (logged l p ∷ []) []
+
+-- h with every logged page put in
+abbrev pub allPut : List ℕ → List ℕ → List ℕ
+allPut h l = putBelow (isLogged l) (logged l) (pageCount l) h

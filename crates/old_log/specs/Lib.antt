@@ -1,2 +1,4 @@
 pub mod Layout
 pub mod Tests
+pub mod Accepted
+pub mod Refused

@@ -1,6 +1,6 @@
--- The tests of an old log: 21, 22 for the bitmap, 23, 22 for the pages; and the stamps, and whether the logged pages are in.
-use Prim.Native.Nat.{ℕ, zero, suc, _+_, _*_}
-use mathlib.Core.Bool.{Bool, true, not, cond, _&&_, _||_}
+-- The tests of an old log: 21, 22 for the bitmap, 23, 22 for the pages; and the stamps, whether the logged pages are in, and the closing sector.
+use Prim.Native.Nat.{ℕ, _+_, _*_}
+use mathlib.Core.Bool.{Bool, not, cond, _&&_, _||_}
 use mathlib.Core.List.{List}
 use lib.Dec.{eqb, leb}
 use lib.ListN.{length}
@@ -8,10 +8,12 @@ use Rattle.fields.specs.declared.Fault.the-variants.{LogBase, LogShort, NoDirt}
 use Rattle.fields.specs.declared.Verdict.{Verdict}
 use Rattle.fields.specs.declared.Verdict.the-variants as verdict
 use Rattle.fields.specs.Number.{u64At}
-use Rattle.fields.specs.Bytes.{sameBytes, standsAt}
+use Rattle.fields.specs.Bytes.{standsAt}
 use Rattle.fields.specs.Faults.{flaw, nowhere, unless, _next_}
 use Rattle.base.specs.Block.{sector, typeOf, usable, isSettled}
 use Rattle.sectors.specs.Sector.{page}
+use Rattle.sectors.specs.Logged.{inBelow}
+use Rattle.sectors.specs.Closing.{closingSector}
 use Rattle.old_log.specs.declared.Tested.{Tested}
 use Rattle.old_log.specs.declared.Tested.the-variants.{Logged, Flawed}
 use Rattle.old_log.specs.Layout.{dirt, mapSize, pageCount, isLogged, loggedCount, pagesAt, logged}
@@ -64,14 +66,10 @@ stampsAgree h l =
     cond (usable (sector h) 0) (eqb (stampOf (sector h)) (stampOf (sector l)))
     (eqb (binStamp (page h 0)) (stampOf (sector l)) && zeroAgrees l)
 
--- page p is in, or it is not logged
-abbrev pub isIn : List ℕ → List ℕ → ℕ → Bool
-isIn h l p = not (isLogged l p) || sameBytes (page h p) (logged l p)
-
-unfoldable pub inBelow : ℕ → List ℕ → List ℕ → Bool
-inBelow zero h l = true
-inBelow (suc p) h l = inBelow p h l && isIn h l p
-
 -- "a logged page is not in yet" is 27
 abbrev pub allIn : List ℕ → List ℕ → Bool
-allIn h l = inBelow (pageCount l) h l
+allIn h l = inBelow (isLogged l) (logged l) (pageCount l) h
+
+-- "the log's first 512 bytes with type 0 and a new checksum"
+abbrev pub closingOf : List ℕ → List ℕ
+closingOf l = closingSector (sector l)

@@ -1,4 +1,4 @@
-// The old-format log: where its parts lie, its own tests, and what it says of a hive.
+// The old-format log: where its parts lie, its own tests, what it says of a hive, and the repair's stores.
 use bitmap::Next;
 use fields::Fault;
 use fields::Flaw;
@@ -10,8 +10,9 @@ ghost use mathlib.Core.Bool.{true};
 ghost use Prim.Native.Nat.{_+_, _≤_, _<_};
 ghost use lib.ListN.{length};
 ghost use Rattle.fields.specs.declared.Verdict.the-variants.{Sound};
-ghost use Rattle.old_log.specs.Layout.{logBins, bitmap as bitmapOf, pagesAt, isLogged, loggedPlace, loggedCount, nextLogged};
-ghost use Rattle.old_log.specs.Tests.{isLogBase, pagesFit, headFault, logFault, counted, zeroAgrees, stampsAgree, isIn, allIn};
+ghost use Rattle.sectors.specs.Logged.{isIn, putOne};
+ghost use Rattle.old_log.specs.Layout.{logBins, bitmap as bitmapOf, pagesAt, isLogged, loggedPlace, logged, loggedCount, nextLogged, allPut};
+ghost use Rattle.old_log.specs.Tests.{isLogBase, pagesFit, headFault, logFault, counted, zeroAgrees, stampsAgree, allIn};
 
 // What the log's own tests give.
 pub enum Tested {
@@ -177,7 +178,7 @@ fn is_in(hive: &[u8], log: &[u8], page: usize, from: usize) -> bool
     requires { ⌜ logFault (now log) ≡ Sound ⌝ }
     requires { ⌜ 4096 + logBins (now log) ≤ length (now hive) ⌝ }
     requires { ⌜ from ≡ loggedPlace (now log) page ⌝ }
-    ensures { λ r. ⌜ r ≡ isIn (now (hive .entry)) (now (log .entry)) page ⌝ }
+    ensures { λ r. ⌜ r ≡ isIn (isLogged (now (log .entry))) (logged (now (log .entry))) (now (hive .entry)) page ⌝ }
 {
     if !is_logged(log, page) {
         return true;
@@ -205,4 +206,36 @@ pub fn all_in(hive: &[u8], log: &[u8]) -> bool
         page += 1;
     }
     true
+}
+
+// ---- the repair's stores
+
+// Puts a page in where it is logged. The caller knows where it lies in the log.
+fn put_in(hive: &mut [u8], log: &[u8], page: usize, from: usize)
+    requires { ⌜ logFault (now log) ≡ Sound ⌝ }
+    requires { ⌜ 4096 + logBins (now log) ≤ length (now hive) ⌝ }
+    requires { ⌜ from ≡ loggedPlace (now log) page ⌝ }
+    ensures { λ _. ⌜ now (hive .exit) ≡ putOne (isLogged (now (log .entry))) (logged (now (log .entry))) page (now (hive .entry)) ⌝ }
+{
+    if is_logged(log, page) {
+        let to = sectors::page_place(page);
+        sectors::store(hive, to, log, Place(from));
+    }
+}
+
+// Every logged page, rising: one pass over the bitmap, which keeps the place of the next logged page as it goes.
+pub fn put_all(hive: &mut [u8], log: &[u8])
+    requires { ⌜ logFault (now log) ≡ Sound ⌝ }
+    requires { ⌜ 4096 + logBins (now log) ≤ length (now hive) ⌝ }
+    ensures { λ _. ⌜ now (hive .exit) ≡ allPut (now (hive .entry)) (now (log .entry)) ⌝ }
+{
+    let map = map_of(log);
+    let end = bins_size(log) / 512;
+    let mut from = pages_at(log);
+    let mut page: usize = 0;
+    while page < end {
+        put_in(hive, log, page, from);
+        from += 512 * bitmap::bit_of(map, page);
+        page += 1;
+    }
 }

@@ -10,10 +10,8 @@ use Rattle.fields.specs.declared.Verdict.the-variants.{Sound}
 use Rattle.fields.proofs.Bools.{never}
 use Rattle.bitmap.specs.declared.Next.{Next}
 use Rattle.bitmap.specs.declared.Next.the-variants as bit
-use Rattle.bitmap.proofs.Laws.{Least, next-least, next-none}
-use Rattle.old_log.specs.Layout.{bitmap, pageCount, isLogged, nextLogged}
-use Rattle.old_log.specs.Tests.{logFault}
-use Rattle.old_log.proofs.Facts.{logged-below}
+use Rattle.logs.specs.Logs.{logFault, pageCount, isLogged, nextLogged}
+use Rattle.logs.proofs.Laws.{logged-below, Least, next-least, next-none}
 use Rattle.recovery.specs.declared.NextPage.{NextPage}
 use Rattle.recovery.specs.declared.NextPage.the-variants.{At}
 use Rattle.recovery.specs.Calls.{nextOf, nextTested, nextAnswer}
@@ -30,7 +28,7 @@ module _ (l : List ℕ) (ok : logFault l ≡ Sound) where
   asked-all (suc k) from far p g m =
       subst (λ (a : NextPage). List·Memᴰ p (given a (asked k l))) (sym (next-is from)) (go (nextLogged l from) refl (λ q. asked-all k (suc q)))
     where
-      at : (q : ℕ) → Least (bitmap l) from q → ((q : ℕ) → pageCount l ≤ suc q + k → (p : ℕ) → suc q ≤ p → isLogged l p ≡ true → List·Memᴰ p (asked k l (suc q)))
+      at : (q : ℕ) → Least l from q → ((q : ℕ) → pageCount l ≤ suc q + k → (p : ℕ) → suc q ≤ p → isLogged l p ≡ true → List·Memᴰ p (asked k l (suc q)))
           → Dec (p < q) → Dec (p ≡ q) → List·Memᴰ p (q ∷ asked k l (suc q))
       at q s more (yes b) e = absurd (never (isLogged l p) m (s .least p g b))
       at q s more (no b) (yes e) = List·Memᴰ·head e
@@ -39,8 +37,8 @@ module _ (l : List ℕ) (ok : logFault l ≡ Sound) where
       go : (a : Next) → nextLogged l from ≡ a
           → ((q : ℕ) → pageCount l ≤ suc q + k → (p : ℕ) → suc q ≤ p → isLogged l p ≡ true → List·Memᴰ p (asked k l (suc q)))
           → List·Memᴰ p (given (nextOf l a) (asked k l))
-      go (bit.At q) e more = at q (next-least (bitmap l) from q e) more (decLt p q) (ℕ-discrete p q)
-      go bit.Nothing e more = absurd (never (isLogged l p) m (next-none (bitmap l) from e p g))
+      go (bit.At q) e more = at q (next-least l from q e) more (decLt p q) (ℕ-discrete p q)
+      go bit.Nothing e more = absurd (never (isLogged l p) m (next-none l from e p g))
 
   pub asked-covers : Covers l (asked (pageCount l) l 0)
   asked-covers p m = asked-all (pageCount l) 0 (omega arith) p (omega arith) m

@@ -7,8 +7,9 @@ use mathlib.Core.Path.{_≡_, refl, sym, ap, subst, _∙_}
 use mathlib.Core.Bool.{Bool, true, false, cond}
 use mathlib.Core.List.{List, [], _∷_, _++_, append-nil, List·Memᴰ, List·Memᴰ·head, Memᴰ·append-left, Memᴰ·append-right}
 use Rattle.sectors.specs.Sector.{stored, pagePlace}
-use Rattle.old_log.specs.Layout.{pageCount, isLogged, logged}
-use Rattle.old_log.proofs.Facts.{logged-below}
+use Rattle.sectors.specs.Logged.{putOne, putBelow}
+use Rattle.logs.specs.Logs.{pageCount, isLogged, logged, allPut}
+use Rattle.logs.proofs.Laws.{logged-below}
 use Rattle.recovery.specs.declared.Started.the-variants.{Pages}
 use Rattle.recovery.specs.Calls.{startAnswer, pageHive, closeHive}
 use Rattle.recovery.specs.Finished.{finished, afterPages, Covers}
@@ -39,10 +40,10 @@ module _ (h l : List ℕ) (n : ℕ) (ok : startAnswer h l ≡ Pages n) where
   abbrev so-far : ℕ → List ℕ
   so-far p = afterPages h l (loggedBelow p l)
 
-  pub so-far-within : (p : ℕ) → Within h l (so-far p)
+  so-far-within : (p : ℕ) → Within h l (so-far p)
   so-far-within p = pages-within h l n ok (loggedBelow p l) h (within-self h l)
 
-  pub one-more : (p : ℕ) → so-far (suc p) ≡ cond (isLogged l p) (stored (so-far p) (pagePlace p) (logged l p)) (so-far p)
+  one-more : (p : ℕ) → so-far (suc p) ≡ putOne (isLogged l) (logged l) p (so-far p)
   unfolding loggedBelow afterPages
   one-more p = go (isLogged l p) refl
     where
@@ -50,6 +51,15 @@ module _ (h l : List ℕ) (n : ℕ) (ok : startAnswer h l ≡ Pages n) where
           → afterPages h l (loggedBelow p l ++ cond b (p ∷ []) []) ≡ cond b (stored (so-far p) (pagePlace p) (logged l p)) (so-far p)
       go true e = after-both l (loggedBelow p l) (p ∷ []) h ∙ page-stores h l n ok (so-far p) (so-far-within p) p e
       go false e = ap (afterPages h l) (append-nil (loggedBelow p l))
+
+  put-below : (p : ℕ) → putBelow (isLogged l) (logged l) p h ≡ so-far p
+  unfolding putBelow loggedBelow afterPages
+  put-below zero = refl
+  put-below (suc p) = ap (putOne (isLogged l) (logged l) p) (put-below p) ∙ sym (one-more p)
+
+  -- all logged pages put in are page calls in a row
+  pub all-put : allPut h l ≡ afterPages h l (loggedPages l)
+  all-put = put-below (pageCount l)
 
   pub all-covered : Covers l (loggedPages l)
   all-covered p m = below-has l (pageCount l) p (logged-below l (good h l n ok .log) p m) m

@@ -2,10 +2,8 @@
 use Prim.Native.Nat.{ℕ}
 use mathlib.Core.Path.{_≡_, ap}
 use mathlib.Core.List.{List}
-use Rattle.base.specs.Block.{sector}
 use Rattle.sectors.specs.Sector.{stored, pagePlace}
-use Rattle.sectors.specs.Closing.{closingSector}
-use Rattle.old_log.specs.Layout.{logged}
+use Rattle.logs.specs.Logs.{logged, closingOf}
 use Rattle.recovery.specs.declared.Started.{Started}
 use Rattle.recovery.specs.declared.Stepped.{Stepped}
 use Rattle.recovery.specs.declared.Stepped.the-variants.{Done}
@@ -26,9 +24,9 @@ module _ (h l : List ℕ) (a : Started) (e : startAnswer h l ≡ a) where
   unfolding closeAnswer
   close-answer = ap (λ (x : Started). tested x (closed h l)) e
 
-  pub close-hive : closeHive h l ≡ changed (tested a (closed h l)) (stored h 0 (closingSector (sector l))) h
+  pub close-hive : closeHive h l ≡ changed (tested a (closed h l)) (stored h 0 (closingOf l)) h
   unfolding closeHive
-  close-hive = ap (λ (x : Stepped). changed x (stored h 0 (closingSector (sector l))) h) close-answer
+  close-hive = ap (λ (x : Stepped). changed x (stored h 0 (closingOf l)) h) close-answer
 
   pub all-answer : allAnswer h l ≡ tested a Done
   unfolding allAnswer

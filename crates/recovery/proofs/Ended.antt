@@ -6,15 +6,13 @@ use native.Mathlib.Omega.{arith}
 use mathlib.Core.Path.{_≡_, sym, ap, _∙_}
 use mathlib.Core.Bool.{true}
 use mathlib.Core.List.{List, [], _∷_, List·Memᴰ, List·Memᴰ·head, List·Memᴰ·tail}
-use lib.ListN.{length, take}
-use lib.Seq.{length-take-le}
-use Rattle.base.specs.Block.{sector, typeOf, clean}
+use lib.ListN.{length}
+use Rattle.base.specs.Block.{clean}
 use Rattle.sectors.specs.Sector.{sectorAt, stored, page, Bytes}
 use Rattle.sectors.proofs.Stored.{stored-length, stored-same}
 use Rattle.sectors.proofs.Pages.{page-closed}
-use Rattle.sectors.proofs.Closed.{closing-clean}
-use Rattle.old_log.specs.Layout.{pageCount, isLogged, logged}
-use Rattle.old_log.proofs.Facts.{head-of, head-facts, log-base, logged-below}
+use Rattle.logs.specs.Logs.{pageCount, isLogged, logged}
+use Rattle.logs.proofs.Laws.{logged-below, closing-clean}
 use Rattle.recovery.specs.declared.Started.the-variants as start
 use Rattle.recovery.specs.declared.Stepped.the-variants as step
 use Rattle.recovery.specs.Calls.{startAnswer, pageAnswer, pageHive, closeAnswer, closeHive}
@@ -48,14 +46,6 @@ below-all (suc n) p g = go (below-all n p) (ℕ-discrete p n)
     go rest (yes e) = List·Memᴰ·head e
     go rest (no e) = List·Memᴰ·tail (rest (omega arith))
 
-take-bytes : (l : List ℕ) → Bytes l → (n : ℕ) → Bytes (take n l)
-take-bytes [] b zero i = b i
-take-bytes [] b (suc n) i = b i
-take-bytes (x ∷ l) b zero zero = omega arith
-take-bytes (x ∷ l) b zero (suc i) = omega arith
-take-bytes (x ∷ l) b (suc n) zero = b zero
-take-bytes (x ∷ l) b (suc n) (suc i) = take-bytes l (λ k. b (suc k)) n i
-
 module _ (h l : List ℕ) (n : ℕ) (ok : startAnswer h l ≡ start.Pages n) where
   whole : List ℕ
   whole = afterPages h l (below (pageCount l))
@@ -86,10 +76,7 @@ module _ (h l : List ℕ) (n : ℕ) (ok : startAnswer h l ≡ start.Pages n) whe
 
   module _ (bytes : Bytes l) where
     lid-clean : clean (lid h l n ok) ≡ true
-    lid-clean =
-        let f = head-facts l (head-of l (good h l n ok .log)) in
-        let u = log-base (sector l) (f .base) in
-        closing-clean (sector l) (length-take-le 512 l (f .long)) (take-bytes l bytes 512) (typeOf (sector l)) (u .0) (u .1)
+    lid-clean = closing-clean l (good h l n ok .log) bytes
 
     -- whatever log is lent, the start says clean
     pub end-clean : (l′ : List ℕ) → startAnswer (finished h l) l′ ≡ start.Clean

@@ -1,27 +1,27 @@
 -- Every refusal of the repair calls says why, and has place 0.
-use Prim.Native.Nat.{ℕ, _+_, _*_}
+use Prim.Native.Nat.{ℕ, _+_}
 use native.Mathlib.Omega.{arith}
 use mathlib.Core.Path.{_≡_, refl, sym, ap, _∙_}
-use mathlib.Core.Bool.{Bool, true, false, cond, _||_}
+use mathlib.Core.Bool.{Bool, true, false, cond}
 use mathlib.Core.List.{List}
-use lib.Dec.{eqb, leb, ltb}
+use lib.Dec.{leb, ltb}
 use lib.ListN.{length}
-use borrow.Author.Tests.{leb-false, ltb-true, eqb-false}
+use borrow.Author.Tests.{leb-false, ltb-true}
 use Rattle.fields.specs.declared.Fault.{Fault}
 use Rattle.fields.specs.declared.Fault.the-variants as named
 use Rattle.fields.specs.declared.Flaw.{Flaw}
 use Rattle.fields.specs.declared.Refusal.{Refusal}
 use Rattle.fields.specs.declared.Verdict.{Verdict}
 use Rattle.fields.specs.declared.Verdict.the-variants.{Sound, Flawed}
-use Rattle.fields.specs.Bytes.{standsAt}
 use Rattle.fields.specs.Faults.{flaw, nowhere, unless, refusalOf}
 use Rattle.fields.proofs.Bools.{never}
 use Rattle.fields.proofs.Every.{Every, every-unless, every-next}
 use Rattle.base.specs.Block.{sector, clean}
 use Rattle.bitmap.specs.declared.Next.{Next}
 use Rattle.bitmap.specs.declared.Next.the-variants as following
-use Rattle.old_log.specs.Layout.{mapSize, isLogged, logBins, loggedCount, pagesAt, nextLogged, dirt}
-use Rattle.old_log.specs.Tests.{isLogBase, pagesFit, headFault, logFault, stampsAgree, allIn}
+use Rattle.logs.specs.Logs.{headFault, logFault, logBins, isLogged, loggedCount, nextLogged, applies, allIn}
+use Rattle.logs.specs.Refused.{OfHead, OfLog}
+use Rattle.logs.proofs.Laws.{head-refuses, log-refuses}
 use Rattle.recovery.specs.declared.NextMark.the-variants as mark
 use Rattle.recovery.specs.declared.NextPage.the-variants as next
 use Rattle.recovery.specs.declared.Started.{Started}
@@ -29,31 +29,7 @@ use Rattle.recovery.specs.declared.Started.the-variants as started
 use Rattle.recovery.specs.declared.Stepped.the-variants as stepped
 use Rattle.recovery.specs.Calls.{hiveFault, testFault, started as startedBy, startAnswer, tested, pageAnswer, closeAnswer, nextOf, nextTested, nextAnswer}
 use Rattle.recovery.specs.AtOnce.{allAnswer, markOf, markTested, markAnswer}
-use Rattle.recovery.specs.Refused.{OfHead, log-short, no-log-base, bitmap-cut, no-dirt, OfLog, of-head, pages-cut, OfStart, hive-short, of-log, hive-cut, stamps-differ, OfPage, page-start, not-dirty, OfClose, close-start, not-in}
-
--- ---- 21 to 25
-module _ (l : List ℕ) where
-  pages-short : (a b : Bool) → a || b ≡ false → (a ≡ false) × (b ≡ false)
-  pages-short false b e = (refl, e)
-  pages-short true b e = absurd (let z : _≡_ {A = ℕ} 0 1 = cc in omega arith)
-
-  head-refuses : Every (OfHead l) (headFault l)
-  unfolding headFault
-  head-refuses =
-      every-next (OfHead l) (unless (leb 512 (length l)) (flaw named.LogBase nowhere)) _
-      (every-unless (OfHead l) (leb 512 (length l)) _ (λ e. log-short (leb-false _ _ e)))
-      (λ a. every-next (OfHead l) (unless (isLogBase (sector l)) (flaw named.LogBase nowhere)) _
-      (every-unless (OfHead l) (isLogBase (sector l)) _ (λ e. no-log-base e))
-      (λ b. every-next (OfHead l) (unless (leb (516 + mapSize l) (length l)) (flaw named.LogShort nowhere)) _
-      (every-unless (OfHead l) (leb (516 + mapSize l) (length l)) _ (λ e. bitmap-cut (leb-false _ _ e)))
-      (λ c. every-unless (OfHead l) (standsAt l 512 dirt) _ (λ e. no-dirt e))))
-
-  log-refuses : Every (OfLog l) (logFault l)
-  unfolding logFault
-  log-refuses =
-      every-next (OfLog l) (headFault l) _ (λ f e. of-head (head-refuses f e))
-      (λ s. every-unless (OfLog l) (pagesFit l) _
-      (λ e. let p = pages-short (eqb (loggedCount l) 0) (leb (pagesAt l + 512 * loggedCount l) (length l)) e in pages-cut (eqb-false _ _ (p .0)) (leb-false _ _ (p .1))))
+use Rattle.recovery.specs.Refused.{OfStart, hive-short, of-log, hive-cut, stamps-differ, OfPage, page-start, not-dirty, OfClose, close-start, not-in}
 
 module _ (h l : List ℕ) where
   tests-refuse : Every (OfStart h l) (testFault h l)
@@ -62,7 +38,7 @@ module _ (h l : List ℕ) where
       every-next (OfStart h l) (logFault l) _ (λ f e. of-log (log-refuses l f e))
       (λ a. every-next (OfStart h l) (unless (leb (4096 + logBins l) (length h)) (flaw named.HiveCut nowhere)) _
       (every-unless (OfStart h l) (leb (4096 + logBins l) (length h)) _ (λ e. hive-cut (leb-false _ _ e)))
-      (λ b. every-unless (OfStart h l) (stampsAgree h l) _ (λ e. stamps-differ e)))
+      (λ b. every-unless (OfStart h l) (applies h l) _ (λ e. stamps-differ e)))
 
   pub start-refuses : {r : Refusal} → startAnswer h l ≡ started.Refused r → (f : Flaw) × (r ≡ refusalOf f) × OfStart h l f
   unfolding startAnswer

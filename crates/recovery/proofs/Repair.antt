@@ -9,16 +9,13 @@ use mathlib.Core.Bool.{Bool, true, false, cond, false≢true}
 use mathlib.Core.List.{List, [], _∷_, List·Memᴰ, List·Memᴰ·cases-cons, List·Memᴰ·not-nil}
 use lib.Dec.{ltb}
 use lib.ListN.{length, take, drop, getD, List·getD-append}
-use lib.Seq.{length-take-le, getD-take, getD-drop, ext-getD}
+use lib.Seq.{getD-take, getD-drop, ext-getD}
 use borrow.Author.Tests.{lt-ltb, le-ltb}
-use Rattle.base.specs.Block.{sector}
 use Rattle.sectors.specs.Sector.{stored, page}
-use Rattle.sectors.specs.Closing.{closingSector}
 use Rattle.sectors.proofs.Stored.{stored-length, stored-drop}
 use Rattle.sectors.proofs.Pages.{page-byte}
-use Rattle.sectors.proofs.Closed.{closing-length}
-use Rattle.old_log.specs.Layout.{pageCount, isLogged, logged}
-use Rattle.old_log.proofs.Facts.{head-of, head-facts}
+use Rattle.logs.specs.Logs.{pageCount, isLogged, logged, closingOf}
+use Rattle.logs.proofs.Laws.{version-logged, closing-length}
 use Rattle.recovery.specs.declared.Started.the-variants.{Pages}
 use Rattle.recovery.specs.Calls.{startAnswer, pageHive, closeHive}
 use Rattle.recovery.specs.Finished.{finishedByte, listed, finished, afterPages, Covers, AllIn, Repaired}
@@ -47,10 +44,10 @@ same-before a b k i g e = sym (getD-take k a i 0 g) ∙ ap (λ (x : List ℕ). g
 
 module _ (h l : List ℕ) (n : ℕ) (ok : startAnswer h l ≡ Pages n) where
   abbrev pub lid : List ℕ
-  lid = closingSector (sector l)
+  lid = closingOf l
 
   pub lid-length : length lid ≡ 512
-  lid-length = closing-length (sector l) ∙ length-take-le 512 l (head-facts l (head-of l (good h l n ok .log)) .long)
+  lid-length = closing-length l (good h l n ok .log)
 
   -- ---- a file with every logged page in, once the closing sector is stored
 
@@ -66,7 +63,7 @@ module _ (h l : List ℕ) (n : ℕ) (ok : startAnswer h l ≡ Pages n) where
       where
         old : Version h l ((k - 4096) / 512) (page d ((k - 4096) / 512)) → page d ((k - 4096) / 512) ≡ page h ((k - 4096) / 512)
         old (inl v) = v
-        old (inr v) = absurd (false≢true (sym e ∙ v .0))
+        old (inr v) = absurd (false≢true (sym e ∙ version-logged l ((k - 4096) / 512) _ v))
 
         go : Dec ((k - 4096) / 512 < pageCount l) → getD d k 0 ≡ getD h k 0
         go (yes b) = sym (page-byte d k g) ∙ ap (λ (x : List ℕ). getD x ((k - 4096) % 512) 0) (old (w .pages ((k - 4096) / 512) b)) ∙ page-byte h k g

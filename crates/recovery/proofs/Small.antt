@@ -1,18 +1,39 @@
 -- The small log is accepted.
-use mathlib.Core.Path.{_≡_, refl}
-use Rattle.fields.specs.Number.{u16At, u32At, u64At}
+use Prim.Native.Nat.{_+_, _≤_}
+use native.Mathlib.Omega.{arith}
+use mathlib.Core.Path.{_≡_, refl, ap, _∙_}
+use mathlib.Core.Bool.{false}
+use lib.ListN.{length}
+use borrow.Author.Tests.{le-leb}
+use Rattle.fields.specs.declared.Verdict.{Verdict}
+use Rattle.fields.specs.declared.Verdict.the-variants.{Sound}
 use Rattle.fields.specs.Bytes.{sameBytes, standsAt}
 use Rattle.fields.specs.Faults.{_next_}
-use Rattle.base.specs.Block.{xors, asStored, storedChecksum, isVersion, isBinsSize, usable, clean, blockFault}
-use Rattle.sectors.specs.Sector.{page}
-use Rattle.bitmap.specs.Bits.{bitsBefore, nextAmong}
-use Rattle.old_log.specs.Layout.{bitmap, logged}
-use Rattle.old_log.specs.Tests.{isLogBase, headFault, logFault, stampsAgree}
+use Rattle.fields.proofs.Firsts.{sound, holds}
+use Rattle.base.specs.Block.{sector, usable, clean, blockFault}
+use Rattle.logs.specs.Logs.{logBins, loggedCount}
+use Rattle.logs.specs.Small.{log, hive}
+use Rattle.logs.proofs.Small.{small-sound, small-count, small-bins, small-applies}
 use Rattle.recovery.specs.declared.Started.the-variants.{Pages}
-use Rattle.recovery.specs.Calls.{hiveFault, testFault, startAnswer}
-use Rattle.recovery.specs.Small.{head, log, hive}
+use Rattle.recovery.specs.Calls.{hiveFault, testFault, started, startAnswer}
+use Rattle.recovery.proofs.Ways.{by-tests}
+
+hive-length : length hive ≡ 12288
+unfolding hive
+hive-length = refl
+
+hive-unclean : clean (sector hive) ≡ false
+unfolding clean usable blockFault _next_ hive standsAt sameBytes
+hive-unclean = refl
+
+tests-passed : testFault hive (log 512) ≡ Sound
+unfolding testFault hiveFault
+tests-passed =
+    let room : 4096 + logBins (log 512) ≤ length hive = omega (arith, small-bins, hive-length) in
+    sound _ _ small-sound (sound _ _ (holds _ (le-leb _ _ room)) (holds _ small-applies))
 
 -- "log of 2,048 bytes there is accepted"
 pub small-accepted : startAnswer hive (log 512) ≡ Pages 2
-unfolding startAnswer testFault hiveFault clean hive stampsAgree page logged log head logFault headFault isLogBase usable blockFault isVersion isBinsSize storedChecksum asStored xors u64At u32At u16At standsAt sameBytes bitmap bitsBefore nextAmong _next_
-small-accepted = refl
+small-accepted =
+    by-tests hive (log 512) (omega (arith, hive-length)) hive-unclean
+    ∙ ap (λ (v : Verdict). started v (loggedCount (log 512))) tests-passed ∙ ap Pages small-count

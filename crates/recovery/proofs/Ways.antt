@@ -14,9 +14,8 @@ use Rattle.fields.specs.declared.Verdict.the-variants.{Sound, Flawed}
 use Rattle.fields.specs.Faults.{flaw, nowhere, refusalOf, unless}
 use Rattle.fields.proofs.Firsts.{on, stop, both, held, holds, fails}
 use Rattle.base.specs.Block.{sector, clean}
-use Rattle.old_log.specs.declared.Tested.the-variants as log
-use Rattle.old_log.specs.Layout.{logBins, loggedCount}
-use Rattle.old_log.specs.Tests.{logFault, stampsAgree, counted}
+use Rattle.logs.specs.declared.Tested.the-variants as log
+use Rattle.logs.specs.Logs.{logFault, logBins, loggedCount, counted, applies}
 use Rattle.recovery.specs.declared.Started.the-variants.{Clean, Pages, Refused}
 use Rattle.recovery.specs.Calls.{hiveFault, testFault, started, startAnswer}
 
@@ -37,7 +36,7 @@ module _ (h l : List ℕ) where
   unfolding hiveFault
   cut p = stop _ _ (fails _ (lt-leb _ _ p))
 
-  pub by-stamps : 4096 + logBins l ≤ length h → hiveFault h l ≡ unless (stampsAgree h l) (flaw Stamps nowhere)
+  pub by-stamps : 4096 + logBins l ≤ length h → hiveFault h l ≡ unless (applies h l) (flaw Stamps nowhere)
   unfolding hiveFault
   by-stamps p = on _ _ (holds _ (le-leb _ _ p))
 
@@ -69,7 +68,7 @@ module _ (h l : List ℕ) where
   pub record Passed : Type 0 where
     pub log : logFault l ≡ Sound
     pub room : 4096 + logBins l ≤ length h
-    pub stamps : stampsAgree h l ≡ true
+    pub stamps : applies h l ≡ true
 
   pub passed : testFault h l ≡ Sound → Passed
   unfolding testFault hiveFault
@@ -79,7 +78,7 @@ module _ (h l : List ℕ) where
       record {
         log = a .0;
         room = leb-true _ _ (held (leb (4096 + logBins l) (length h)) (flaw HiveCut nowhere) (b .0));
-        stamps = held (stampsAgree h l) (flaw Stamps nowhere) (b .1);
+        stamps = held (applies h l) (flaw Stamps nowhere) (b .1);
       }
 
   pub record Begun (n : ℕ) : Type 0 where

@@ -5,7 +5,7 @@ use native.Mathlib.Omega.{arith}
 use mathlib.Core.Path.{_≡_, refl, sym, ap, subst, _∙_}
 use mathlib.Core.Logic.{_⊎_, inl, inr}
 use mathlib.Core.Bool.{Bool, true, false, cond}
-use mathlib.Core.List.{List}
+use mathlib.Core.List.{List, List·Memᴰ}
 use lib.ListN.{length, take, drop}
 use lib.Seq.{take-take}
 use borrow.Author.Tests.{le-leb}
@@ -16,14 +16,10 @@ use Rattle.fields.specs.Faults.{flaw, nowhere, refusalOf}
 use Rattle.fields.proofs.Firsts.{sound, holds}
 use Rattle.base.specs.Block.{sector, clean}
 use Rattle.sectors.specs.Sector.{stored, pagePlace, page}
-use Rattle.sectors.specs.Closing.{closingSector}
 use Rattle.sectors.proofs.Stored.{stored-length, stored-take, stored-drop}
 use Rattle.sectors.proofs.Pages.{page-same, page-other}
-use Rattle.old_log.specs.Layout.{logBins, pageCount, isLogged, loggedCount, logged}
-use Rattle.old_log.specs.Tests.{allIn, stampsAgree}
-use Rattle.old_log.proofs.Facts.{head-of, head-facts, logged-below, logged-length}
-use Rattle.old_log.proofs.Half.{half-agrees}
-use Rattle.old_log.proofs.Same.{below-in, in-below}
+use Rattle.logs.specs.Logs.{logBins, pageCount, isLogged, loggedCount, versionsOf, logged, applies, allIn, closingOf}
+use Rattle.logs.proofs.Laws.{head-of, bins-sized, logged-below, version-logged, version-length, logged-version, logged-length, half-applies, all-in, in-all}
 use Rattle.recovery.specs.declared.Started.the-variants.{Pages}
 use Rattle.recovery.specs.declared.Stepped.{Stepped}
 use Rattle.recovery.specs.declared.Stepped.the-variants.{Done, Refused}
@@ -32,9 +28,9 @@ use Rattle.recovery.specs.Finished.{AllIn}
 use Rattle.recovery.proofs.Ways.{Passed, passed, Begun, begun, by-tests}
 use Rattle.recovery.proofs.ByStart.{page-answer, page-hive, close-answer}
 
--- page p as the hive has it, or as it is logged
+-- page p as the hive has it, or a version of it that the log has
 abbrev pub Version : List ℕ → List ℕ → ℕ → List ℕ → Type 0
-Version h l p x = (x ≡ page h p) ⊎ ((isLogged l p ≡ true) × (x ≡ logged l p))
+Version h l p x = (x ≡ page h p) ⊎ List·Memᴰ x (versionsOf l p)
 
 -- d is h but for some of the logged pages. By sectors and not by bytes: bytes 20 to 27 of page 0 are old together or new together.
 pub record Within (h l d : List ℕ) : Type 0 where
@@ -57,24 +53,25 @@ module _ (h l : List ℕ) (n : ℕ) (ok : startAnswer h l ≡ Pages n) where
   pub inside : (p : ℕ) → p < pageCount l → pagePlace p + 512 ≤ length h
   inside p g = omega (arith, good .room)
 
-  -- ---- a page's store, of either version
+  -- ---- the store of any version of a page
 
-  pub within-store : (d : List ℕ) → Within h l d → (p : ℕ) → p < pageCount l → (new : List ℕ) → length new ≡ 512
-      → Version h l p new → Within h l (stored d (pagePlace p) new)
-  within-store d w p g new m v =
+  pub within-version : (d : List ℕ) → Within h l d → (p : ℕ) (new : List ℕ) → List·Memᴰ new (versionsOf l p) → Within h l (stored d (pagePlace p) new)
+  within-version d w p new v =
+      let g = logged-below l (good .log) p (version-logged l p new v) in
+      let m = version-length l (good .log) p new v in
       let fits : pagePlace p + 512 ≤ length d = omega (arith, inside p g, w .long) in
       record {
         long = stored-length d (pagePlace p) new m fits ∙ w .long;
         front = stored-take d (pagePlace p) new m fits 4096 (omega arith) ∙ w .front;
-        pages = λ q k. at fits q k (ℕ-discrete q p);
+        pages = λ q k. at m fits q k (ℕ-discrete q p);
         back = stored-drop d (pagePlace p) new m fits (4096 + 512 * pageCount l) (omega arith) ∙ w .back;
       }
     where
-      at : pagePlace p + 512 ≤ length d → (q : ℕ) → q < pageCount l → Dec (q ≡ p) → Version h l q (page (stored d (pagePlace p) new) q)
-      at fits q k (yes e) =
+      at : length new ≡ 512 → pagePlace p + 512 ≤ length d → (q : ℕ) → q < pageCount l → Dec (q ≡ p) → Version h l q (page (stored d (pagePlace p) new) q)
+      at m fits q k (yes e) =
           subst (λ (x : ℕ). Version h l x (page (stored d (pagePlace p) new) x)) (sym e)
-          (subst (λ (x : List ℕ). Version h l p x) (sym (page-same d p new m fits)) v)
-      at fits q k (no e) = subst (λ (x : List ℕ). Version h l q x) (sym (page-other d p new m fits q e)) (w .pages q k)
+          (subst (λ (x : List ℕ). Version h l p x) (sym (page-same d p new m fits)) (inr v))
+      at m fits q k (no e) = subst (λ (x : List ℕ). Version h l q x) (sym (page-other d p new m fits q e)) (w .pages q k)
 
   module _ (d : List ℕ) (w : Within h l d) where
     -- ---- the tests
@@ -82,10 +79,10 @@ module _ (h l : List ℕ) (n : ℕ) (ok : startAnswer h l ≡ Pages n) where
     pub base-same : sector d ≡ sector h
     base-same = sym (take-take 512 4096 d (omega arith)) ∙ ap (take 512) (w .front) ∙ take-take 512 4096 h (omega arith)
 
-    stamps-stay : stampsAgree d l ≡ true
+    stamps-stay : applies d l ≡ true
     stamps-stay =
-        let size = head-facts l (head-of l (good .log)) .size in
-        half-agrees h l d base-same (w .pages 0 (omega (arith, size .some, size .pages))) (good .stamps)
+        let size = bins-sized l (head-of l (good .log)) in
+        half-applies h l d base-same (w .pages 0 (omega (arith, size .some, size .pages))) (good .stamps)
 
     tests-stay : testFault d l ≡ Sound
     unfolding testFault hiveFault
@@ -130,7 +127,7 @@ module _ (h l : List ℕ) (n : ℕ) (ok : startAnswer h l ≡ Pages n) where
         go : (m : Bool) → isLogged l p ≡ m → Within h l (pageHive d l p)
         go true e =
             subst (Within h l) (sym (page-stores p e))
-            (within-store d w p (logged-below l (good .log) p e) (logged l p) (logged-length l (good .log) p e) (inr (e, refl)))
+            (within-version d w p (logged l p) (logged-version l p e))
         go false e = subst (Within h l) (sym (page-not p e)) w
 
     -- its own page is in, and every other page stays
@@ -154,15 +151,15 @@ module _ (h l : List ℕ) (n : ℕ) (ok : startAnswer h l ≡ Pages n) where
     closing = close-answer d l (Pages n) reached
 
     pub close-all : closeAnswer d l ≡ Done → AllIn d l
-    close-all e p m = below-in d l (pageCount l) (go (allIn d l) (sym closing ∙ e)) p (logged-below l (good .log) p m) m
+    close-all e p m = all-in d l (good .log) (go (allIn d l) (sym closing ∙ e)) p m
       where
         go : (b : Bool) → cond b Done (Refused (refusalOf (flaw NotIn nowhere))) ≡ Done → b ≡ true
         go true e = refl
         go false e = absurd (let z : _≡_ {A = ℕ} 0 1 = cc in omega arith)
 
     pub all-close : AllIn d l → closeAnswer d l ≡ Done
-    all-close i = closing ∙ ap (λ (b : Bool). cond b Done (Refused (refusalOf (flaw NotIn nowhere)))) (in-below d l (pageCount l) i)
+    all-close i = closing ∙ ap (λ (b : Bool). cond b Done (Refused (refusalOf (flaw NotIn nowhere)))) (in-all d l i)
 
-    pub close-stores : AllIn d l → closeHive d l ≡ stored d 0 (closingSector (sector l))
+    pub close-stores : AllIn d l → closeHive d l ≡ stored d 0 (closingOf l)
     unfolding closeHive
-    close-stores i = ap (λ (a : Stepped). changed a (stored d 0 (closingSector (sector l))) d) (all-close i)
+    close-stores i = ap (λ (a : Stepped). changed a (stored d 0 (closingOf l)) d) (all-close i)

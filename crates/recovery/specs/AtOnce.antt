@@ -8,8 +8,7 @@ use Rattle.fields.specs.Faults.{refusalOf}
 use Rattle.bitmap.specs.declared.Next.{Next}
 use Rattle.bitmap.specs.declared.Next.the-variants as next
 use Rattle.sectors.specs.Sector.{pagePlace}
-use Rattle.old_log.specs.Layout.{pageCount, isLogged, nextLogged}
-use Rattle.old_log.specs.Tests.{headFault}
+use Rattle.logs.specs.Logs.{headFault, pageCount, isLogged, nextLogged}
 use Rattle.recovery.specs.declared.Stepped.{Stepped}
 use Rattle.recovery.specs.declared.Stepped.the-variants.{Done}
 use Rattle.recovery.specs.declared.NextMark.{NextMark}

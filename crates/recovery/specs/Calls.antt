@@ -12,9 +12,7 @@ use Rattle.base.specs.Block.{sector, clean}
 use Rattle.bitmap.specs.declared.Next.{Next}
 use Rattle.bitmap.specs.declared.Next.the-variants as next
 use Rattle.sectors.specs.Sector.{stored, pagePlace}
-use Rattle.sectors.specs.Closing.{closingSector}
-use Rattle.old_log.specs.Layout.{logBins, isLogged, loggedCount, loggedPlace, logged, nextLogged}
-use Rattle.old_log.specs.Tests.{logFault, stampsAgree, allIn}
+use Rattle.logs.specs.Logs.{logFault, logBins, isLogged, loggedCount, loggedPlace, logged, nextLogged, applies, allIn, closingOf}
 use Rattle.recovery.specs.declared.Started.{Started}
 use Rattle.recovery.specs.declared.Started.the-variants as start
 use Rattle.recovery.specs.declared.Stepped.{Stepped}
@@ -26,7 +24,7 @@ use Rattle.recovery.specs.declared.NextPage.the-variants as page
 unfoldable pub hiveFault : List ℕ → List ℕ → Verdict
 hiveFault h l =
     unless (leb (4096 + logBins l) (length h)) (flaw HiveCut nowhere)
-    next unless (stampsAgree h l) (flaw Stamps nowhere)
+    next unless (applies h l) (flaw Stamps nowhere)
 
 -- "21; 22 for the bitmap; 23; 22 for the pages; 24; 25"
 unfoldable pub testFault : List ℕ → List ℕ → Verdict
@@ -73,7 +71,7 @@ unfoldable pub closeAnswer : List ℕ → List ℕ → Stepped
 closeAnswer h l = tested (startAnswer h l) (closed h l)
 
 unfoldable pub closeHive : List ℕ → List ℕ → List ℕ
-closeHive h l = changed (closeAnswer h l) (stored h 0 (closingSector (sector l))) h
+closeHive h l = changed (closeAnswer h l) (stored h 0 (closingOf l)) h
 
 -- the least logged page at or after a number, where it lies in the log and where it goes in the hive; the log's own tests come first
 abbrev pub nextOf : List ℕ → Next → NextPage

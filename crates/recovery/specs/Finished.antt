@@ -5,10 +5,8 @@ use mathlib.Core.Bool.{true, cond}
 use mathlib.Core.List.{List, [], _∷_, List·Memᴰ}
 use lib.Dec.{ltb}
 use lib.ListN.{length, getD}
-use Rattle.base.specs.Block.{sector}
 use Rattle.sectors.specs.Sector.{page}
-use Rattle.sectors.specs.Closing.{closingSector}
-use Rattle.old_log.specs.Layout.{isLogged, logged}
+use Rattle.logs.specs.Logs.{isLogged, logged, closingOf}
 use Rattle.recovery.specs.declared.Stepped.the-variants.{Done}
 use Rattle.recovery.specs.declared.NextPage.{NextPage}
 use Rattle.recovery.specs.declared.NextPage.the-variants as next
@@ -17,7 +15,7 @@ use Rattle.recovery.specs.Calls.{pageAnswer, pageHive, closeAnswer, clos
 -- byte i of the finished file: of the closing sector in the first 512, of a logged page in its place, and elsewhere as it was
 abbrev pub finishedByte : List ℕ → List ℕ → ℕ → ℕ
 finishedByte h l i =
-    cond (ltb i 512) (getD (closingSector (sector l)) i 0)
+    cond (ltb i 512) (getD (closingOf l) i 0)
     (cond (ltb i 4096) (getD h i 0)
     (cond (isLogged l ((i - 4096) / 512)) (getD (logged l ((i - 4096) / 512)) ((i - 4096) % 512) 0) (getD h i 0)))
 

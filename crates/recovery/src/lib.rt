@@ -1,4 +1,4 @@
-// Recovery from an old log: start, one page or all of them, close; and which page comes next. No call keeps any state.
+// Recovery from a log: start, one page or all of them, close; and which page comes next. No call keeps any state.
 use bitmap::Next;
 use fields::Fault;
 use fields::Flaw;
@@ -6,21 +6,14 @@ use fields::Offset;
 use fields::Place;
 use fields::Refusal;
 use fields::Verdict;
-use old_log::Tested;
+use logs::Tested;
 ghost use mathlib.Core.Path.{_≡_};
-ghost use mathlib.Core.Bool.{cond};
-ghost use Prim.Native.Nat.{_+_, _≤_};
-ghost use lib.ListN.{length};
 ghost use Rattle.fields.specs.declared.Verdict.the-variants.{Sound};
 ghost use Rattle.fields.specs.Faults.{flaw, nowhere, refusalOf};
-ghost use Rattle.base.specs.Block.{sector};
 ghost use Rattle.sectors.specs.Sector.{stored, pagePlace};
-ghost use Rattle.sectors.specs.Closing.{closingSector};
-ghost use Rattle.old_log.specs.Layout.{logBins, isLogged, loggedCount, loggedPlace, logged, nextLogged};
-ghost use Rattle.old_log.specs.Tests.{headFault, logFault};
+ghost use Rattle.logs.specs.Logs.{headFault, logFault, loggedCount, logged, nextLogged, closingOf};
 ghost use Rattle.recovery.specs.Calls.{hiveFault, testFault, started, startAnswer, installed, closed, changed, pageAnswer, pageHive, closeAnswer, closeHive, nextOf, nextAnswer};
-ghost use Rattle.recovery.specs.Finished.{afterPages};
-ghost use Rattle.recovery.specs.AtOnce.{loggedPages, allAnswer, allHive, markOf, markAnswer};
+ghost use Rattle.recovery.specs.AtOnce.{allAnswer, allHive, markOf, markAnswer};
 
 pub enum Started {
     // The hive needs no repair.
@@ -67,10 +60,10 @@ fn hive_flaw(hive: &[u8], log: &[u8]) -> Verdict
     requires { ⌜ logFault (now log) ≡ Sound ⌝ }
     ensures { λ r. ⌜ r ≡ hiveFault (now (hive .entry)) (now (log .entry)) ⌝ }
 {
-    if hive.len() < 4096 + old_log::bins_size(log) {
+    if hive.len() < 4096 + logs::bins_size(log) {
         return fields::flawed(Fault::HiveCut, Offset(0));
     }
-    if !old_log::stamps_agree(hive, log) {
+    if !logs::applies(hive, log) {
         return fields::flawed(Fault::Stamps, Offset(0));
     }
     Verdict::Sound
@@ -80,7 +73,7 @@ fn hive_flaw(hive: &[u8], log: &[u8]) -> Verdict
 fn log_tests(hive: &[u8], log: &[u8]) -> Started
     ensures { λ r. ⌜ r ≡ started (testFault (now (hive .entry)) (now (log .entry))) (loggedCount (now (log .entry))) ⌝ }
 {
-    match old_log::log_test(log) {
+    match logs::log_test(log) {
         Tested::Flawed(f) => Started::Refused(fields::refused(f)),
         Tested::Logged(n) => match hive_flaw(hive, log) {
             Verdict::Flawed(f) => Started::Refused(fields::refused(f)),
@@ -108,11 +101,11 @@ fn install(hive: &mut [u8], log: &[u8], n: usize) -> Stepped
     ensures { λ r. ⌜ r ≡ installed (now (log .entry)) n ⌝ }
     ensures { λ r. ⌜ now (hive .exit) ≡ changed r (stored (now (hive .entry)) (pagePlace n) (logged (now (log .entry)) n)) (now (hive .entry)) ⌝ }
 {
-    if !old_log::is_logged(log, n) {
+    if !logs::is_logged(log, n) {
         return Stepped::Refused(refuse(Fault::NotDirty));
     }
     let to = sectors::page_place(n);
-    let from = old_log::logged_place(log, n);
+    let from = logs::logged_place(log, n);
     sectors::store(hive, to, log, from);
     Stepped::Done
 }
@@ -121,12 +114,12 @@ fn install(hive: &mut [u8], log: &[u8], n: usize) -> Stepped
 fn seal(hive: &mut [u8], log: &[u8]) -> Stepped
     requires { ⌜ testFault (now hive) (now log) ≡ Sound ⌝ }
     ensures { λ r. ⌜ r ≡ closed (now (hive .entry)) (now (log .entry)) ⌝ }
-    ensures { λ r. ⌜ now (hive .exit) ≡ changed r (stored (now (hive .entry)) 0 (closingSector (sector (now (log .entry))))) (now (hive .entry)) ⌝ }
+    ensures { λ r. ⌜ now (hive .exit) ≡ changed r (stored (now (hive .entry)) 0 (closingOf (now (log .entry)))) (now (hive .entry)) ⌝ }
 {
-    if !old_log::all_in(hive, log) {
+    if !logs::all_in(hive, log) {
         return Stepped::Refused(refuse(Fault::NotIn));
     }
-    sectors::store_closing(hive, log);
+    logs::store_closing(hive, log);
     Stepped::Done
 }
 
@@ -158,11 +151,11 @@ fn next_of(log: &[u8], from: usize) -> NextPage
     requires { ⌜ logFault (now log) ≡ Sound ⌝ }
     ensures { λ r. ⌜ r ≡ nextOf (now (log .entry)) (nextLogged (now (log .entry)) from) ⌝ }
 {
-    match old_log::next_logged(log, from) {
+    match logs::next_logged(log, from) {
         Next::Nothing => NextPage::NoMore,
         Next::At(n) => NextPage::At {
             page: n,
-            from: old_log::logged_place(log, n),
+            from: logs::logged_place(log, n),
             to: sectors::page_place(n),
         },
     }
@@ -172,42 +165,13 @@ fn next_of(log: &[u8], from: usize) -> NextPage
 pub fn next_page(log: &[u8], from: usize) -> NextPage
     ensures { λ r. ⌜ r ≡ nextAnswer (now (log .entry)) from ⌝ }
 {
-    match old_log::log_test(log) {
+    match logs::log_test(log) {
         Tested::Flawed(f) => NextPage::Refused(fields::refused(f)),
         Tested::Logged(_) => next_of(log, from),
     }
 }
 
 // ---- a repair in one pass
-
-// Puts a page in where it is logged. The caller knows where it lies in the log.
-fn put_in(hive: &mut [u8], log: &[u8], page: usize, from: usize)
-    requires { ⌜ logFault (now log) ≡ Sound ⌝ }
-    requires { ⌜ 4096 + logBins (now log) ≤ length (now hive) ⌝ }
-    requires { ⌜ from ≡ loggedPlace (now log) page ⌝ }
-    ensures { λ _. ⌜ now (hive .exit) ≡ cond (isLogged (now (log .entry)) page) (stored (now (hive .entry)) (pagePlace page) (logged (now (log .entry)) page)) (now (hive .entry)) ⌝ }
-{
-    if old_log::is_logged(log, page) {
-        let to = sectors::page_place(page);
-        sectors::store(hive, to, log, Place(from));
-    }
-}
-
-// Every logged page, rising: one pass over the bitmap, which keeps the place of the next logged page as it goes.
-fn put_all(hive: &mut [u8], log: &[u8])
-    requires { ⌜ startAnswer (now hive) (now log) ≡ Started.Pages (loggedCount (now log)) ⌝ }
-    ensures { λ _. ⌜ now (hive .exit) ≡ afterPages (now (hive .entry)) (now (log .entry)) (loggedPages (now (log .entry))) ⌝ }
-{
-    let map = old_log::map_of(log);
-    let n = old_log::bins_size(log) / 512;
-    let mut from = old_log::pages_at(log);
-    let mut page: usize = 0;
-    while page < n {
-        put_in(hive, log, page, from);
-        from += 512 * bitmap::bit_of(map, page);
-        page += 1;
-    }
-}
 
 // Installs every logged page after one round of tests: what page calls do in a row.
 pub fn all_pages(hive: &mut [u8], log: &[u8]) -> Stepped
@@ -218,7 +182,7 @@ pub fn all_pages(hive: &mut [u8], log: &[u8]) -> Stepped
         Started::Clean => Stepped::Clean,
         Started::Refused(r) => Stepped::Refused(r),
         Started::Pages(_) => {
-            put_all(hive, log);
+            logs::put_all(hive, log);
             Stepped::Done
         }
     }
@@ -228,7 +192,7 @@ fn mark_of(log: &[u8], from: usize) -> NextMark
     requires { ⌜ headFault (now log) ≡ Sound ⌝ }
     ensures { λ r. ⌜ r ≡ markOf (nextLogged (now (log .entry)) from) ⌝ }
 {
-    match old_log::next_logged(log, from) {
+    match logs::next_logged(log, from) {
         Next::Nothing => NextMark::NoMore,
         Next::At(page) => NextMark::At {
             page,
@@ -241,7 +205,7 @@ fn mark_of(log: &[u8], from: usize) -> NextMark
 pub fn next_mark(log: &[u8], from: usize) -> NextMark
     ensures { λ r. ⌜ r ≡ markAnswer (now (log .entry)) from ⌝ }
 {
-    match old_log::head_flaw(log) {
+    match logs::head_flaw(log) {
         Verdict::Flawed(f) => NextMark::Refused(fields::refused(f)),
         Verdict::Sound => mark_of(log, from),
     }

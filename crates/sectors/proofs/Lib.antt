@@ -2,3 +2,4 @@ pub mod Stored
 pub mod Words
 pub mod Closed
 pub mod Pages
+pub mod Logged

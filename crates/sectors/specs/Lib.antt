@@ -1,2 +1,3 @@
 pub mod Sector
+pub mod Logged
 pub mod Closing

@@ -1,7 +1,7 @@
-use Rattle.old_log.proofs.Hive.{in-false}
+use Rattle.sectors.proofs.Logged.{in-false}
 use Rattle.old_log.proofs.Facts.{head-of, head-facts, small}
-use Rattle.old_log.specs.Tests.{inBelow}
-use Rattle.old_log.specs.Layout.{bitmap, pageCount, loggedPlace}
+use Rattle.sectors.specs.Logged.{inBelow}
+use Rattle.old_log.specs.Layout.{bitmap, pageCount, isLogged, loggedPlace, logged}
 use Rattle.bitmap.proofs.Laws.{before-mono}
 use Rattle.bitmap.specs.Bits.{bit, bitsBefore}
 use Rattle.fields.proofs.Bools.{and-both}
@@ -18,7 +18,7 @@ use Rattle.old_log.proofs.all_in.Statement.{statement}
 use Rattle.old_log.proofs.all_in.Tie as tie
 
 abbrev Inv-loop : tie.InvT-loop
-Inv-loop hive log map n from₀ page₀ from page = (page ≤ n) × (from ≡ loggedPlace log page) × (inBelow page hive log ≡ true)
+Inv-loop hive log map n from₀ page₀ from page = (page ≤ n) × (from ≡ loggedPlace log page) × (inBelow (isLogged log) (logged log) page hive ≡ true)
 
 abbrev μ-loop : tie.MeasureT-loop
 μ-loop hive log map n from₀ page₀ from page = n - page
@@ -52,7 +52,7 @@ returns : tie.Need-returns Inv-loop μ-loop
 returns c =
     let s = c .before .before .before .before .before .before .before .before .before in
     let n = ap (λ (b : ℕ). b / 512) (c .before .before .before .before .before .bins-size .ensures .0) in
-    sym (in-false (s .args .hive .now) (s .args .log .now) (c .before .before .before .loop .page) (pageCount (s .args .log .now)) (omega (arith, n, c .before .before .loop-test .taken)) (sym (c .before .is-in .ensures) ∙ not-true _ (c .if1 .taken)))
+    sym (in-false (isLogged (s .args .log .now)) (logged (s .args .log .now)) (s .args .hive .now) (c .before .before .before .loop .page) (pageCount (s .args .log .now)) (omega (arith, n, c .before .before .loop-test .taken)) (sym (c .before .is-in .ensures) ∙ not-true _ (c .if1 .taken)))
 
 bit-of-requires : tie.Need-bit-of-requires Inv-loop μ-loop
 bit-of-requires c κs = search needs
@@ -82,7 +82,7 @@ returns-2 : tie.Need-returns-2 Inv-loop μ-loop
 returns-2 c =
     let s = c .before .before .before .before .before .before .before in
     let n = ap (λ (b : ℕ). b / 512) (c .before .before .before .bins-size .ensures .0) in
-    sym (c .before .loop .inv .2) ∙ ap (λ (k : ℕ). inBelow k (s .args .hive .now) (s .args .log .now)) (le-antisymm (c .before .loop .inv .0) (c .loop-test .left) ∙ n)
+    sym (c .before .loop .inv .2) ∙ ap (λ (k : ℕ). inBelow (isLogged (s .args .log .now)) (logged (s .args .log .now)) k (s .args .hive .now)) (le-antisymm (c .before .loop .inv .0) (c .loop-test .left) ∙ n)
 
 pub all-in-spec : {M : Type 1} → statement M
 all-in-spec =

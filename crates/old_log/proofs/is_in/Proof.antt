@@ -1,4 +1,4 @@
-use Rattle.old_log.proofs.Hive.{not-logged, by-bytes}
+use Rattle.sectors.proofs.Logged.{not-logged, by-bytes}
 use Rattle.old_log.proofs.Facts.{head-of, head-facts, logged-below, logged-fits, logged-inside}
 use Rattle.old_log.specs.Layout.{isLogged, logged}
 use Rattle.sectors.specs.Sector.{page}
@@ -33,7 +33,7 @@ is-logged-requires c κs = search needs
 returns : tie.Need-returns
 returns c =
     let s = c .before .before .before .before in
-    sym (not-logged (s .args .hive .now) (s .args .log .now) (s .args .page) (sym (c .before .is-logged .ensures) ∙ not-true _ (c .if1 .taken)))
+    sym (not-logged (isLogged (s .args .log .now)) (logged (s .args .log .now)) (s .args .hive .now) (s .args .page) (sym (c .before .is-logged .ensures) ∙ not-true _ (c .if1 .taken)))
 
 page-place-requires : tie.Need-page-place-requires
 page-place-requires c κs =
@@ -80,7 +80,7 @@ returns-2 c =
     let n₂ : from + 512 - from ≡ 512 = omega arith in
     c .same .ensures
     ∙ ap₂ sameBytes (ap₂ (λ (k j : ℕ). take k (drop j h)) n₁ (c .before .before .before .page-place .ensures)) (ap₂ (λ (k j : ℕ). take k (drop j l)) n₂ (s .pre .1 .1))
-    ∙ sym (by-bytes h l (s .args .page) (marked (c .before .before .before .before)))
+    ∙ sym (by-bytes (isLogged l) (logged l) h (s .args .page) (marked (c .before .before .before .before)))
 
 pub is-in-spec : {M : Type 1} → statement M
 is-in-spec =

@@ -1,7 +1,8 @@
 use Rattle.recovery.proofs.ByStart.{all-answer, all-hive}
-use Rattle.recovery.proofs.Ways.{begun}
+use Rattle.recovery.proofs.AtOnce.{all-put}
+use Rattle.recovery.proofs.Within.{good}
 use Rattle.recovery.specs.declared.Started.the-variants.{Clean, Pages, Refused}
-use mathlib.Core.Path.{sym, ap, _∙_}
+use mathlib.Core.Path.{sym, _∙_}
 use borrow.Author.Needs.{needs}
 use Rattle.recovery.proofs.all_pages.Statement.{statement}
 use Rattle.recovery.proofs.all_pages.Tie as tie
@@ -23,7 +24,8 @@ put-all-requires c κs =
     let s = c .before .before .before .before .before .before .before in
     let g = c .before .enum-told2 .given in
     let e = sym (c .before .before .before .start .ensures) ∙ g .1 in
-    e ∙ sym (ap Pages (begun (s .args .hive .now) (s .args .log .now) (g .0 .0) e .count))
+    let k = good (s .args .hive .now) (s .args .log .now) (g .0 .0) e in
+    (k .log, k .room)
 
 same-length : tie.Need-same-length
 same-length c = search needs
@@ -54,7 +56,7 @@ returns-3 c =
     let l = s .args .log .now in
     let g = c .before .before .before .before .enum-told2 .given in
     let e = sym (c .before .before .before .before .before .before .start .ensures) ∙ g .1 in
-    (sym (all-answer h l (Pages (g .0 .0)) e), c .before .before .put-all .ensures ∙ sym (all-hive h l (Pages (g .0 .0)) e))
+    (sym (all-answer h l (Pages (g .0 .0)) e), c .before .before .put-all .ensures ∙ all-put h l (g .0 .0) e ∙ sym (all-hive h l (Pages (g .0 .0)) e))
 
 pub all-pages-spec : {M : Type 1} → statement M
 all-pages-spec =

@@ -3,9 +3,8 @@ use Rattle.recovery.proofs.Ways.{begun}
 use Rattle.recovery.specs.Calls.{changed}
 use Rattle.recovery.specs.declared.Stepped.{Stepped}
 use Rattle.recovery.specs.declared.Started.the-variants.{Clean, Pages, Refused}
-use Rattle.sectors.specs.Closing.{closingSector}
+use Rattle.logs.specs.Logs.{closingOf}
 use Rattle.sectors.specs.Sector.{stored}
-use Rattle.base.specs.Block.{sector}
 use mathlib.Core.Path.{sym, ap, _∙_}
 use borrow.Author.Needs.{needs}
 use Rattle.recovery.proofs.close.Statement.{statement}
@@ -50,7 +49,7 @@ returns-2 c =
     let e = sym (c .before .before .before .before .before .before .start .ensures) ∙ g .1 in
     let r = c .before .before .seal .ensures in (
       r .0 ∙ sym (close-answer h l (Pages (g .0 .0)) e),
-      r .1 ∙ ap (λ (x : Stepped). changed x (stored h 0 (closingSector (sector l))) h) (r .0) ∙ sym (close-hive h l (Pages (g .0 .0)) e),
+      r .1 ∙ ap (λ (x : Stepped). changed x (stored h 0 (closingOf l)) h) (r .0) ∙ sym (close-hive h l (Pages (g .0 .0)) e),
     )
 
 same-length-3 : tie.Need-same-length-3

@@ -1,5 +1,4 @@
 use Rattle.recovery.proofs.Ways.{cut, by-stamps}
-use Rattle.old_log.proofs.Facts.{head-of, head-facts}
 use Rattle.fields.proofs.Firsts.{holds, fails}
 use borrow.Author.Tests.{not-true, not-false}
 use native.Mathlib.Omega.{arith}
@@ -9,7 +8,7 @@ use Rattle.recovery.proofs.hive_flaw.Statement.{statement}
 use Rattle.recovery.proofs.hive_flaw.Tie as tie
 
 bins-size-requires : tie.Need-bins-size-requires
-bins-size-requires c κs = let s = c .before .before in head-facts (s .args .log .now) (head-of (s .args .log .now) (s .pre)) .long
+bins-size-requires c κs = c .before .before .pre
 
 add-if1 : tie.Need-add-if1
 add-if1 c = search needs
@@ -22,8 +21,8 @@ returns c =
     let s = c .before .before .before .before .before in
     c .flawed .ensures ∙ sym (cut (s .args .hive .now) (s .args .log .now) (omega (arith, c .before .before .bins-size .ensures .0)))
 
-stamps-agree-requires : tie.Need-stamps-agree-requires
-stamps-agree-requires c κs = (c .before .before .before .before .pre, omega (arith, c .before .bins-size .ensures .0))
+applies-requires : tie.Need-applies-requires
+applies-requires c κs = (c .before .before .before .before .pre, omega (arith, c .before .bins-size .ensures .0))
 
 flawed-requires-2 : tie.Need-flawed-requires-2
 flawed-requires-2 c κs = search needs
@@ -32,12 +31,12 @@ returns-2 : tie.Need-returns-2
 returns-2 c =
     let s = c .before .before .before .before .before .before .before in
     c .flawed2 .ensures
-    ∙ sym (by-stamps (s .args .hive .now) (s .args .log .now) (omega (arith, c .before .before .before .before .bins-size .ensures .0)) ∙ fails _ (sym (c .before .before .stamps-agree .ensures) ∙ not-true _ (c .before .if2 .taken)))
+    ∙ sym (by-stamps (s .args .hive .now) (s .args .log .now) (omega (arith, c .before .before .before .before .bins-size .ensures .0)) ∙ fails _ (sym (c .before .before .applies .ensures) ∙ not-true _ (c .before .if2 .taken)))
 
 returns-3 : tie.Need-returns-3
 returns-3 c =
     let s = c .before .before .before .before .before .before in
-    sym (by-stamps (s .args .hive .now) (s .args .log .now) (omega (arith, c .before .before .before .bins-size .ensures .0)) ∙ holds _ (sym (c .before .stamps-agree .ensures) ∙ not-false _ (c .if2 .left)))
+    sym (by-stamps (s .args .hive .now) (s .args .log .now) (omega (arith, c .before .before .before .bins-size .ensures .0)) ∙ holds _ (sym (c .before .applies .ensures) ∙ not-false _ (c .if2 .left)))
 
 pub hive-flaw-spec : {M : Type 1} → statement M
 hive-flaw-spec =
@@ -47,7 +46,7 @@ hive-flaw-spec =
     add-if1
     flawed-requires
     returns
-    stamps-agree-requires
+    applies-requires
     flawed-requires-2
     returns-2
     returns-3)

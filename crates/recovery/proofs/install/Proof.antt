@@ -1,8 +1,8 @@
 use Rattle.recovery.proofs.Ways.{passed}
 use Rattle.recovery.specs.declared.Stepped.the-variants.{Done, Refused}
-use Rattle.old_log.proofs.Facts.{head-of, head-facts, logged-below, logged-fits, logged-inside}
-use Rattle.old_log.specs.Layout.{isLogged, logged}
-use Rattle.sectors.specs.Sector.{sectorAt, stored}
+use Rattle.logs.proofs.Laws.{head-of, bins-sized, logged-below, logged-is, logged-fits}
+use Rattle.logs.specs.Logs.{isLogged}
+use Rattle.sectors.specs.Sector.{sectorAt, stored, pagePlace}
 use Rattle.fields.specs.Faults.{flaw, nowhere, refusalOf}
 use Rattle.fields.specs.declared.Fault.the-variants.{NotDirty}
 use borrow.Author.Tests.{not-true, not-false}
@@ -35,7 +35,7 @@ page-place-requires c κs =
     let s = c .before .before .before .before in
     let l = s .args .log .now in
     let g = passed (s .args .hive .now) l (s .pre) .log in
-    omega (arith, logged-below l g (s .args .n) (marked c), head-facts l (head-of l g) .size .limit)
+    omega (arith, logged-below l g (s .args .n) (marked c), bins-sized l (head-of l g) .limit)
 
 logged-place-requires : tie.Need-logged-place-requires
 logged-place-requires c κs = (passed (c .before .before .before .before .before .args .hive .now) (c .before .before .before .before .before .args .log .now) (c .before .before .before .before .before .pre) .log, marked (c .before))
@@ -46,7 +46,7 @@ store-requires c κs =
     let h = s .args .hive .now in
     let l = s .args .log .now in
     let g = passed h l (s .pre) in (
-      omega (arith, c .before .before .page-place .ensures, logged-inside l (g .log) h (g .room) (s .args .n) (marked (c .before .before .before))),
+      omega (arith, c .before .before .page-place .ensures, logged-below l (g .log) (s .args .n) (marked (c .before .before .before)), g .room),
       omega (arith, c .before .logged-place .ensures, logged-fits l (g .log) (s .args .n) (marked (c .before .before .before))),
     )
 
@@ -54,13 +54,13 @@ same-length : tie.Need-same-length
 same-length c = search needs
 
 returns-2 : tie.Need-returns-2
-unfolding logged
 returns-2 c =
     let s = c .before .before .before .before .before .before .before .before .before .before in
     let h = s .args .hive .now in
     let l = s .args .log .now in (
       sym (ap (λ (b : Bool). cond b Done (Refused (refusalOf (flaw NotDirty nowhere)))) (marked (c .before .before .before .before .before .before))),
-      c .before .before .store .ensures ∙ ap₂ (λ (a b : ℕ). stored h a (sectorAt l b)) (c .before .before .before .before .before .page-place .ensures) (c .before .before .before .before .logged-place .ensures),
+      c .before .before .store .ensures ∙ ap₂ (λ (a b : ℕ). stored h a (sectorAt l b)) (c .before .before .before .before .before .page-place .ensures) (c .before .before .before .before .logged-place .ensures)
+          ∙ ap (stored h (pagePlace (s .args .n))) (sym (logged-is l (s .args .n))),
     )
 
 pub install-spec : {M : Type 1} → statement M

@@ -1,8 +1,7 @@
 use Rattle.recovery.proofs.Ways.{logged-sound, flawed-log, bad-log, by-hive}
 use Rattle.recovery.specs.Calls.{started}
 use Rattle.recovery.specs.declared.Started.the-variants.{Pages, Refused}
-use Rattle.old_log.specs.Tests.{logFault}
-use Rattle.old_log.specs.Layout.{loggedCount}
+use Rattle.logs.specs.Logs.{logFault, loggedCount}
 use Rattle.fields.specs.declared.Verdict.{Verdict}
 use mathlib.Core.Path.{sym, ap, _∙_}
 use borrow.Author.Needs.{needs}

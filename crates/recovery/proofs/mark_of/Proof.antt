@@ -1,8 +1,6 @@
 use Rattle.recovery.specs.AtOnce.{markOf}
 use Rattle.recovery.specs.declared.NextMark.the-variants.{At}
-use Rattle.old_log.proofs.Facts.{head-facts, marked-below}
-use Rattle.old_log.specs.Layout.{bitmap}
-use Rattle.bitmap.proofs.Laws.{next-least}
+use Rattle.logs.proofs.Laws.{bins-sized, marked-below, next-least}
 use Rattle.fields.specs.declared.Place.{Place}
 use native.Mathlib.Omega.{arith}
 use Prim.Native.Nat.{ℕ}
@@ -25,8 +23,8 @@ page-place-requires c κs =
     let s = c .before .before .before .before .before in
     let l = s .args .log .now in
     let g = c .before .page .given in
-    let m = next-least (bitmap l) (s .args .from) (g .0 .0) (sym (c .before .before .before .next-logged .ensures) ∙ g .1) .marked in
-    omega (arith, marked-below l (s .pre) (g .0 .0) m, head-facts l (s .pre) .size .limit)
+    let m = next-least l (s .args .from) (g .0 .0) (sym (c .before .before .before .next-logged .ensures) ∙ g .1) .marked in
+    omega (arith, marked-below l (s .pre) (g .0 .0) m, bins-sized l (s .pre) .limit)
 
 returns : tie.Need-returns
 returns c = sym (ap markOf (sym (c .before .before .next-logged .ensures) ∙ c .enum-told .given .1))

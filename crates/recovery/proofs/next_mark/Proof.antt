@@ -1,6 +1,6 @@
 use Rattle.recovery.specs.AtOnce.{markOf, markTested, markAnswer}
 use Rattle.recovery.specs.declared.NextMark.the-variants.{Refused}
-use Rattle.old_log.specs.Layout.{nextLogged}
+use Rattle.logs.specs.Logs.{nextLogged}
 use Rattle.fields.specs.declared.Verdict.{Verdict}
 use mathlib.Core.Path.{sym, ap, _∙_}
 use borrow.Author.Needs.{needs}

@@ -1,8 +1,7 @@
 use Rattle.recovery.specs.Calls.{nextOf}
 use Rattle.recovery.specs.declared.NextPage.the-variants.{At}
-use Rattle.old_log.proofs.Facts.{head-of, head-facts, logged-below}
-use Rattle.old_log.specs.Layout.{bitmap, isLogged}
-use Rattle.bitmap.proofs.Laws.{next-least}
+use Rattle.logs.proofs.Laws.{head-of, bins-sized, logged-below, next-least}
+use Rattle.logs.specs.Logs.{isLogged}
 use Rattle.fields.specs.declared.Place.{Place}
 use native.Mathlib.Omega.{arith}
 use Prim.Native.Nat.{ℕ}
@@ -15,7 +14,7 @@ use Rattle.recovery.proofs.next_of.Tie as tie
 marked : (c : tie.After-known-told) → isLogged (c .before .before .before .before .before .args .log .now) (c .before .n .given .0 .0) ≡ true
 marked c =
     let s = c .before .before .before .before .before in
-    next-least (bitmap (s .args .log .now)) (s .args .from) (c .before .n .given .0 .0) (sym (c .before .before .before .next-logged .ensures) ∙ c .before .n .given .1) .marked
+    next-least (s .args .log .now) (s .args .from) (c .before .n .given .0 .0) (sym (c .before .before .before .next-logged .ensures) ∙ c .before .n .given .1) .marked
 
 next-logged-requires : tie.Need-next-logged-requires
 next-logged-requires c κs = head-of (c .before .args .log .now) (c .before .pre)
@@ -33,7 +32,7 @@ page-place-requires : tie.Need-page-place-requires
 page-place-requires c κs =
     let s = c .before .before .before .before .before .before in
     let l = s .args .log .now in
-    omega (arith, logged-below l (s .pre) (c .before .before .n .given .0 .0) (marked (c .before)), head-facts l (head-of l (s .pre)) .size .limit)
+    omega (arith, logged-below l (s .pre) (c .before .before .n .given .0 .0) (marked (c .before)), bins-sized l (head-of l (s .pre)) .limit)
 
 returns : tie.Need-returns
 returns c =

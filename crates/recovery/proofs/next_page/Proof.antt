@@ -1,8 +1,7 @@
 use Rattle.recovery.proofs.Ways.{logged-sound, flawed-log}
 use Rattle.recovery.specs.Calls.{nextOf, nextTested, nextAnswer}
 use Rattle.recovery.specs.declared.NextPage.the-variants.{Refused}
-use Rattle.old_log.specs.Tests.{logFault}
-use Rattle.old_log.specs.Layout.{loggedCount, nextLogged}
+use Rattle.logs.specs.Logs.{logFault, loggedCount, nextLogged}
 use Rattle.fields.specs.declared.Verdict.{Verdict}
 use mathlib.Core.Path.{sym, ap, _∙_}
 use borrow.Author.Needs.{needs}

@@ -3,7 +3,7 @@ use Rattle.recovery.proofs.Ways.{begun}
 use Rattle.recovery.specs.Calls.{changed}
 use Rattle.recovery.specs.declared.Stepped.{Stepped}
 use Rattle.recovery.specs.declared.Started.the-variants.{Clean, Pages, Refused}
-use Rattle.old_log.specs.Layout.{logged}
+use Rattle.logs.specs.Logs.{logged}
 use Rattle.sectors.specs.Sector.{stored, pagePlace}
 use mathlib.Core.Path.{sym, ap, _∙_}
 use borrow.Author.Needs.{needs}

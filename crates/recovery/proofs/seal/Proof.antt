@@ -1,6 +1,5 @@
 use Rattle.recovery.proofs.Ways.{passed}
 use Rattle.recovery.specs.declared.Stepped.the-variants.{Done, Refused}
-use Rattle.old_log.proofs.Facts.{head-of, head-facts}
 use Rattle.fields.specs.Faults.{flaw, nowhere, refusalOf}
 use Rattle.fields.specs.declared.Fault.the-variants.{NotIn}
 use borrow.Author.Tests.{not-true, not-false}
@@ -30,9 +29,8 @@ returns c = (
 store-closing-requires : tie.Need-store-closing-requires
 store-closing-requires c κs =
     let s = c .before .before .before .before .before .before in
-    let l = s .args .log .now in
-    let g = passed (s .args .hive .now) l (s .pre) in
-    (omega (arith, g .room), head-facts l (head-of l (g .log)) .long)
+    let g = passed (s .args .hive .now) (s .args .log .now) (s .pre) in
+    (g .log, omega (arith, g .room))
 
 same-length-2 : tie.Need-same-length-2
 same-length-2 c = search needs

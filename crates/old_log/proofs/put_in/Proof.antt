@@ -1,13 +1,13 @@
 use Rattle.old_log.proofs.Facts.{head-of, head-facts, logged-below, logged-fits, logged-inside}
 use Rattle.old_log.specs.Layout.{logged}
 use Rattle.sectors.specs.Sector.{sectorAt, stored, pagePlace}
 use native.Mathlib.Omega.{arith}
 use Prim.Native.Nat.{ℕ}
 use mathlib.Core.Bool.{Bool, cond}
 use mathlib.Core.Path.{sym, ap, ap₂, _∙_}
 use borrow.Author.Needs.{needs}
-use Rattle.recovery.proofs.put_in.Statement.{statement}
-use Rattle.recovery.proofs.put_in.Tie as tie
+use Rattle.old_log.proofs.put_in.Statement.{statement}
+use Rattle.old_log.proofs.put_in.Tie as tie
 
 is-logged-requires : tie.Need-is-logged-requires
 is-logged-requires c κs = c .before .before .pre .0

@@ -1,10 +1,6 @@
-use Rattle.recovery.proofs.AtOnce.{one-more}
-use Rattle.recovery.proofs.Within.{good}
-use Rattle.recovery.specs.AtOnce.{loggedBelow}
-use Rattle.recovery.specs.Finished.{afterPages}
 use Rattle.old_log.proofs.Facts.{head-of, head-facts, small}
-use Rattle.old_log.specs.Layout.{bitmap, pageCount, isLogged, loggedCount, loggedPlace, logged}
-use Rattle.sectors.specs.Sector.{stored, pagePlace}
+use Rattle.old_log.specs.Layout.{bitmap, pageCount, isLogged, loggedPlace, logged}
+use Rattle.sectors.specs.Logged.{putOne, putBelow}
 use Rattle.bitmap.proofs.Laws.{before-mono}
 use Rattle.bitmap.specs.Bits.{bit, bitsBefore}
 use lib.ListN.{length}
@@ -13,15 +9,14 @@ use native.Mathlib.Numerals.{add-one}
 use native.Mathlib.Nat.{le-antisymm}
 use Prim.Native.Nat.{ℕ, suc, _+_, _-_, _*_, _/_, _≤_}
 use mathlib.Core.List.{List}
-use mathlib.Core.Bool.{cond}
-use mathlib.Core.Path.{_≡_, refl, sym, ap, _∙_}
+use mathlib.Core.Path.{_≡_, refl, ap, _∙_}
 use borrow.Author.Needs.{needs}
-use Rattle.recovery.proofs.put_all.Statement.{statement}
-use Rattle.recovery.proofs.put_all.Tie as tie
+use Rattle.old_log.proofs.put_all.Statement.{statement}
+use Rattle.old_log.proofs.put_all.Tie as tie
 
 abbrev Inv-loop : tie.InvT-loop
 Inv-loop hive₀ log map n from₀ page₀ hive from page =
-    (page ≤ n) × (from ≡ loggedPlace log page) × (length hive ≡ length hive₀) × (hive ≡ afterPages hive₀ log (loggedBelow page log))
+    (page ≤ n) × (from ≡ loggedPlace log page) × (length hive ≡ length hive₀) × (hive ≡ putBelow (isLogged log) (logged log) page hive₀)
 
 abbrev μ-loop : tie.MeasureT-loop
 μ-loop hive₀ log map n from₀ page₀ hive from page = n - page
@@ -38,31 +33,26 @@ moved c =
 map-of-requires : tie.Need-map-of-requires Inv-loop μ-loop
 map-of-requires c κs =
     let s = c .before .before in
-    let l = s .args .log .now in
-    head-of l (good (s .args .hive .now) l (loggedCount l) (s .pre) .log)
+    head-of (s .args .log .now) (s .pre .0)
 
 bins-size-requires : tie.Need-bins-size-requires Inv-loop μ-loop
 bins-size-requires c κs =
     let s = c .before .before .before in
-    let l = s .args .log .now in
-    head-facts l (head-of l (good (s .args .hive .now) l (loggedCount l) (s .pre) .log)) .long
+    head-facts (s .args .log .now) (head-of (s .args .log .now) (s .pre .0)) .long
 
 pages-at-requires : tie.Need-pages-at-requires Inv-loop μ-loop
 pages-at-requires c κs =
     let s = c .before .before .before .before in
-    let l = s .args .log .now in
-    head-of l (good (s .args .hive .now) l (loggedCount l) (s .pre) .log)
+    head-of (s .args .log .now) (s .pre .0)
 
 loop-holds : tie.Need-loop-holds Inv-loop μ-loop
-unfolding loggedBelow afterPages bitsBefore
+unfolding putBelow bitsBefore
 loop-holds c = (omega arith, omega (arith, c .pages-at .ensures), refl, refl)
 
 put-in-requires : tie.Need-put-in-requires Inv-loop μ-loop
 put-in-requires c κs =
     let s = c .before .before .before .before .before .before .before .before in
-    let l = s .args .log .now in
-    let g = good (s .args .hive .now) l (loggedCount l) (s .pre) in
-    (g .log, (omega (arith, g .room, c .before .before .loop .inv .2), c .before .before .loop .inv .1))
+    (s .pre .0, (omega (arith, s .pre .1, c .before .before .loop .inv .2), c .before .before .loop .inv .1))
 
 bit-of-requires : tie.Need-bit-of-requires Inv-loop μ-loop
 bit-of-requires c κs = search needs
@@ -77,7 +67,7 @@ add-from c =
     let l = s .args .log .now in
     let n = ap (λ (b : ℕ). b / 512) (k .before .before .bins-size .ensures .0) in
     let below = before-mono (bitmap l) (suc (k .loop .page)) (pageCount l) (omega (arith, n, c .before .before .before .before .before .loop-test .taken)) in
-    omega (arith, moved c, small l (head-of l (good (s .args .hive .now) l (loggedCount l) (s .pre) .log)))
+    omega (arith, moved c, small l (head-of l (s .pre .0)))
 
 add-page : tie.Need-add-page Inv-loop μ-loop
 add-page c = omega arith
@@ -86,18 +76,14 @@ loop-less : tie.Need-loop-less Inv-loop μ-loop
 loop-less c = omega arith
 
 loop-again : tie.Need-loop-again Inv-loop μ-loop
+unfolding putBelow
 loop-again c =
     let k = c .before .before .before .before .before .before in
-    let s = k .before .before .before .before .before .before in
-    let h = s .args .hive .now in
-    let l = s .args .log .now in
-    let p = k .loop .page in (
+    let l = k .before .before .before .before .before .before .args .log .now in (
       omega arith,
       rw add-one (moved c),
       search needs,
-      c .before .before .before .put-in .ensures
-          ∙ ap (λ (d : List ℕ). cond (isLogged l p) (stored d (pagePlace p) (logged l p)) d) (k .loop .inv .3)
-          ∙ sym (one-more h l (loggedCount l) (s .pre) p) ∙ ap (λ (q : ℕ). afterPages h l (loggedBelow q l)) (sym (add-one p)),
+      rw add-one (c .before .before .before .put-in .ensures ∙ ap (putOne (isLogged l) (logged l) (k .loop .page)) (k .loop .inv .3)),
     )
 
 same-length : tie.Need-same-length Inv-loop μ-loop
@@ -108,7 +94,7 @@ returns c =
     let s = c .before .before .before .before .before .before .before in
     let n = ap (λ (b : ℕ). b / 512) (c .before .before .before .bins-size .ensures .0) in
     c .before .loop .inv .3
-    ∙ ap (λ (k : ℕ). afterPages (s .args .hive .now) (s .args .log .now) (loggedBelow k (s .args .log .now))) (le-antisymm (c .before .loop .inv .0) (c .loop-test .left) ∙ n)
+    ∙ ap (λ (k : ℕ). putBelow (isLogged (s .args .log .now)) (logged (s .args .log .now)) k (s .args .hive .now)) (le-antisymm (c .before .loop .inv .0) (c .loop-test .left) ∙ n)
 
 pub put-all-spec : {M : Type 1} → statement M
 put-all-spec =

@@ -1,0 +1,4 @@
+pub mod Logs
+pub mod Accepted
+pub mod Refused
+pub mod Small
