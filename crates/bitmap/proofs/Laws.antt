@@ -6,9 +6,9 @@ use native.Mathlib.Omega.{arith}
 use mathlib.Core.Path.{_≡_, refl, sym, ap, _∙_}
 use mathlib.Core.Bool.{Bool, true, false, cond}
 use mathlib.Core.List.{List}
-use lib.ListN.{length, List·getD-eq-default}
+use lib.ListN.{length, getD, List·getD-eq-default}
 use lib.Dec.{eqb}
-use borrow.Author.Tests.{eqb-true}
+use borrow.Author.Tests.{eqb-true, ne-eqb}
 use Rattle.bitmap.specs.declared.Next.the-variants.{At, Nothing}
 use Rattle.bitmap.specs.Bits.{bit, isMarked, bitsBefore, nextAmong, nextMarked}
 
@@ -64,6 +64,23 @@ module _ (map : List ℕ) where
   pub next-end : (p : ℕ) → 8 * length map ≤ p → nextMarked map p ≡ Nothing
   unfolding nextAmong
   next-end p h = let e : 8 * length map - p ≡ 0 = omega arith in ap (λ (n : ℕ). nextAmong n map p) e
+
+  -- over bits that are not set, and over what is left of a byte that has none
+  next-over : (k p : ℕ) → p + k ≤ 8 * length map → ((q : ℕ) → p ≤ q → q < p + k → isMarked map q ≡ false) → nextMarked map p ≡ nextMarked map (p + k)
+  next-over zero p h f = ap (nextMarked map) (let e : p ≡ p + 0 = omega arith in e)
+  next-over (suc k) p h f =
+      let e : suc p + k ≡ p + suc k = omega arith in
+      next-on p (omega arith) (f p (omega arith) (omega arith)) ∙ next-over k (suc p) (omega arith) (λ q a b. f q (omega arith) (omega arith)) ∙ ap (nextMarked map) e
+
+  zero-unset : (q : ℕ) → getD map (q / 8) 0 ≡ 0 → isMarked map q ≡ false
+  zero-unset q e = ne-eqb (bit map q) 1 (λ o. let z : bit map q ≡ 0 = rw (e, zero-div (2 ^ (q % 8))) in omega arith)
+
+  pub next-byte : (p : ℕ) → p / 8 < length map → getD map (p / 8) 0 ≡ 0 → nextMarked map p ≡ nextMarked map (8 * (p / 8) + 8)
+  next-byte p h e =
+      let end : p + (8 * (p / 8) + 8 - p) ≡ 8 * (p / 8) + 8 = omega arith in
+      next-over (8 * (p / 8) + 8 - p) p (omega arith)
+      (λ q a b. let s : q / 8 ≡ p / 8 = omega arith in zero-unset q (ap (λ (j : ℕ). getD map j 0) s ∙ e))
+      ∙ ap (nextMarked map) end
 
   -- what the answer says: the bit is set, and it is the least one
   pub record Least (from p : ℕ) : Type 0 where

@@ -93,17 +93,22 @@ pub enum Next {
     Nothing,
 }
 
-// The least set index at or after `from`.
+// The least set index at or after `from`. A byte with no bit set is passed over whole.
 pub fn next_marked(map: &[u8], from: usize) -> Next
     requires { ⌜ 8 * length (now map) < 2 ^ 64 ⌝ }
     ensures { λ r. ⌜ r ≡ nextMarked (now (map .entry)) from ⌝ }
 {
     let mut index = from;
     while index / 8 < map.len() {
-        if is_marked(map, index) {
-            return Next::At(index);
+        let j = index / 8;
+        if map[j] == 0 {
+            index = 8 * j + 8;
+        } else {
+            if is_marked(map, index) {
+                return Next::At(index);
+            }
+            index += 1;
         }
-        index += 1;
     }
     Next::Nothing
 }

@@ -1,4 +1,4 @@
-use Rattle.bitmap.proofs.Laws.{next-here, next-on, next-end}
+use Rattle.bitmap.proofs.Laws.{next-here, next-on, next-byte, next-end}
 use Rattle.bitmap.specs.Bits.{nextMarked}
 use lib.ListN.{length}
 use native.Mathlib.Omega.{arith}
@@ -18,11 +18,11 @@ abbrev μ-loop : tie.MeasureT-loop
 loop-holds : tie.Need-loop-holds Inv-loop μ-loop
 loop-holds c = refl
 
-is-marked-requires : tie.Need-is-marked-requires Inv-loop μ-loop
-is-marked-requires c κs = search needs
+shared-slice-read-if1 : tie.Need-shared-slice-read-if1 Inv-loop μ-loop
+shared-slice-read-if1 c = search needs
 
-returns : tie.Need-returns Inv-loop μ-loop
-returns c = sym (next-here (c .before .before .before .before .before .args .map .now) (c .before .before .before .loop .index) (omega arith) (sym (c .before .is-marked .ensures) ∙ c .if1 .taken)) ∙ c .before .before .before .loop .inv
+mul-index : tie.Need-mul-index Inv-loop μ-loop
+mul-index c = omega arith
 
 add-index : tie.Need-add-index Inv-loop μ-loop
 add-index c = omega arith
@@ -31,7 +31,22 @@ loop-less : tie.Need-loop-less Inv-loop μ-loop
 loop-less c = omega arith
 
 loop-again : tie.Need-loop-again Inv-loop μ-loop
-loop-again c = rw add-one (sym (next-on (c .before .before .before .before .before .args .map .now) (c .before .before .before .loop .index) (omega arith) (sym (c .before .is-marked .ensures) ∙ c .if1 .left)) ∙ c .before .before .before .loop .inv)
+loop-again c = sym (next-byte (c .before .before .before .before .before .args .map .now) (c .before .before .before .loop .index) (omega arith) (c .if1 .taken)) ∙ c .before .before .before .loop .inv
+
+is-marked-requires : tie.Need-is-marked-requires Inv-loop μ-loop
+is-marked-requires c κs = search needs
+
+returns : tie.Need-returns Inv-loop μ-loop
+returns c = sym (next-here (c .before .before .before .before .before .before .before .args .map .now) (c .before .before .before .before .before .loop .index) (omega arith) (sym (c .before .is-marked .ensures) ∙ c .if2 .taken)) ∙ c .before .before .before .before .before .loop .inv
+
+add-index-2 : tie.Need-add-index-2 Inv-loop μ-loop
+add-index-2 c = omega arith
+
+loop-less-2 : tie.Need-loop-less-2 Inv-loop μ-loop
+loop-less-2 c = omega arith
+
+loop-again-2 : tie.Need-loop-again-2 Inv-loop μ-loop
+loop-again-2 c = rw add-one (sym (next-on (c .before .before .before .before .before .before .before .args .map .now) (c .before .before .before .before .before .loop .index) (omega arith) (sym (c .before .is-marked .ensures) ∙ c .if2 .left)) ∙ c .before .before .before .before .before .loop .inv)
 
 returns-2 : tie.Need-returns-2 Inv-loop μ-loop
 returns-2 c = sym (next-end (c .before .before .before .args .map .now) (c .before .loop .index) (omega arith)) ∙ c .before .loop .inv
@@ -43,9 +58,14 @@ next-marked-spec =
     Inv-loop
     μ-loop
     loop-holds
-    is-marked-requires
-    returns
+    shared-slice-read-if1
+    mul-index
     add-index
     loop-less
     loop-again
+    is-marked-requires
+    returns
+    add-index-2
+    loop-less-2
+    loop-again-2
     returns-2)
