@@ -73,6 +73,8 @@ static void put_words(FILE *to, const Hive *h, HiveAnswer a, const Path *path)
         unsigned long long at = 4096ull + a.place;
         fprintf(to, ", at offset %u (0x%x), which is byte %llu (0x%llx) of the file", a.place, a.place, at, at);
     }
+    if (a.key != HIVE_NO_KEY && !say_json())
+        put_key(to, h, a.key);
     if (path != NULL)
         put_hints(to, h, path, a.number);
     if (!say_json())

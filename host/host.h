@@ -101,6 +101,9 @@ int refusal(const Hive *h, HiveAnswer a, const Path *path);
 int check(const char *file, Bytes hive, HiveReport *out);
 int report(const Hive *h, HiveReport r);
 
+/* climb.c: the key that a refusal names, by its path */
+void put_key(FILE *to, const Hive *h, uint32_t key);
+
 /* hints.c */
 void put_hints(FILE *to, const Hive *h, const Path *path, uint32_t number);
 

@@ -94,7 +94,7 @@ static int nth(const Order *o, const Hive *h, const Path *path, Units name)
     if (m.state == HIVE_REFUSED)
         return refusal(h, m.answer, NULL);
     if (m.state == HIVE_NO_MORE)
-        return refusal(h, (HiveAnswer){HIVE_FAULT_NO_VALUE, 0, HIVE_NO_KEY, 0}, NULL);
+        return refusal(h, (HiveAnswer){HIVE_FAULT_NO_VALUE, 0, a.value, 0}, NULL);
     return at_offset(o, h, m.answer.value);
 }
 

@@ -13,8 +13,11 @@
  * - Nobody changes a buffer during the call. So read a file into memory; do not map one that others may write.
  * - 1 MiB of free stack.
  *
- * A refusal is a number, one of enum HiveFault, and a place. For 9 to 15 and 19 the place is an offset in the bins data: the
- * byte 4096 + place of the file. Any other number has no place, and then place is 0.
+ * A refusal is a number, one of enum HiveFault, a place, and the key under examination. For 9 to 15 and 19 the place is an
+ * offset in the bins data: the byte 4096 + place of the file. Any other number has no place, and then place is 0. The key is
+ * the offset of the last key whose record was accepted, HIVE_NO_KEY before there is one: of a child's bad cell or record it
+ * is the key that lists it, of 13 to 15 the place, of 17 the deepest key that was found, of 18 to 20 the key of the value.
+ * In all calls of the repair, and where a value is asked by its offset, it is HIVE_NO_KEY.
  */
 #ifndef KIWEAMOTU_H
 #define KIWEAMOTU_H
@@ -81,9 +84,9 @@ enum {
 /* No key is named: no cell lies there. */
 #define HIVE_NO_KEY 0xffffffffu
 
-/* Part of every answer. number: 0, or the refusal's number. place: the refusal's place. key: HIVE_NO_KEY, always, in this
- * version; a later one may name the key under examination. value: the offset of the key or value that hive_find_key,
- * hive_nth_subkey, hive_nth_value or hive_key_at found, else 0.
+/* Part of every answer. number: 0, or the refusal's number. place: the refusal's place. key: the refusal's key, else
+ * HIVE_NO_KEY. value: the offset of the key or value that hive_find_key, hive_nth_subkey, hive_nth_value or hive_key_at
+ * found, else 0.
  * Where number is not 0, every other field of the answer but place and key is 0.
  */
 typedef struct {
@@ -230,7 +233,9 @@ HIVE_ASSERT(offsetof(HiveMark, page) == 24);
 HIVE_ASSERT(offsetof(HiveMark, to) == 32);
 HIVE_ASSERT(sizeof(HiveMark) == 40);
 
-/* The version of this interface: 1. Structs and functions of one version never change. */
+/* The version of this interface: 2. Structs and functions of one version never change. Version 2 names the key of a refusal,
+ * which was HIVE_NO_KEY, always, in version 1.
+ */
 uint32_t hive_abi(void);
 
 /* Checks a hive wholly: base block, bins, cells, and the tree of keys, values and data from the root. Number 0 means that all

@@ -12,6 +12,7 @@ SEGMENT = 16344
 BINS_MOST = 2**31 - 4096
 DATA_MOST = 1048576
 BACKSLASH = 0x5C
+NO_KEY = 0xFFFFFFFF
 
 
 def u16(b, i):
@@ -70,9 +71,11 @@ def units(text):
 # ---- the model: the check
 
 class Refused(Exception):
-    def __init__(self, number, place=0):
-        Exception.__init__(self, number, place)
-        self.number, self.place = number, place
+    """A number, a place, and by request 9 the key under examination: the last one whose record was accepted."""
+
+    def __init__(self, number, place=0, key=NO_KEY):
+        Exception.__init__(self, number, place, key)
+        self.number, self.place, self.key = number, place, key
 
 
 def block_fault(block, types):
@@ -138,34 +141,41 @@ def tile(bins):
 
 class Reader:
     """Records in the bins data. With `starts` an offset names a cell of the tiling (the check); without, one by the
-    cell's own header (lookup)."""
+    cell's own header (lookup). `examined` is the key on whose behalf they are read."""
 
     def __init__(self, bins, minor, starts=None):
-        self.bins, self.minor, self.starts = bins, minor, starts
+        self.bins, self.minor, self.starts, self.examined = bins, minor, starts, NO_KEY
+
+    def accepted(self, at, owner=NO_KEY):
+        """The key at an offset, read on behalf of another; from then on it is the one under examination."""
+        self.examined = owner
+        k = self.key(at)
+        self.examined = at
+        return k
 
     def cell(self, at):
         """The data of the cell in use at an offset, or 11."""
         if self.starts is not None:
             if at not in self.starts:
-                raise Refused(11, at)
+                raise Refused(11, at, self.examined)
         else:
             if at < 32 or at % 8 or at + 4 > len(self.bins):
-                raise Refused(11, at)
+                raise Refused(11, at, self.examined)
             signed = signed_size(self.bins, at)
             if signed >= 0 or signed % 8 or at - signed > len(self.bins):
-                raise Refused(11, at)
+                raise Refused(11, at, self.examined)
         return self.bins[at + 4:at - signed_size(self.bins, at)]
 
     def key(self, at):
         d = self.cell(at)
         if len(d) < 76 or d[0:2] != b"nk":
-            raise Refused(12, at)
+            raise Refused(12, at, self.examined)
         length, one = u16(d, 72), u16(d, 2) & 0x20
         if 76 + length > len(d):
-            raise Refused(12, at)
+            raise Refused(12, at, self.examined)
         codes = name_codes(d[76:76 + length], one)
         if codes is None or not 1 <= len(codes) <= 255 or BACKSLASH in codes:
-            raise Refused(12, at)
+            raise Refused(12, at, self.examined)
         return {"at": at, "name": codes, "parent": u32(d, 16), "subkeys": u32(d, 20), "list": u32(d, 28),
                 "values": u32(d, 36), "value_list": u32(d, 40)}
 
@@ -173,11 +183,11 @@ class Reader:
         """A list's signature and its elements: (offset, hash or None). 12 at the list (13)."""
         d = self.cell(at)
         if len(d) < 4 or d[0:2] not in allowed:
-            raise Refused(12, at)
+            raise Refused(12, at, self.examined)
         sign, count = d[0:2], u16(d, 2)
         width = 8 if sign in (b"lf", b"lh") else 4
         if count == 0 or 4 + count * width > len(d):
-            raise Refused(12, at)
+            raise Refused(12, at, self.examined)
         return sign, [(u32(d, 4 + i * width), u32(d, 8 + i * width) if sign == b"lh" else None) for i in range(count)]
 
     def leaves(self, k):
@@ -194,17 +204,17 @@ class Reader:
     def value(self, at):
         d = self.cell(at)
         if len(d) < 20 or d[0:2] != b"vk":
-            raise Refused(12, at)
+            raise Refused(12, at, self.examined)
         length, one, size = u16(d, 2), u16(d, 16) & 1, u32(d, 4)
         if 20 + length > len(d):
-            raise Refused(12, at)
+            raise Refused(12, at, self.examined)
         codes = name_codes(d[20:20 + length], one)
         if codes is None or len(codes) > 16383:
-            raise Refused(12, at)
+            raise Refused(12, at, self.examined)
         inline = size >= 2**31
         size %= 2**31
         if size > (4 if inline else DATA_MOST):
-            raise Refused(12, at)
+            raise Refused(12, at, self.examined)
         return {"at": at, "name": codes, "inline": inline, "size": size, "data": u32(d, 8), "kind": u32(d, 12)}
 
     def value_offsets(self, k):
@@ -212,7 +222,7 @@ class Reader:
             return []
         d = self.cell(k["value_list"])
         if 4 * k["values"] > len(d):
-            raise Refused(12, k["value_list"])
+            raise Refused(12, k["value_list"], self.examined)
         return [u32(d, 4 * i) for i in range(k["values"])]
 
     def segmented(self, v):
@@ -229,7 +239,7 @@ class Reader:
         d = self.cell(v["data"])
         count = (v["size"] + SEGMENT - 1) // SEGMENT
         if len(d) < 8 or d[0:2] != b"db" or u16(d, 2) != count:
-            raise Refused(12, v["data"])
+            raise Refused(12, v["data"], self.examined)
         listed = self.room(u32(d, 4), 4 * count)
         out = b""
         for i in range(count):
@@ -239,7 +249,7 @@ class Reader:
     def room(self, at, length):
         d = self.cell(at)
         if len(d) < length:
-            raise Refused(12, at)
+            raise Refused(12, at, self.examined)
         return d[:length]
 
 
@@ -261,20 +271,20 @@ class Walk:
     def key(self, at, parent, elder, hashed, level):
         """One key, wholly; answers its name, for the order of the next."""
         r = self.reader
-        k = r.key(at)
+        k = r.accepted(at, NO_KEY if parent is None else parent)
         if parent is not None and (k["parent"] != parent or at == self.root):
-            raise Refused(14, at)
+            raise Refused(14, at, at)
         if elder is not None and not folded(elder) < folded(k["name"]):
-            raise Refused(13, at)
+            raise Refused(13, at, at)
         if hashed is not None and hashed != name_hash(k["name"]):
-            raise Refused(13, at)
+            raise Refused(13, at, at)
         if level > 512:
-            raise Refused(15, at)
+            raise Refused(15, at, at)
         for v in r.value_offsets(k):
             r.data(r.value(v))
         children = [child for leaf in r.leaves(k) for child in leaf]
         if len(children) != k["subkeys"]:
-            raise Refused(14, at)
+            raise Refused(14, at, at)
         self.keys += 1
         self.values += k["values"]
         before = None
@@ -320,15 +330,16 @@ def child_named(reader, k, name):
         for at, _ in leaf:
             child = reader.key(at)
             if folded(child["name"]) == folded(name):
+                reader.examined = at
                 return child
-    raise Refused(17)
+    raise Refused(17, 0, k["at"])
 
 
 def key_of(hive, path):
     bins = open_hive(hive)
     parts = path_parts(path)
     reader = Reader(bins, u32(hive, 24))
-    k = reader.key(u32(hive, 36))
+    k = reader.accepted(u32(hive, 36))
     for part in parts:
         k = child_named(reader, k, part)
     return reader, k
@@ -348,7 +359,7 @@ def find_value(hive, path, name):
             found = v
             break
     if found is None:
-        raise Refused(18)
+        raise Refused(18, 0, k["at"])
     return reader, found
 
 
@@ -358,7 +369,7 @@ def value_info(hive, path, name, view=False):
     reader, v = find_value(hive, path, name)
     case = "inline" if v["inline"] else "segments" if reader.segmented(v) else "cell"
     if view and case == "segments":
-        raise Refused(19, v["at"])
+        raise Refused(19, v["at"], reader.examined)
     place = BASE + 4 + (v["at"] + 8 if v["inline"] else v["data"])
     if case == "cell" and v["size"] == 0:
         place = 0
@@ -371,11 +382,37 @@ def value_view(hive, path, name):
 
 def value_copy(hive, path, name, out):
     """Writes the data to the start of `out`, a bytearray, and answers their length."""
-    data = value_info(hive, path, name)[1]
+    reader, v = find_value(hive, path, name)
+    data = reader.data(v)
     if len(out) < len(data):
-        raise Refused(20)
+        raise Refused(20, 0, reader.examined)
     out[:len(data)] = data
     return len(data)
+
+
+# ---- the model: what a key holds
+
+def given_key(hive, at):
+    """The reader and the record of the key at an offset, which is under examination from then on."""
+    bins = open_hive(hive)
+    reader = Reader(bins, u32(hive, 24))
+    return reader, reader.accepted(at)
+
+
+def nth_subkey(hive, at, n):
+    """The offset of subkey n, None past the last, or Refused. Leaves before its own are tested and counted."""
+    reader, k = given_key(hive, at)
+    for leaf in reader.leaves(k):
+        if n < len(leaf):
+            return reader.key(leaf[n][0])["at"]
+        n -= len(leaf)
+    return None
+
+
+def nth_value(hive, at, n):
+    reader, k = given_key(hive, at)
+    offsets = reader.value_offsets(k)
+    return reader.value(offsets[n])["at"] if n < len(offsets) else None
 
 
 # ---- the model: recovery from an old log

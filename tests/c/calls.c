@@ -50,7 +50,9 @@ static HiveAnswer checked(const uint8_t *file, size_t length)
     uint8_t *h = lend(0, file, length), *m = lend(1, map, length / 64);
     HiveReport r = hive_check(h, length, m, length / 64);
     EXPECT(memcmp(h, file, length) == 0);
-    EXPECT(r.answer.key == NO_KEY && r.answer.value == 0);
+    EXPECT(r.answer.value == 0);
+    if (r.answer.number <= 10 || r.answer.number >= 13)
+        EXPECT(r.answer.key == (r.answer.number <= 10 ? NO_KEY : r.answer.place));
     EXPECT(r.answer.number == 0 || r.bins + r.keys + r.values + r.used + r.free == 0);
     if (r.answer.number >= 1 && r.answer.number <= 8)
         EXPECT(memcmp(m, map, length / 64) == 0);
@@ -83,12 +85,14 @@ static HiveValue asked(const uint8_t *file, size_t length, const char *path, con
         EXPECT(memcmp(o, before, room) == 0 && v.kind + v.form + v.at + v.length == 0);
     else {
         memcpy(data, o, v.length);
-        EXPECT(v.form == 3 ? w.answer.number == 19 : memcmp(&v, &w, sizeof v) == 0);
+        uint32_t key = hive_find_key(h, length, p, n).value;
+        EXPECT(v.form == 3 ? w.answer.number == 19 && w.answer.key == key : memcmp(&v, &w, sizeof v) == 0);
         EXPECT(v.form == 3 || memcmp(h + v.at, data, v.length) == 0);
         if (v.length > 0) {
             o = lend(1, before, v.length - 1);
             c = hive_value_copy(h, length, p, n, x, k, o, v.length - 1);
-            EXPECT(is(c.answer, 20, 0) && c.length == 0 && memcmp(o, before, v.length - 1) == 0);
+            EXPECT(in(c.answer, 20, 0, key) && c.length == 0 && memcmp(o, before, v.length - 1) == 0);
+            EXPECT(in(hive_value_copy(h, length, p, n, x, k, NULL, 0).answer, 20, 0, key));
         }
     }
     return v;
@@ -97,7 +101,7 @@ static HiveValue asked(const uint8_t *file, size_t length, const char *path, con
 /* A member as it must be: refused or at the end it says nothing, and a name lies in the file. */
 static HiveMember sound(HiveMember m, size_t length)
 {
-    EXPECT(m.answer.key == NO_KEY && m.state <= 2 && m.narrow <= 1 && (m.state == 0) == (m.answer.number != 0));
+    EXPECT(m.state <= 2 && m.narrow <= 1 && (m.state == 0) == (m.answer.number != 0) && (m.state == 0 || m.answer.key == NO_KEY));
     EXPECT(m.state == 2 ? m.name + m.length <= length : m.answer.value + m.name + m.length + m.narrow == 0);
     return m;
 }
@@ -144,7 +148,7 @@ static size_t members(const uint8_t *h, size_t length, uint32_t key, int depth)
 
 static void t_nothing(void)
 {
-    EXPECT(hive_abi() == 1);
+    EXPECT(hive_abi() == 2);
     EXPECT(is(hive_check(NULL, 0, NULL, 0).answer, 1, 0));
     EXPECT(is(hive_find_key(NULL, 0, NULL, 0), 1, 0));
     EXPECT(is(hive_value_info(NULL, 0, NULL, 0, NULL, 0).answer, 1, 0));
@@ -165,7 +169,7 @@ static void t_nothing(void)
     size_t n = made_length(&m);
     EXPECT(is(hive_check(m.file, n, NULL, 0).answer, 8, 0));
     EXPECT(hive_find_key(m.file, n, NULL, 0).value == m.root);
-    EXPECT(is(hive_value_info(m.file, n, NULL, 0, NULL, 0).answer, 18, 0));
+    EXPECT(in(hive_value_info(m.file, n, NULL, 0, NULL, 0).answer, 18, 0, m.root));
     EXPECT(hive_recover_start(m.file, n, NULL, 0).state == 1);
     EXPECT(hive_recover_page(m.file, n, NULL, 0, 3).state == 1 && hive_recover_close(m.file, n, NULL, 0).state == 1);
     EXPECT(hive_recover_all(m.file, n, NULL, 0).state == 1);
@@ -285,13 +289,13 @@ static void t_accepted(void)
 }
 
 /* One change of the sample at a time, and what the check says. */
-static void change(uint32_t at, uint32_t n, uint32_t number, uint32_t place)
+static void change(uint32_t at, uint32_t n, uint32_t number, uint32_t place, uint32_t key)
 {
     Made m = sample();
     put32(m.file + at, n);
     if (at < 508)
         reseal(m.file);
-    EXPECT(is(checked(m.file, made_length(&m)), number, place));
+    EXPECT(in(checked(m.file, made_length(&m)), number, place, key));
     free(m.file);
 }
 
@@ -301,38 +305,39 @@ static void t_refusals(void)
     size_t n = made_length(&m);
     uint32_t list = get32(data_of(&m, m.root) + 28), a = get32(data_of(&m, list) + 4), b = get32(data_of(&m, list) + 12);
     EXPECT(is(checked(m.file, 4095), 1, 0));
-    change(0, 0x66676573, 2, 0);
-    change(508, 0, 3, 0);
-    change(20, 2, 4, 0);
-    change(24, 6, 4, 0);
-    change(24, 0x103, 4, 0);
-    change(28, 1, 4, 0);
-    change(32, 0, 4, 0);
-    change(44, 2, 4, 0);
-    change(40, 0, 5, 0);
-    change(40, 4097, 5, 0);
-    change(40, 0x7ffff800, 5, 0);
-    change(40, 0x80000000, 5, 0);
-    change(40, 67108864 + 4096, 6, 0);
-    change(40, 0x7ffff000, 6, 0);
-    change(40, (uint32_t)m.bins + 4096, 6, 0);
+    change(0, 0x66676573, 2, 0, NO_KEY);
+    change(508, 0, 3, 0, NO_KEY);
+    change(20, 2, 4, 0, NO_KEY);
+    change(24, 6, 4, 0, NO_KEY);
+    change(24, 0x103, 4, 0, NO_KEY);
+    change(28, 1, 4, 0, NO_KEY);
+    change(32, 0, 4, 0, NO_KEY);
+    change(44, 2, 4, 0, NO_KEY);
+    change(40, 0, 5, 0, NO_KEY);
+    change(40, 4097, 5, 0, NO_KEY);
+    change(40, 0x7ffff800, 5, 0, NO_KEY);
+    change(40, 0x80000000, 5, 0, NO_KEY);
+    change(40, 67108864 + 4096, 6, 0, NO_KEY);
+    change(40, 0x7ffff000, 6, 0, NO_KEY);
+    change(40, (uint32_t)m.bins + 4096, 6, 0, NO_KEY);
     EXPECT(is(checked(m.file, n - 1), 6, 0));
-    change(8, 9, 7, 0);
-    change(4096, 0, 9, 0);
-    change(4096 + 4, 4096, 9, 0);
-    change(4096 + 8, (uint32_t)m.bins + 4096, 9, 0);
-    change(4096 + 32, 0x80000000, 10, 32);
-    change(4096 + 32, 0, 10, 32);
-    change(4096 + 32, 12, 10, 32);
-    change(36, 0xffffffff, 11, 0xffffffff);
-    change(36, 40, 11, 40);
-    change(4096 + m.root + 4, 0, 12, m.root);
-    change(4096 + list + 4 + 8, 0, 13, a);
-    change(4096 + list + 4 + 4, b, 13, b);
-    change(4096 + b + 4 + 16, 0, 14, b);
-    change(4096 + m.root + 4 + 20, 5, 14, m.root);
+    change(8, 9, 7, 0, NO_KEY);
+    change(4096, 0, 9, 0, NO_KEY);
+    change(4096 + 4, 4096, 9, 0, NO_KEY);
+    change(4096 + 8, (uint32_t)m.bins + 4096, 9, 0, NO_KEY);
+    change(4096 + 32, 0x80000000, 10, 32, NO_KEY);
+    change(4096 + 32, 0, 10, 32, NO_KEY);
+    change(4096 + 32, 12, 10, 32, NO_KEY);
+    change(36, 0xffffffff, 11, 0xffffffff, NO_KEY);
+    change(36, 40, 11, 40, NO_KEY);
+    change(4096 + m.root + 4, 0, 12, m.root, NO_KEY);
+    change(4096 + list + 4 + 8, 0, 13, a, a);
+    change(4096 + list + 4 + 4, b, 13, b, b);
+    change(4096 + b + 4 + 16, 0, 14, b, b);
+    change(4096 + list + 4 + 4, m.root, 14, m.root, m.root);
+    change(4096 + m.root + 4 + 20, 5, 14, m.root, m.root);
     EXPECT(is(found(m.file, n, "\\"), 16, 0) && is(found(m.file, n, "a\\"), 16, 0) && is(found(m.file, n, "\\a"), 16, 0));
-    EXPECT(is(found(m.file, n, "nobody"), 17, 0) && is(found(m.file, n, "a\\k8"), 17, 0));
+    EXPECT(in(found(m.file, n, "nobody"), 17, 0, m.root) && in(found(m.file, n, "a\\k8"), 17, 0, a));
 }
 
 /* A second bin whose header is wrong, after a cell of the first that is. */
@@ -357,22 +362,29 @@ static void t_bins(void)
 
 static void t_levels(void)
 {
+    uint32_t level[513];
     for (int deep = 512; deep <= 513; deep++) {
         Made m = made(32 * 4096, 4);
         uint32_t key = m.root = new_key(&m, "R", 0);
         for (int i = 0; i < deep; i++) {
             uint32_t child = new_key(&m, "n", key);
             hang_keys(&m, key, new_leaf(&m, "lh", &child, 1), 1);
+            level[i] = key;
             key = child;
         }
         finish(&m);
-        EXPECT(is(checked(m.file, made_length(&m)), deep == 512 ? 0 : 15, deep == 512 ? 0 : key));
+        EXPECT(deep == 512 ? is(checked(m.file, made_length(&m)), 0, 0) : in(checked(m.file, made_length(&m)), 15, key, key));
         char path[1030];
         for (int i = 0; i < deep; i++)
             memcpy(path + 2 * i, "N\\", 3);
         path[2 * deep - 1] = 0;
         HiveAnswer r = found(m.file, made_length(&m), path);
         EXPECT(deep == 512 ? r.number == 0 && r.value == key : is(r, 16, 0));
+        for (size_t i = 0; i < 3; i++) { /* the deepest key, at levels 511, 1 and 0: a part more is not there */
+            size_t k = (size_t[]){511, 1, 0}[i];
+            memcpy(path + 2 * k, "x", 2);
+            EXPECT(in(found(m.file, made_length(&m), path), 17, 0, level[k]));
+        }
         free(m.file);
     }
 }
@@ -389,7 +401,7 @@ static void t_lookup(void)
     char part[260];
     memset(part, 'x', 256);
     part[256] = 0;
-    EXPECT(is(found(m.file, n, part), 16, 0) && is(found(m.file, n, part + 1), 17, 0));
+    EXPECT(is(found(m.file, n, part), 16, 0) && in(found(m.file, n, part + 1), 17, 0, m.root));
 }
 
 static void t_values(void)
@@ -406,15 +418,17 @@ static void t_values(void)
     EXPECT(v.answer.number == 0 && v.kind == 3 && v.form == 3 && v.length == 40000);
     for (size_t i = 0; i < 40000; i++)
         EXPECT(data[i] == (uint8_t)(i * 7 + i / 251));
-    uint32_t list = get32(data_of(&m, found(m.file, n, key).value) + 40), large = get32(data_of(&m, list) + 4 * 8);
+    uint32_t at = found(m.file, n, key).value, list = get32(data_of(&m, at) + 40), large = get32(data_of(&m, list) + 4 * 8);
     uint16_t path[64], name[8];
     size_t path_len = units(key, path), name_len = units("LARGE", name);
-    EXPECT(is(hive_value_view(m.file, n, path, path_len, name, name_len).answer, 19, large));
+    EXPECT(in(hive_value_view(m.file, n, path, path_len, name, name_len).answer, 19, large, at));
     v = asked(m.file, n, key, "Empty", data);
     EXPECT(v.answer.number == 0 && v.form == 1 && v.length == 0);
-    EXPECT(is(asked(m.file, n, key, "none", data).answer, 18, 0));
-    EXPECT(is(asked(m.file, n, "b", "", data).answer, 18, 0));
-    EXPECT(is(asked(m.file, n, "none", "", data).answer, 17, 0));
+    EXPECT(in(asked(m.file, n, key, "none", data).answer, 18, 0, at));
+    EXPECT(in(asked(m.file, n, "b", "", data).answer, 18, 0, found(m.file, n, "b").value));
+    EXPECT(in(asked(m.file, n, "none", "", data).answer, 17, 0, m.root));
+    EXPECT(in(asked(m.file, n, "a\\none", "", data).answer, 17, 0, found(m.file, n, "a").value));
+    EXPECT(is(asked(m.file, n, "a\\", "", data).answer, 16, 0));
 }
 
 /* The keys of a list of three leaves one by one, each where lookup finds it; then the values, and what lies past their ends. */
@@ -449,7 +463,7 @@ static void t_members(void)
     EXPECT(sound(hive_nth_subkey(h, n, m.root, 0), n).state == 0 && sound(hive_nth_subkey(h, n, m.root, 1), n).state == 2);
     put16(data_of(&m, a) + 2, 0x20);
     h = lend(0, m.file, n);
-    EXPECT(sound(hive_nth_subkey(h, n, a, 2), n).state == 2 && is(hive_nth_subkey(h, n, a, 3).answer, 12, second));
+    EXPECT(sound(hive_nth_subkey(h, n, a, 2), n).state == 2 && in(hive_nth_subkey(h, n, a, 3).answer, 12, second, a));
 }
 
 /* Two values of one name, of which only the offset tells the second; and what a key's record says. */
@@ -513,7 +527,110 @@ static void t_sizes(void)
     EXPECT(data_of(&m, db)[2] == 65);
     put32(data_of(&m, value) + 4, 1048577);
     c = hive_value_copy(m.file, made_length(&m), NULL, 0, (const uint16_t[]){'v'}, 1, back, sizeof back);
-    EXPECT(is(c.answer, 12, value));
+    EXPECT(in(c.answer, 12, value, m.root));
+    free(m.file);
+}
+
+/* The sample with one cell that is free, refused with 11, or shrunk to 8 bytes, so that what it is read as does not fit: 12. */
+static Made spoil(uint32_t cell, uint32_t number)
+{
+    Made m = sample();
+    uint8_t *size = m.file + 4096 + cell;
+    uint32_t n = 0u - get32(size);
+    put32(size, number == 11 ? n : 0u - 8);
+    if (number == 12)
+        put32(size + 8, n - 8);
+    return m;
+}
+
+/* The cells of the sample, one of each kind. */
+typedef struct {
+    uint32_t root, list, a, d, index, leaf, k4, print, values, value, cell, db, parts, part;
+} Cells;
+
+static Cells cells(void)
+{
+    Made m = sample();
+    size_t n = made_length(&m);
+    Cells c = {.root = m.root, .a = found(m.file, n, "a").value, .d = found(m.file, n, "d").value, .k4 = found(m.file, n, "a\\k4").value};
+    c.list = get32(data_of(&m, m.root) + 28);
+    c.index = get32(data_of(&m, c.a) + 28);
+    c.leaf = get32(data_of(&m, c.index) + 8);
+    c.print = found(m.file, n, "controlset001\\services\\eventlog\\application\\print").value;
+    c.values = get32(data_of(&m, c.print) + 40);
+    c.value = get32(data_of(&m, c.values) + 4 * 7);
+    c.cell = get32(data_of(&m, c.value) + 8);
+    c.db = get32(data_of(&m, get32(data_of(&m, c.values) + 4 * 8)) + 8);
+    c.parts = get32(data_of(&m, c.db) + 4);
+    c.part = get32(data_of(&m, c.parts) + 4);
+    free(m.file);
+    return c;
+}
+
+/* 11 and 12 at each kind of cell, and the key under examination: of the check, of the calls by path, and of those that list a key. */
+static void t_keys(void)
+{
+    static uint8_t data[ROOM];
+    static const char print[] = "ControlSet001\\Services\\EventLog\\Application\\Print";
+    Cells c = cells();
+    const struct {
+        uint32_t cell, key;
+        const char *path, *name; /* a lookup that comes by; name NULL: of the key alone */
+        uint32_t of;             /* a key whose subkeys or values come by, else 0 */
+        size_t nth;
+        bool subkey;
+    } rows[] = {
+        {c.root, NO_KEY, "a", NULL, c.root, 0, true},
+        {c.list, c.root, "b", NULL, c.root, 0, true},
+        {c.a, c.root, "a", NULL, c.root, 0, true},
+        {c.d, c.root, "d", NULL, c.root, 3, true}, /* after the deep subtree of the one before it */
+        {c.index, c.a, "a\\k1", NULL, c.a, 0, true},
+        {c.leaf, c.a, "a\\k7", NULL, c.a, 6, true},
+        {c.k4, c.a, "a\\k5", NULL, c.a, 3, true},
+        {c.print, found(sample().file, 17 * 4096, "ControlSet001\\Services\\EventLog\\Application").value, print, NULL, 0, 0, false},
+        {c.values, c.print, print, "Big", c.print, 2, false},
+        {c.value, c.print, print, "Bytes", c.print, 7, false},
+        {c.cell, c.print, print, "Bytes", 0, 0, false},
+        {c.db, c.print, print, "Large", 0, 0, false},
+        {c.parts, c.print, print, "Large", 0, 0, false},
+        {c.part, c.print, print, "Large", 0, 0, false},
+    };
+    for (size_t i = 0; i < sizeof rows / sizeof rows[0]; i++)
+        for (uint32_t number = 11; number <= 12; number++) {
+            Made m = spoil(rows[i].cell, number);
+            size_t n = made_length(&m);
+            EXPECT(in(checked(m.file, n), number, rows[i].cell, rows[i].key));
+            HiveAnswer a = rows[i].name == NULL ? found(m.file, n, rows[i].path) : asked(m.file, n, rows[i].path, rows[i].name, data).answer;
+            EXPECT(in(a, number, rows[i].cell, rows[i].key));
+            EXPECT(in(asked(m.file, n, rows[i].path, rows[i].name == NULL ? "" : rows[i].name, data).answer, number, rows[i].cell, rows[i].key));
+            if (rows[i].of != 0) {
+                HiveMember x = (rows[i].subkey ? hive_nth_subkey : hive_nth_value)(m.file, n, rows[i].of, rows[i].nth);
+                EXPECT(in(x.answer, number, rows[i].cell, rows[i].key) && x.state == 0);
+            }
+            free(m.file);
+        }
+}
+
+/* The calls that take an offset and ask for no key, and those that take a key's, before it is accepted: none. */
+static void t_keyless(void)
+{
+    static uint8_t data[64];
+    Cells c = cells();
+    for (uint32_t number = 11; number <= 12; number++) {
+        Made m = spoil(c.print, number);
+        size_t n = made_length(&m);
+        EXPECT(is(hive_nth_subkey(m.file, n, c.print, 0).answer, number, c.print) && is(hive_nth_value(m.file, n, c.print, 0).answer, number, c.print));
+        EXPECT(is(hive_key_at(m.file, n, c.print).answer, number, c.print));
+        free(m.file);
+        for (int i = 0; i < 2; i++) {
+            m = spoil(i == 0 ? c.value : c.cell, number);
+            EXPECT(is(hive_value_at(m.file, n, c.value).answer, number, i == 0 ? c.value : c.cell));
+            EXPECT(is(hive_copy_at(m.file, n, c.value, data, sizeof data).answer, number, i == 0 ? c.value : c.cell));
+            free(m.file);
+        }
+    }
+    Made m = sample();
+    EXPECT(is(hive_copy_at(m.file, made_length(&m), c.value, data, 32).answer, 20, 0) && is(hive_copy_at(m.file, made_length(&m), c.value, NULL, 0).answer, 20, 0));
     free(m.file);
 }
 
@@ -683,6 +800,8 @@ int main(void)
     test("members of keys", t_members);
     test("values and keys by their offsets", t_offsets);
     test("data of many sizes", t_sizes);
+    test("the key of 11 and 12 at each kind of cell", t_keys);
+    test("no key where none is asked or accepted", t_keyless);
     test("a repair", t_repair);
     test("a repair at once", t_repair_at_once);
     test("refusals of recovery", t_log_refusals);

@@ -36,9 +36,14 @@ static int counts(void)
     return failed != 0;
 }
 
+static bool in(HiveAnswer a, uint32_t number, uint32_t place, uint32_t key)
+{
+    return a.number == number && a.place == place && a.key == key && a.value == 0;
+}
+
 static bool is(HiveAnswer a, uint32_t number, uint32_t place)
 {
-    return a.number == number && a.place == place && a.key == NO_KEY && a.value == 0;
+    return in(a, number, place, NO_KEY);
 }
 
 #endif

@@ -159,12 +159,12 @@ static void t_value_list(void)
     put32(m.file + 4096 + 120, 0u - 2147479432);
     put32(data_of(&m, m.root) + 40, 120);
     put32(data_of(&m, m.root) + 36, 536869857);
-    EXPECT(is(check(&m), 11, 0) && is(asked(&m), 11, 0));
-    EXPECT(is(hive_nth_value(m.file, FILE_LENGTH, m.root, 536869856).answer, 11, 0));
+    EXPECT(in(check(&m), 11, 0, m.root) && in(asked(&m), 11, 0, m.root));
+    EXPECT(in(hive_nth_value(m.file, FILE_LENGTH, m.root, 536869856).answer, 11, 0, m.root));
     EXPECT(hive_nth_value(m.file, FILE_LENGTH, m.root, 536869857).state == 1);
     for (size_t i = 0; i < sizeof too_many / sizeof too_many[0]; i++) {
         put32(data_of(&m, m.root) + 36, too_many[i]);
-        EXPECT(is(check(&m), 12, 120) && is(asked(&m), 12, 120));
+        EXPECT(in(check(&m), 12, 120, m.root) && in(asked(&m), 12, 120, m.root));
     }
     drop_made(&m);
 }
@@ -192,7 +192,7 @@ static void t_last_data(void)
     HiveCopy c = hive_value_copy(m.file, FILE_LENGTH, NULL, 0, NAME, 1, back, 12);
     EXPECT(is(c.answer, 0, 0) && c.length == 12 && memcmp(back, "the last end", 12) == 0);
     put32(data_of(&m, value) + 4, 13);
-    EXPECT(is(check(&m), 12, data) && is(asked(&m), 12, data));
+    EXPECT(in(check(&m), 12, data, m.root) && in(asked(&m), 12, data, m.root));
     drop_made(&m);
 }
 

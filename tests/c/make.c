@@ -98,6 +98,20 @@ static void write_texts(void)
     write_file("texts", m.file, made_length(&m));
 }
 
+/* Faults deep in the tree: a value list that is free, a key that is its own parent, a child that is no key. */
+static void write_broken(Made *m, uint32_t parent, const uint32_t *keys)
+{
+    uint8_t *size = m->file + 4096 + get32(data_of(m, keys[1]) + 40);
+    put32(size, 0u - get32(size));
+    write_file("free-values", m->file, made_length(m));
+    put32(size, 0u - get32(size));
+    put32(data_of(m, keys[2]) + 16, keys[2]);
+    write_file("own-parent", m->file, made_length(m));
+    put32(data_of(m, keys[2]) + 16, parent);
+    data_of(m, keys[2])[0] = 'x';
+    write_file("no-child", m->file, made_length(m));
+}
+
 /* Event sources: one whose file is no text, one whose text gives a terminal orders, one with another name than ASCII. */
 static void write_sources(void)
 {
@@ -120,6 +134,21 @@ static void write_sources(void)
     hang_keys(&m, key, new_leaf(&m, "lh", keys, 3), 3);
     finish(&m);
     write_file("sources", m.file, made_length(&m));
+    write_broken(&m, key, keys);
+}
+
+/* A chain that is a level too deep. */
+static void write_chain(void)
+{
+    Made m = made(32 * 4096, 5);
+    uint32_t key = m.root = new_key(&m, "R", 0);
+    for (int i = 0; i < 513; i++) {
+        uint32_t child = new_key(&m, "n", key);
+        hang_keys(&m, key, new_leaf(&m, "lh", &child, 1), 1);
+        key = child;
+    }
+    finish(&m);
+    write_file("chain", m.file, made_length(&m));
 }
 
 /* Logs for the spoilt sample: one whose pages hold a bin without its signature, and one as Windows 8.1 writes them. */
@@ -219,6 +248,7 @@ int main(int count, char **words)
     write_sources();
     write_letters();
     write_longest();
+    write_chain();
     good.file[4096 + good.root + 4] = 'x';
     write_file("no-root", good.file, n);
     return 0;

@@ -4,6 +4,12 @@ try 'check: the minimal hive' 0 'accepted bins 1 keys 1 values 0 used 88 free 39
 try 'check: letters past z' 0 'accepted bins 1 keys 5 values 0 used 480 free 3584' '' hive check letters
 try 'check: cut short' 1 'refused 6 at 0' 'cut: the file ends before its bins do' hive check cut
 try 'check: a record' 1 'refused 12 at 32' 'at offset 32 (0x20), which is byte 4128 (0x1020) of the file' hive check no-root
+application='ControlSet001\Services\EventLog\Application'
+try 'check: in a key' 1 'refused 11 at 848' "which is byte 4944 (0x1350) of the file, in key \\$application\\Esc (at 760) (see" hive check free-values
+try 'check: a child that is none' 1 'refused 12 at 912' "of the file, in key \\$application (at 440) (see" hive check no-child
+try 'check: a key that is its own parent' 1 'refused 14 at 912' 'of the file, in key (at 912) (see' hive check own-parent
+try 'check: further from the root than a tree is deep' 1 'refused 15 at 53368' 'in key (at 53368) (see' hive check chain
+try 'check: no key yet' 1 'refused 12 at 32' 'of the file (see' hive check no-root
 try 'check: not finished' 1 'refused 7 at 0' 'give its log with --log, or repair it' hive check spoilt
 try 'check: no file' 2 '' 'hive: nothing: No such file' hive check nothing
 try 'check: a directory' 2 '' 'is a directory' hive check .

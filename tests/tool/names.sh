@@ -21,7 +21,7 @@ hive ls notation @ | sed 's/^key //' >printed
 while IFS= read -r name; do hive key notation "@\\$name"; done <printed >found
 same 'names: keys are found by what is printed' found wanted
 try 'names: a doubled backslash before them' 0 "$(tail -n 1 wanted)" '' hive key notation '\\@\\\\ud83dg'
-try 'names: a single backslash separates, whatever follows' 1 'refused 17 at 0' 'notation: there is no such key: the root has no subkey x07' hive key notation '\x07'
+try 'names: a single backslash separates, whatever follows' 1 'refused 17 at 0' 'notation: there is no such key, in key \ (at 32): the root has no subkey x07' hive key notation '\x07'
 try 'names: and a missing one is told so' 1 'refused 17 at 0' '@\\\ud83dg has no subkey \\x1b' hive key notation '@\\\ud83dg\\\x1b'
 try 'names: no key holds a backslash' 2 '' "no key's name holds a backslash" hive key notation 'a\\x5cb'
 try 'names: a single backslash in a value' 2 '' "a backslash in a value's name is doubled" hive value notation '' 'a\b'

@@ -13,13 +13,13 @@ try 'key: three in front' 1 'refused 16 at 0' 'the path is not possible' hive ke
 try 'key: one at the end' 1 'refused 16 at 0' 'leave out the backslash at the end' hive key sample 'a\'
 try 'key: letters past z' 0 'key at 296' '' hive key letters "$(printf '\303\251DITEUR')"
 try 'key: a capital past the byte' 0 'key at 384' '' hive key letters "$(printf '\305\270')"
-try 'key: none' 1 'refused 17 at 0' 'there is no such key: a has no subkey k9 (see' hive key sample 'a\k9'
+try 'key: none' 1 'refused 17 at 0' 'there is no such key, in key \a (at 120): a has no subkey k9 (see' hive key sample 'a\k9'
 try 'key: none at the root' 1 'refused 17 at 0' 'the root has no subkey c' hive key sample 'c\k9\x'
 try 'key: none further down' 1 'refused 17 at 0' 'ControlSet001\Services has no subkey Event' hive key sample 'ControlSet001\Services\Event\Application'
 try 'key: a path of a machine' 1 'refused 17 at 0' "a path starts below the hive's own root" hive key sample 'HKLM\SYSTEM\ControlSet001'
 try 'key: a long path of a machine' 1 'refused 17 at 0' "a path starts below the hive's own root" hive key sample '\hkey_local_machine\SYSTEM'
 try 'key: slashes' 1 'refused 17 at 0' 'parts are separated by backslashes' hive key sample ControlSet001/Services
-try 'key: json' 1 '{"file":"sample","answer":"refused","number":17,"place":null,"key":null,"words":"there is no such key: the root has no subkey \"x\""}' '' hive key --json sample '"x"'
+try 'key: json' 1 '{"file":"sample","answer":"refused","number":17,"place":null,"key":32,"words":"there is no such key: the root has no subkey \"x\""}' '' hive key --json sample '"x"'
 try 'key: not UTF-8' 2 '' 'this is not UTF-8: \xff; see' hive key sample "$(printf 'a\377')"
 try 'ls: the root' 0 "$(printf 'key a\nkey b\nkey ControlSet001\nkey d')" '' hive ls sample
 try 'ls: a list of three leaves' 0 "$(printf 'key k%s\n' 1 2 3 4 5 6 7)" '' hive ls sample A
@@ -31,7 +31,7 @@ try 'ls: when keys were written' 0 "$(printf '%s\n' 'key 2024-02-29T23:59:59.123
 try 'ls: when, as json' 0 '{"file":"minimal","answer":"key","at":32,"subkeys":0,"values":0,"written":"1601-01-01T00:00:00.0000000Z"}' '' hive key -l --json minimal ''
 try 'key: its counts, and when it was written' 0 'key at 32 subkeys 4 values 0 written 1601-01-01T00:00:00.0000000Z' '' hive key -l sample ''
 try 'ls: no such key' 1 'refused 17 at 0' 'the root has no subkey nobody' hive ls sample nobody
-try 'ls: a key that is none' 1 "$(printf '%s\n' 'key \\x1b[2J' 'refused 11 at 40')" 'no cell in use' hive ls bad-key
+try 'ls: a key that is none' 1 "$(printf '%s\n' 'key \\x1b[2J' 'refused 11 at 40')" ', in key \ (at 32) (see' hive ls bad-key
 try 'ls: data that are not there' 1 "$(hive ls names | head -n 6 && echo refused 12 at 120)" 'does not fit its cell' hive ls bad-value
 try 'value: expanded string' 0 "$(printf '%%SystemRoot%%\\\303\251.dll')" '' hive value sample "$print" EventMessageFile
 try 'value: unnamed' 0 xy '' hive value sample "$print" @
@@ -70,7 +70,7 @@ try 'value: the second of them' 0 '2 (0x2)' '' hive value --nth 2 texts '' "$(pr
 try 'value: no third of them' 1 'refused 18 at 0' 'no such value' hive value --nth 3 texts '' "$(printf '\303\251')"
 try 'value: by number, no such key' 1 'refused 17 at 0' 'the root has no subkey nobody' hive value --nth 2 sample nobody x
 try 'value: by number, data that are not there' 1 'refused 12 at 120' 'does not fit' hive value --nth 2 bad-value '' 'a\x0ab'
-try 'value: no such value' 1 'refused 18 at 0' 'no such value' hive value sample "$print" nobody
+try 'value: no such value' 1 'refused 18 at 0' "the key has no such value, in key \\$print (at ${at#key at }) (see" hive value sample "$print" nobody
 try 'value: to a file' 0 '' '' hive value sample "$print" Large large
 right 'value: all of it' [ "$(wc -c <large)" -eq 40000 ]
 hive value sample "$print" Large - >raw

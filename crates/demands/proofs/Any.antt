@@ -9,6 +9,7 @@ use Rattle.fields.specs.declared.Refusal.{Refusal}
 use Rattle.fields.specs.Faults.{numberOf}
 use Rattle.cells.proofs.Refusals.{survey-refuses}
 use Rattle.tree.proofs.Tells.{check-tells}
+use Rattle.tree.proofs.Examines.{check-examines}
 use Rattle.tree.proofs.Maps.{map-untouched, map-zero, map-complete, map-accepted, map-beyond}
 use Rattle.paths.proofs.Refusals.{find-refuses}
 use Rattle.lookup.proofs.Agree.{refused-untouched}
@@ -69,6 +70,7 @@ demand1 =
       listed = listed;
       survey-place = λ h room f e. survey-refuses h room e;
       check-place = λ h m r e. check-tells h m e;
+      check-key = λ h m r e. check-examines h m e;
       find-place = λ h us r e. find-refuses h us e;
       info-place = λ h us x r e. info-refuses h us x e;
       view-place = λ h us x r e. view-refuses h us x e;

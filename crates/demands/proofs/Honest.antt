@@ -7,7 +7,7 @@ use lib.ListN.{getD, replicate}
 use Rattle.fields.specs.declared.Fault.the-variants.{HiveShort}
 use Rattle.fields.specs.Number.{u16At, u32At, sizeAt}
 use Rattle.fields.specs.Bytes.{sameBytes, standsAt}
-use Rattle.fields.specs.Faults.{_next_, faultOver, flaw, nowhere, refusalOf}
+use Rattle.fields.specs.Faults.{_next_, faultOver, flaw, nowhere, noKey, refusalOf}
 use Rattle.base.specs.Block.{xors, asStored, storedChecksum, isVersion, isBinsSize, blockFault, baseFault}
 use Rattle.cells.specs.Tiling.{goodSize, tilingN, tiling, rowOf, binSize, layoutN, layout, addRow, surveyOf}
 use Rattle.cells.specs.Map.{markAt, marks, isBad, marksAll, zeros, mapAfter, isMarked}
@@ -43,11 +43,11 @@ minimal-root : findAnswer minimal [] ≡ found.At (record { 0 = 32 })
 unfolding findAnswer keyLook openFault lookupKey descend pathFault isPath areParts isPart partsOf split baseFault blockFault isVersion isBinsSize storedChecksum asStored xors u32At u16At sizeAt standsAt sameBytes _next_ goodSize isNamed byHeader cellOf cellFault dataOf dataAt codes charactersIn hasCode isKeyName isKey keyFault header baseBlock rootCell minimal
 minimal-root = refl
 
-nothing-checked : checkAnswer [] [] ≡ checked.Refused (refusalOf (flaw HiveShort nowhere))
+nothing-checked : checkAnswer [] [] ≡ checked.Refused (refusalOf noKey (flaw HiveShort nowhere))
 unfolding checkAnswer surveyAnswer frontFault baseFault _next_
 nothing-checked = refl
 
-nothing-found : findAnswer [] [] ≡ found.Refused (refusalOf (flaw HiveShort nowhere))
+nothing-found : findAnswer [] [] ≡ found.Refused (refusalOf noKey (flaw HiveShort nowhere))
 unfolding findAnswer keyLook openFault baseFault _next_
 nothing-found = refl
 

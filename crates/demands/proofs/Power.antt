@@ -6,17 +6,18 @@ use lib.ListN.{length}
 use Rattle.fields.specs.declared.Flaw.{Flaw}
 use Rattle.fields.specs.declared.Offset.{Offset}
 use Rattle.fields.specs.declared.Verdict.the-variants.{Flawed}
-use Rattle.fields.specs.Faults.{refusalOf}
+use Rattle.fields.specs.Faults.{noKey, refusalOf}
 use Rattle.fields.proofs.Firsts.{stop}
 use Rattle.base.specs.Block.{baseFault}
 use Rattle.sectors.specs.Sector.{Bytes}
 use Rattle.cells.proofs.Fronts.{front-base, survey-front}
 use Rattle.tree.proofs.Roots.{check-refused}
 use Rattle.paths.specs.declared.KeyFound.the-variants as key
-use Rattle.paths.specs.declared.Look.the-variants.{Faulty}
+use Rattle.paths.specs.declared.Way.the-variants as way
 use Rattle.paths.specs.Answers.{keyLook, findAnswer}
 use Rattle.paths.proofs.Opens.{open-base, look-stop}
 use Rattle.lookup.specs.declared.Copied.the-variants as copied
+use Rattle.lookup.specs.declared.Spot.the-variants as spot
 use Rattle.lookup.specs.declared.ValueFound.the-variants as value
 use Rattle.lookup.specs.Answers.{valueLook, infoAnswer, viewAnswer, viewBytes, copyAnswer}
 use Rattle.lookup.proofs.Agree.{refused-untouched}
@@ -33,22 +34,22 @@ use Rattle.demands.specs.Third.{Unread, Demand3}
 -- ---- a file that the tests 1 to 7 refuse is refused by every call of the reader
 
 module _ (d : List ℕ) (f : Flaw) (e : baseFault d ≡ Flawed f) where
-  key-look : (us : List ℕ) → keyLook d us ≡ Faulty f
+  key-look : (us : List ℕ) → keyLook d us ≡ way.Faulty (refusalOf noKey f)
   key-look us = look-stop d us (open-base d us e)
 
-  value-look : (us x : List ℕ) → valueLook d us x ≡ Faulty f
+  value-look : (us x : List ℕ) → valueLook d us x ≡ spot.Faulty (refusalOf noKey f)
   unfolding valueLook
   value-look us x = rw (key-look us)
 
-  find : (us : List ℕ) → findAnswer d us ≡ key.Refused (refusalOf f)
+  find : (us : List ℕ) → findAnswer d us ≡ key.Refused (refusalOf noKey f)
   unfolding findAnswer
   find us = rw (key-look us)
 
-  info : (us x : List ℕ) → infoAnswer d us x ≡ value.Refused (refusalOf f)
+  info : (us x : List ℕ) → infoAnswer d us x ≡ value.Refused (refusalOf noKey f)
   unfolding infoAnswer
   info us x = rw (value-look us x)
 
-  view : (us x : List ℕ) → viewAnswer d us x ≡ value.Refused (refusalOf f)
+  view : (us x : List ℕ) → viewAnswer d us x ≡ value.Refused (refusalOf noKey f)
   unfolding viewAnswer
   view us x = rw (value-look us x)
 
@@ -56,31 +57,31 @@ module _ (d : List ℕ) (f : Flaw) (e : baseFault d ≡ Flawed f) where
   unfolding viewBytes
   no-view us x = rw (view us x)
 
-  copy : (us x out : List ℕ) → copyAnswer d us x (length out) ≡ copied.Refused (refusalOf f)
+  copy : (us x out : List ℕ) → copyAnswer d us x (length out) ≡ copied.Refused (refusalOf noKey f)
   unfolding copyAnswer
   copy us x out = rw (info us x)
 
-  subkey : (o : Offset) (i : ℕ) → subkeyAnswer d o i ≡ member.Refused (refusalOf f)
+  subkey : (o : Offset) (i : ℕ) → subkeyAnswer d o i ≡ member.Refused (refusalOf noKey f)
   unfolding subkeyAnswer
   subkey o i = rw e
 
-  nth-value : (o : Offset) (i : ℕ) → valueAnswer d o i ≡ member.Refused (refusalOf f)
+  nth-value : (o : Offset) (i : ℕ) → valueAnswer d o i ≡ member.Refused (refusalOf noKey f)
   unfolding valueAnswer
   nth-value o i = rw e
 
-  at : (v : Offset) → infoAt d v ≡ value.Refused (refusalOf f)
+  at : (v : Offset) → infoAt d v ≡ value.Refused (refusalOf noKey f)
   unfolding infoAt
   at v = rw (stop (baseFault d) _ e)
 
-  copy-at : (v : Offset) (out : List ℕ) → copyAt d v (length out) ≡ copied.Refused (refusalOf f)
+  copy-at : (v : Offset) (out : List ℕ) → copyAt d v (length out) ≡ copied.Refused (refusalOf noKey f)
   unfolding copyAt
   copy-at v out = rw (at v)
 
-  key-facts : (o : Offset) → factsAnswer d o ≡ facts.Refused (refusalOf f)
+  key-facts : (o : Offset) → factsAnswer d o ≡ facts.Refused (refusalOf noKey f)
   unfolding factsAnswer
   key-facts o = rw (stop (baseFault d) _ e)
 
-  unread : Unread d (refusalOf f)
+  unread : Unread d (refusalOf noKey f)
   unread =
       record {
         check = λ map. let s = survey-front d map (front-base d (length map) e) in (check-refused d map (s .0) refl, s .1);
@@ -100,7 +101,7 @@ pub demand3 : (h l : List ℕ) (n : ℕ) → startAnswer h l ≡ started.Pages n
 demand3 h l n ok b =
     record {
       until = λ c m q k d o. until h l n ok b o;
-      unread = λ c m q k d o. let r = until h l n ok b o .refused in (refusalOf (r .0), unread d (r .0) (r .1));
+      unread = λ c m q k d o. let r = until h l n ok b o .refused in (refusalOf noKey (r .0), unread d (r .0) (r .1));
       running = λ m q d o. running h l n ok b o;
       finishes = λ e c m q k d o ps g. finishes h l n ok b o ps g;
       barrier = λ e m q k d o a. barrier h l n ok b o a;

@@ -12,7 +12,7 @@ use Rattle.fields.specs.declared.Fault.{Fault}
 use Rattle.fields.specs.declared.Flaw.{Flaw}
 use Rattle.fields.specs.declared.Offset.{Offset}
 use Rattle.fields.specs.declared.Refusal.{Refusal}
-use Rattle.fields.specs.Faults.{numberOf}
+use Rattle.fields.specs.Faults.{numberOf, Because, Keyless}
 use Rattle.base.specs.Block.{binsData}
 use Rattle.cells.specs.declared.Surveyed.the-variants.{Refused as Untiled}
 use Rattle.cells.specs.Survey.{surveyAnswer, mapLeft}
@@ -21,7 +21,7 @@ use Rattle.cells.specs.Refused.{OfSurvey}
 use Rattle.tree.specs.declared.Checked.the-variants as checked
 use Rattle.tree.specs.declared.Report.{Report}
 use Rattle.tree.specs.Tree.{checkAnswer}
-use Rattle.tree.specs.Told.{Because, Told, mapBytes}
+use Rattle.tree.specs.Told.{Told, Examined, mapBytes}
 use Rattle.paths.specs.declared.KeyFound.the-variants as key
 use Rattle.paths.specs.Answers.{findAnswer}
 use Rattle.paths.specs.Refused.{OfKey}
@@ -45,24 +45,26 @@ use Rattle.recovery.specs.AtOnce.{allAnswer, allHive, markAnswer}
 pub record Demand1 : Type 0 where
   -- "A refusal is a number from the listed set": the table has 1 to 27
   pub listed : (f : Fault) → (1 ≤ numberOf f) × (numberOf f ≤ 27)
-  -- "with a place": as the table says, each with the reason that its row gives
+  -- "with a place": as the table says, each with the reason that its row gives, and with the key under examination (`Because`), or none (`Keyless`)
   pub survey-place : (h : List ℕ) (room : ℕ) (f : Flaw) → surveyAnswer h room ≡ Untiled f → OfSurvey h room f
   pub check-place : (h m : List ℕ) (r : Refusal) → checkAnswer h m ≡ checked.Refused r → Because (Told h (length m)) r
+  -- the check's key by the number: none for 1 to 10 and while the root is no key, the place for 13 to 15, else a key that the walk has reached
+  pub check-key : (h m : List ℕ) (r : Refusal) → checkAnswer h m ≡ checked.Refused r → Examined h r
   pub find-place : (h us : List ℕ) (r : Refusal) → findAnswer h us ≡ key.Refused r → Because (OfKey h us) r
   pub info-place : (h us x : List ℕ) (r : Refusal) → infoAnswer h us x ≡ value.Refused r → Because (OfValue h us x) r
   pub view-place : (h us x : List ℕ) (r : Refusal) → viewAnswer h us x ≡ value.Refused r → Because (OfView h us x) r
   pub copy-place : (h us x : List ℕ) (n : ℕ) (r : Refusal) → copyAnswer h us x n ≡ copied.Refused r → Because (OfCopy h us x n) r
   pub subkey-place : (h : List ℕ) (o : Offset) (n : ℕ) (r : Refusal) → subkeyAnswer h o n ≡ member.Refused r → Because (OfSubkey h o) r
   pub nth-place : (h : List ℕ) (o : Offset) (n : ℕ) (r : Refusal) → valueAnswer h o n ≡ member.Refused r → Because (OfNth h o) r
-  pub at-place : (h : List ℕ) (v : Offset) (r : Refusal) → infoAt h v ≡ value.Refused r → Because (OfInfo h v) r
-  pub copy-at-place : (h : List ℕ) (v : Offset) (n : ℕ) (r : Refusal) → copyAt h v n ≡ copied.Refused r → Because (OfCopied h v n) r
-  pub facts-place : (h : List ℕ) (o : Offset) (r : Refusal) → factsAnswer h o ≡ facts.Refused r → Because (OfFacts h o) r
-  pub start-place : (h l : List ℕ) (r : Refusal) → startAnswer h l ≡ started.Refused r → Because (OfStart h l) r
-  pub page-place : (h l : List ℕ) (p : ℕ) (r : Refusal) → pageAnswer h l p ≡ stepped.Refused r → Because (OfPage h l p) r
-  pub close-place : (h l : List ℕ) (r : Refusal) → closeAnswer h l ≡ stepped.Refused r → Because (OfClose h l) r
-  pub next-place : (l : List ℕ) (from : ℕ) (r : Refusal) → nextAnswer l from ≡ next.Refused r → Because (OfLog l) r
-  pub all-place : (h l : List ℕ) (r : Refusal) → allAnswer h l ≡ stepped.Refused r → Because (OfStart h l) r
-  pub mark-place : (l : List ℕ) (from : ℕ) (r : Refusal) → markAnswer l from ≡ mark.Refused r → Because (OfHead l) r
+  pub at-place : (h : List ℕ) (v : Offset) (r : Refusal) → infoAt h v ≡ value.Refused r → Keyless (OfInfo h v) r
+  pub copy-at-place : (h : List ℕ) (v : Offset) (n : ℕ) (r : Refusal) → copyAt h v n ≡ copied.Refused r → Keyless (OfCopied h v n) r
+  pub facts-place : (h : List ℕ) (o : Offset) (r : Refusal) → factsAnswer h o ≡ facts.Refused r → Keyless (OfFacts h o) r
+  pub start-place : (h l : List ℕ) (r : Refusal) → startAnswer h l ≡ started.Refused r → Keyless (OfStart h l) r
+  pub page-place : (h l : List ℕ) (p : ℕ) (r : Refusal) → pageAnswer h l p ≡ stepped.Refused r → Keyless (OfPage h l p) r
+  pub close-place : (h l : List ℕ) (r : Refusal) → closeAnswer h l ≡ stepped.Refused r → Keyless (OfClose h l) r
+  pub next-place : (l : List ℕ) (from : ℕ) (r : Refusal) → nextAnswer l from ≡ next.Refused r → Keyless (OfLog l) r
+  pub all-place : (h l : List ℕ) (r : Refusal) → allAnswer h l ≡ stepped.Refused r → Keyless (OfStart h l) r
+  pub mark-place : (l : List ℕ) (from : ℕ) (r : Refusal) → markAnswer l from ≡ mark.Refused r → Keyless (OfHead l) r
   -- "It changes no byte of hive or output"
   pub copy-stays : (h us x out : List ℕ) (r : Refusal) → copyAnswer h us x (length out) ≡ copied.Refused r → copyOut h us x out ≡ out
   pub copy-at-stays : (h : List ℕ) (v : Offset) (out : List ℕ) (r : Refusal) → copyAt h v (length out) ≡ copied.Refused r → outAt h v out ≡ out

@@ -8,7 +8,7 @@ use lib.ListN.{length, drop}
 use Rattle.fields.specs.declared.Fault.the-variants.{PathParts, NoKey, NoValue, Segmented, OutputShort}
 use Rattle.fields.specs.declared.Offset.{Offset}
 use Rattle.fields.specs.declared.Refusal.{Refusal}
-use Rattle.fields.specs.Faults.{flaw, nowhere, refusalOf}
+use Rattle.fields.specs.Faults.{flaw, nowhere, noKey, refusalOf}
 use Rattle.base.specs.Block.{sector, binsOf, minorOf, binsData}
 use Rattle.cells.specs.Tiled.{BinsTile}
 use Rattle.cells.specs.Counts.{cellsIn, binCount, usedBytes, freeBytes}
@@ -25,7 +25,7 @@ use Rattle.tree.specs.WellFormed.{Once, CleanAndWellFormed}
 use Rattle.paths.specs.declared.KeyFound.the-variants as found
 use Rattle.paths.specs.Paths.{isPath, partsOf}
 use Rattle.paths.specs.Answers.{findAnswer}
-use Rattle.paths.specs.Reach.{Holds, FoundAgain}
+use Rattle.paths.specs.Reach.{Holds, FoundAgain, Deepest}
 use Rattle.lookup.specs.declared.Copied.the-variants as copied
 use Rattle.lookup.specs.declared.Info.{Info}
 use Rattle.lookup.specs.declared.ValueFound.the-variants as valued
@@ -42,8 +42,8 @@ use Rattle.recovery.specs.AtOnce.{allHive}
 abbrev pub dataFor : List ℕ → Offset → ValueData
 dataFor h v = dataIn (binsData h) (minorOf (sector h)) v
 
--- "a value's data are the bytes its record names": what the value calls answer where the path and the name lead to the value v
-pub record Answers (h us x : List ℕ) (v : Offset) : Type 0 where
+-- "a value's data are the bytes its record names": what the value calls answer where the path leads to the key k and the name to its value v
+pub record Answers (h us x : List ℕ) (k v : Offset) : Type 0 where
   -- value_info
   pub info : infoAnswer h us x ≡ valued.At (infoOf (valueOf (binsData h) (minorOf (sector h)) v))
   -- a copy with room for the data is done with their length, and writes them and nothing else; one with less room is 20
@@ -51,12 +51,12 @@ pub record Answers (h us x : List ℕ) (v : Offset) : Type 0 where
   pub written : (out : List ℕ) → lengthOf (dataFor h v) ≤ length out
       → copyOut h us x out ≡ bytesOf (binsData h) (dataFor h v) ++ drop (lengthOf (dataFor h v)) out
   pub short : (out : List ℕ) → length out < lengthOf (dataFor h v)
-      → copyAnswer h us x (length out) ≡ copied.Refused (refusalOf (flaw OutputShort nowhere))
+      → copyAnswer h us x (length out) ≡ copied.Refused (refusalOf k (flaw OutputShort nowhere))
   -- a view of data that are not segmented is answered as value_info answers, and shows the same bytes; of segmented data it is 19 at the value
   pub viewed : ((a : Offset) (n : ℕ) → dataFor h v ≡ Segments a n → ⊥)
       → (viewAnswer h us x ≡ valued.At (infoOf (valueOf (binsData h) (minorOf (sector h)) v))) × (viewBytes h us x ≡ bytesOf (binsData h) (dataFor h v))
   pub unviewed : (a : Offset) (n : ℕ) → dataFor h v ≡ Segments a n
-      → (viewAnswer h us x ≡ valued.Refused (refusalOf (flaw Segmented v))) × (viewBytes h us x ≡ [])
+      → (viewAnswer h us x ≡ valued.Refused (refusalOf k (flaw Segmented v))) × (viewBytes h us x ≡ [])
 
 pub record Demand2 : Type 0 where
   -- "Given a large enough work map, a hive is accepted exactly when it is clean and well formed by the published regf description as document 01
@@ -76,19 +76,20 @@ pub record Demand2 : Type 0 where
       → (findAnswer h us ≡ found.At o) ↔ Holds (binsData h) (hiveOf h .root) (partsOf us) o
   pub refuses : (h : List ℕ) → CleanAndWellFormed h → (us : List ℕ)
       → ((r : Refusal) × (findAnswer h us ≡ found.Refused r)) ↔ ((o : Offset) → Holds (binsData h) (hiveOf h .root) (partsOf us) o → ⊥)
-  -- with 16 where the path is malformed, else with 17
+  -- with 16 where the path is malformed, else with 17 and the deepest key that the tree holds along it
   pub malformed : (h : List ℕ) → CleanAndWellFormed h → (us : List ℕ) → isPath us ≡ false
-      → findAnswer h us ≡ found.Refused (refusalOf (flaw PathParts nowhere))
+      → findAnswer h us ≡ found.Refused (refusalOf noKey (flaw PathParts nowhere))
   pub none : (h : List ℕ) → CleanAndWellFormed h → (us : List ℕ) → isPath us ≡ true
-      → ((o : Offset) → Holds (binsData h) (hiveOf h .root) (partsOf us) o → ⊥) → findAnswer h us ≡ found.Refused (refusalOf (flaw NoKey nowhere))
+      → ((o : Offset) → Holds (binsData h) (hiveOf h .root) (partsOf us) o → ⊥)
+      → (k : Offset) × (findAnswer h us ≡ found.Refused (refusalOf k (flaw NoKey nowhere))) × Deepest (binsData h) (hiveOf h .root) (partsOf us) k
   -- each key of the pre-order listing is found again by the path of its names
   pub listed : (h : List ℕ) → CleanAndWellFormed h → (k : Offset) → List·Memᴰ k (keysOf h) → FoundAgain h k
-  -- "a value's data are the bytes its record names": the first value of that name answers; 18 if there is none
+  -- "a value's data are the bytes its record names": the first value of that name answers; 18 with that key if there is none
   pub value : (h : List ℕ) → CleanAndWellFormed h → (us : List ℕ) (o : Offset) → findAnswer h us ≡ found.At o → (x : List ℕ) (v : Offset)
-      → FirstNamed (binsData h) (minorOf (sector h)) x (valuesOf (binsData h) (keyOf (binsData h) o)) v → Answers h us x v
+      → FirstNamed (binsData h) (minorOf (sector h)) x (valuesOf (binsData h) (keyOf (binsData h) o)) v → Answers h us x o v
   pub no-value : (h : List ℕ) → CleanAndWellFormed h → (us : List ℕ) (o : Offset) → findAnswer h us ≡ found.At o → (x : List ℕ)
       → ((v : Offset) → FirstNamed (binsData h) (minorOf (sector h)) x (valuesOf (binsData h) (keyOf (binsData h) o)) v → ⊥)
-      → infoAnswer h us x ≡ valued.Refused (refusalOf (flaw NoValue nowhere))
+      → infoAnswer h us x ≡ valued.Refused (refusalOf o (flaw NoValue nowhere))
   -- and a view, on any bytes, answers as value_info does and shows the same bytes
   pub view : (h us x : List ℕ) (i : Info) → viewAnswer h us x ≡ valued.At i
       → (infoAnswer h us x ≡ valued.At i) × (viewBytes h us x ≡ bytesOf (binsData h) (i .content))

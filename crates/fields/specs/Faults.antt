@@ -1,5 +1,6 @@
 -- The numbers given back, and the first fault of several tests.
 use Prim.Native.Nat.{ℕ}
+use mathlib.Core.Path.{_≡_}
 use mathlib.Core.Bool.{Bool, true, false}
 use mathlib.Core.List.{List, [], _∷_}
 use Rattle.fields.specs.declared.Fault.{Fault}
@@ -46,8 +47,21 @@ flaw fault place = record { fault = fault; place = place }
 abbrev pub nowhere : Offset
 nowhere = record { 0 = 0 }
 
-abbrev pub refusalOf : Flaw → Refusal
-refusalOf f = record { fault = f .fault; place = f .place }
+-- the key under examination, where there is none: no cell starts there
+abbrev pub noKey : Offset
+noKey = record { 0 = 4294967295 }
+
+-- a flaw, found in the examination of a key: that of the last key whose record was accepted
+abbrev pub refusalOf : Offset → Flaw → Refusal
+refusalOf key f = record { fault = f .fault; place = f .place; key = key }
+
+-- why a refusal: a reason for its key, its number and its place
+abbrev pub Because : (Offset → Flaw → Type 0) → Refusal → Type 0
+Because reason r = (k : Offset) × (f : Flaw) × (r ≡ refusalOf k f) × reason k f
+
+-- a refusal with no key under examination: a reason for its number and its place
+abbrev pub Keyless : (Flaw → Type 0) → Refusal → Type 0
+Keyless reason r = (f : Flaw) × (r ≡ refusalOf noKey f) × reason f
 
 -- a flaw where a test fails
 abbrev pub unless : Bool → Flaw → Verdict

@@ -260,16 +260,21 @@ pub fn flawed(fault: Fault, place: Offset) -> Verdict
     Verdict::Flawed(Flaw { fault, place })
 }
 
-// "Each refusal is a number and a place": the record that every public answer carries.
+// No key is under examination: no cell starts there.
+pub const NO_KEY: u32 = 4294967295;
+
+// "Each refusal is a number and a place", and the key under examination: the record that every public answer carries.
 pub struct Refusal {
     pub fault: Fault,
     pub place: Offset,
+    pub key: Offset,
 }
 
-pub fn refused(f: Flaw) -> Refusal
-    ensures { λ r. ⌜ r ≡ refusalOf f ⌝ }
+// A flaw, found in the examination of a key.
+pub fn refused(key: Offset, f: Flaw) -> Refusal
+    ensures { λ r. ⌜ r ≡ refusalOf key f ⌝ }
 {
     let fault = f.fault;
     let place = f.place;
-    Refusal { fault, place }
+    Refusal { fault, place, key }
 }

@@ -3,7 +3,7 @@
 use Prim.Native.Nat.{ℕ}
 use mathlib.Core.Bool.{Bool, cond}
 use Rattle.fields.specs.declared.Refusal.{Refusal}
-use Rattle.fields.specs.Faults.{numberOf}
+use Rattle.fields.specs.Faults.{numberOf, noKey}
 use Rattle.tree.specs.declared.Checked.{Checked}
 use Rattle.tree.specs.declared.Checked.the-variants as checked
 use Rattle.values.specs.declared.ValueData.{ValueData}
@@ -36,17 +36,13 @@ use Rattle.hive_c.specs.declared.HiveRecovery.{HiveRecovery}
 use Rattle.hive_c.specs.declared.HivePage.{HivePage}
 use Rattle.hive_c.specs.declared.HiveMark.{HiveMark}
 
--- the third field of a refusal is spoken for; until it is filled it says "no key"
-abbrev pub noKey : ℕ
-noKey = 4294967295
-
--- no refusal, and an offset
+-- no refusal, no key, and an offset
 abbrev pub granted : ℕ → HiveAnswer
-granted o = record { number = 0; place = 0; key = noKey; value = o }
+granted o = record { number = 0; place = 0; key = noKey .0; value = o }
 
--- "Each refusal is a number and a place"
+-- "Each refusal is a number and a place", and the key under examination
 abbrev pub refused : Refusal → HiveAnswer
-refused f = record { number = numberOf (f .fault); place = f .place .0; key = noKey; value = 0 }
+refused f = record { number = numberOf (f .fault); place = f .place .0; key = f .key .0; value = 0 }
 
 -- the check: "bins, keys reached, values [..], used bytes and free bytes"
 abbrev pub reportWith : HiveAnswer → ℕ → ℕ → ℕ → ℕ → ℕ → HiveReport

@@ -13,8 +13,11 @@
 // - Nobody changes a buffer during the call. So read a file into memory; do not map one that others may write.
 // - 1 MiB of free stack.
 //
-// A refusal is a number, one of enum HiveFault, and a place. For 9 to 15 and 19 the place is an offset in the bins data: the
-// byte 4096 + place of the file. Any other number has no place, and then place is 0.
+// A refusal is a number, one of enum HiveFault, a place, and the key under examination. For 9 to 15 and 19 the place is an
+// offset in the bins data: the byte 4096 + place of the file. Any other number has no place, and then place is 0. The key is
+// the offset of the last key whose record was accepted, HIVE_NO_KEY before there is one: of a child's bad cell or record it
+// is the key that lists it, of 13 to 15 the place, of 17 the deepest key that was found, of 18 to 20 the key of the value.
+// In all calls of the repair, and where a value is asked by its offset, it is HIVE_NO_KEY.
 use fields::Offset;
 use fields::Refusal;
 use listing::Entry;
@@ -63,9 +66,9 @@ const SEGMENTS: u32 = 3;
 // No key is named: no cell lies there.
 const NO_KEY: u32 = 0xffff_ffff;
 
-// Part of every answer. number: 0, or the refusal's number. place: the refusal's place. key: HIVE_NO_KEY, always, in this
-// version; a later one may name the key under examination. value: the offset of the key or value that hive_find_key,
-// hive_nth_subkey, hive_nth_value or hive_key_at found, else 0.
+// Part of every answer. number: 0, or the refusal's number. place: the refusal's place. key: the refusal's key, else
+// HIVE_NO_KEY. value: the offset of the key or value that hive_find_key, hive_nth_subkey, hive_nth_value or hive_key_at
+// found, else 0.
 // Where number is not 0, every other field of the answer but place and key is 0.
 #[repr(C)]
 pub struct HiveAnswer {
@@ -174,7 +177,7 @@ fn granted(value: u32) -> HiveAnswer
     }
 }
 
-// "Each refusal is a number and a place."
+// "Each refusal is a number and a place", and the key under examination.
 fn refused(f: Refusal) -> HiveAnswer
     ensures { λ r. ⌜ r ≡ refusedOf f ⌝ }
 {
@@ -182,17 +185,18 @@ fn refused(f: Refusal) -> HiveAnswer
     HiveAnswer {
         number: fault.number(),
         place: f.place.0,
-        key: NO_KEY,
+        key: f.key.0,
         value: 0,
     }
 }
 
-// The version of this interface: 1. Structs and functions of one version never change.
+// The version of this interface: 2. Structs and functions of one version never change. Version 2 names the key of a refusal,
+// which was HIVE_NO_KEY, always, in version 1.
 #[no_mangle]
 pub extern "C" fn hive_abi() -> u32
-    ensures { λ r. ⌜ r ≡ 1 ⌝ }
+    ensures { λ r. ⌜ r ≡ 2 ⌝ }
 {
-    1
+    2
 }
 
 fn reported(c: Checked) -> HiveReport

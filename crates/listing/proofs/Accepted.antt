@@ -34,7 +34,7 @@ use Rattle.lookup.specs.declared.ValueFound.the-variants as value
 use Rattle.lookup.specs.Answers.{infoOf}
 use Rattle.lookup.proofs.ValueFinds.{list-good, each-good, value-good}
 use Rattle.listing.specs.declared.Member.the-variants.{At, NoMore}
-use Rattle.listing.specs.Members.{entryOf, nthIn, nthBelow, childLook, subkeyAnswer, nthOf, entryLook, valueAnswer, infoAt}
+use Rattle.listing.specs.Members.{entryOf, nthIn, nthBelow, subkeyIn, subkeyAnswer, nthOf, valueIn, valueAnswer, infoAt}
 use Rattle.listing.proofs.Members.{subkey-none, subkey-is, in-none, in-is, subkey-in, value-in, info-in}
 
 -- past the first of two lists
@@ -135,39 +135,39 @@ module _ (h : List ℕ) (w : CleanAndWellFormed h) (o : Offset) (i : List·Mem�
     -- subkey n is element n of its lists
     pub subkey-there : n < length (children (binsData h) o)
         → let c = getD (children (binsData h) o) n noChild .at in subkeyAnswer h o n ≡ At (entryOf c (keyOf (binsData h) c .name))
-    unfolding childLook
+    unfolding subkeyIn
     subkey-there p =
         let c = getD (children (binsData h) o) n noChild in
-        let e : childLook (binsData h) o n ≡ Found (c .at) = rw key-tested (below-found (binsData h) (hiveOf h) (w .formed .tiled) o key-stands n p) in
+        let e = below-found (binsData h) (hiveOf h) (w .formed .tiled) o key-stands n p in
         let g = child-good (binsData h) (hiveOf h) (w .formed .tiled) (tree-of .0) o (tree-of .1) c (at-in (children (binsData h) o) n noChild p) in
-        subkey-in h o base n ∙ subkey-is (binsData h) o n e ∙ rw g
+        subkey-in h o base n ∙ rw key-tested (subkey-is (binsData h) o n (keyOf (binsData h) o) e ∙ rw g)
 
     pub subkeys-end : length (children (binsData h) o) ≤ n → subkeyAnswer h o n ≡ NoMore
-    unfolding childLook
+    unfolding subkeyIn
     subkeys-end p =
-        let e : childLook (binsData h) o n ≡ Missing = rw key-tested (below-none (binsData h) (hiveOf h) (w .formed .tiled) o key-stands n p) in
-        subkey-in h o base n ∙ subkey-none (binsData h) o n e
+        let e = below-none (binsData h) (hiveOf h) (w .formed .tiled) o key-stands n p in
+        subkey-in h o base n ∙ rw key-tested (subkey-none (binsData h) o n (keyOf (binsData h) o) e)
 
     -- value n is element n of its value list
     pub value-there : n < length (valuesOf (binsData h) (keyOf (binsData h) o))
         → let v = getD (valuesOf (binsData h) (keyOf (binsData h) o)) n nowhere in
         valueAnswer h o n ≡ At (entryOf v (valueOf (binsData h) (minorOf (sector h)) v .name))
-    unfolding entryLook nthOf
+    unfolding valueIn nthOf
     value-there p =
         let vs = valuesOf (binsData h) (keyOf (binsData h) o) in
         let minor = minorOf (sector h) in
         let list = list-good (binsData h) (w .formed .tiled) minor (keyOf (binsData h) o) (key-stands .values) in
-        let e : entryLook (binsData h) o n ≡ Found (getD vs n nowhere) = rw (key-tested, list, lt-leb (length vs) n p) in
+        let e : nthOf (binsData h) (keyOf (binsData h) o) n ≡ Found (getD vs n nowhere) = rw (list, lt-leb (length vs) n p) in
         let g = value-good (binsData h) (w .formed .tiled) minor (keyOf (binsData h) o) (key-stands .values) (getD vs n nowhere) (at-in vs n nowhere p) in
-        value-in h o base n ∙ in-is (binsData h) o n minor e ∙ rw g
+        value-in h o base n ∙ rw key-tested (in-is (binsData h) o n minor (keyOf (binsData h) o) e ∙ rw g)
 
     pub values-end : length (valuesOf (binsData h) (keyOf (binsData h) o)) ≤ n → valueAnswer h o n ≡ NoMore
-    unfolding entryLook nthOf
+    unfolding valueIn nthOf
     values-end p =
         let vs = valuesOf (binsData h) (keyOf (binsData h) o) in
         let list = list-good (binsData h) (w .formed .tiled) (minorOf (sector h)) (keyOf (binsData h) o) (key-stands .values) in
-        let e : entryLook (binsData h) o n ≡ Missing = rw (key-tested, list, le-leb (length vs) n p) in
-        value-in h o base n ∙ in-none (binsData h) o n (minorOf (sector h)) e
+        let e : nthOf (binsData h) (keyOf (binsData h) o) n ≡ Missing = rw (list, le-leb (length vs) n p) in
+        value-in h o base n ∙ rw key-tested (in-none (binsData h) o n (minorOf (sector h)) (keyOf (binsData h) o) e)
 
   -- each of its values has facts
   pub info-there : (v : Offset) → List·Memᴰ v (valuesOf (binsData h) (keyOf (binsData h) o))

@@ -1,7 +1,7 @@
 -- On any bytes: a name that is answered lies in the hive, and every refusal says why.
 use Prim.Native.Nat.{ℕ, _+_, _-_, _≤_}
 use native.Mathlib.Omega.{arith}
-use mathlib.Core.Path.{_≡_, refl, ap, sym, subst}
+use mathlib.Core.Path.{_≡_, refl, ap, sym, _∙_, subst}
 use mathlib.Core.Bool.{Bool, true, false, cond}
 use mathlib.Core.List.{List, [], _∷_, _++_, List·Memᴰ, List·Memᴰ·head, List·Memᴰ·tail, Memᴰ·append-left, Memᴰ·append-right}
 use lib.Dec.{eqb, leb}
@@ -12,7 +12,7 @@ use Rattle.fields.specs.declared.Offset.{Offset}
 use Rattle.fields.specs.declared.Refusal.{Refusal}
 use Rattle.fields.specs.declared.Verdict.{Verdict}
 use Rattle.fields.specs.declared.Verdict.the-variants.{Sound, Flawed}
-use Rattle.fields.specs.Faults.{nowhere, refusalOf, _next_}
+use Rattle.fields.specs.Faults.{nowhere, noKey, refusalOf, Because, Keyless, _next_}
 use Rattle.fields.proofs.Every.{Every, every-next}
 use Rattle.fields.proofs.Firsts.{both}
 use Rattle.base.specs.Block.{sector, minorOf, binsData, baseFault}
@@ -33,7 +33,6 @@ use Rattle.values.specs.Lists.{valuesOf, valueListFault, wholeValueFault}
 use Rattle.values.specs.Refused.{a-key, Fit, one-of, Lists, its-list, its-leaf, its-child}
 use Rattle.values.proofs.LawsValues.{name-inside}
 use Rattle.values.proofs.Refusals.{key-fit, key-unfit, list-fit, list-unfit, leaf-unfit, value-fit, value-unfit, value-list-unfit, value-named, data-unfit}
-use Rattle.tree.specs.Told.{Because}
 use Rattle.tree.proofs.Elements.{at-in}
 use Rattle.paths.specs.declared.Look.{Look}
 use Rattle.paths.specs.declared.Look.the-variants.{Found, Missing, Faulty}
@@ -50,20 +49,20 @@ use Rattle.listing.specs.declared.Facts.{Facts}
 use Rattle.listing.specs.declared.KeyFacts.the-variants as facts
 use Rattle.listing.specs.declared.Member.{Member}
 use Rattle.listing.specs.declared.Member.the-variants.{At, Refused}
-use Rattle.listing.specs.Members.{entryOf, memberWhere, memberOf, inHive, nthIn, nthBelow, childLook, subkeyIn, subkeyAnswer, nthOf, entryLook, valueIn, valueAnswer, infoAt, copyAt, outAt, factsOf, factsWhere, factsAnswer}
+use Rattle.listing.specs.Members.{entryOf, memberWhere, memberOf, inHive, nthIn, nthBelow, subkeyBelow, subkeyIn, subkeyAnswer, nthOf, valueBelow, valueIn, valueAnswer, infoAt, copyAt, outAt, factsOf, factsWhere, factsAnswer}
 use Rattle.listing.specs.Refused.{of-base, of-record, of-named, OfSubkey, OfNth, OfInfo, OfCopied, as-info, too-short, OfFacts}
 
 -- ---- a name that is answered lies in the hive, so a host may read it there
 
 -- what is answered At an entry
-where-at : (v : Verdict) (x : Entry) {e : Entry} → memberWhere v x ≡ At e → (v ≡ Sound) × (x ≡ e)
-where-at Sound x p = (refl, cc)
-where-at (Flawed f) x p = absurd (let z : _≡_ {A = ℕ} 0 1 = cc in omega arith)
+where-at : (k : Offset) (v : Verdict) (x : Entry) {e : Entry} → memberWhere k v x ≡ At e → (v ≡ Sound) × (x ≡ e)
+where-at k Sound x p = (refl, cc)
+where-at k (Flawed f) x p = absurd (let z : _≡_ {A = ℕ} 0 1 = cc in omega arith)
 
-member-at : (l : Look) (go : Offset → Member) {e : Entry} → memberOf l go ≡ At e → (o : Offset) × (go o ≡ At e)
-member-at (Found o) go p = (o, p)
-member-at Missing go p = absurd (let z : _≡_ {A = ℕ} 0 1 = cc in omega arith)
-member-at (Faulty f) go p = absurd (let z : _≡_ {A = ℕ} 0 1 = cc in omega arith)
+member-at : (k : Offset) (l : Look) (go : Offset → Member) {e : Entry} → memberOf k l go ≡ At e → (o : Offset) × (go o ≡ At e)
+member-at k (Found o) go p = (o, p)
+member-at k Missing go p = absurd (let z : _≡_ {A = ℕ} 0 1 = cc in omega arith)
+member-at k (Faulty f) go p = absurd (let z : _≡_ {A = ℕ} 0 1 = cc in omega arith)
 
 hive-at : (v : Verdict) (a : Member) {e : Entry} → inHive v a ≡ At e → (v ≡ Sound) × (a ≡ At e)
 hive-at Sound a p = (refl, p)
@@ -88,20 +87,22 @@ module _ (h : List ℕ) where
 
   module _ (o : Offset) (n : ℕ) {e : Entry} where
     pub subkey-name : subkeyAnswer h o n ≡ At e → e .name .0 + e .len ≤ length h
-    unfolding subkeyAnswer subkeyIn
+    unfolding subkeyAnswer subkeyIn subkeyBelow
     subkey-name p =
         let b = hive-at (baseFault h) _ p in
-        let m = member-at (childLook (binsData h) o n) _ (b .1) in
-        let w = where-at (keyFault Header (binsData h) [] (m .0)) _ (m .1) in
+        let r = hive-at (keyFault Header (binsData h) [] o) _ (b .1) in
+        let m = member-at o (nthBelow (binsData h) (keyOf (binsData h) o) n) _ (r .1) in
+        let w = where-at o (keyFault Header (binsData h) [] (m .0)) _ (m .1) in
         name-lies (b .0) (m .0) (keyOf (binsData h) (m .0) .name) e (name-room Header (binsData h) [] (m .0) (w .0)) (w .1)
 
     pub value-name : valueAnswer h o n ≡ At e → e .name .0 + e .len ≤ length h
-    unfolding valueAnswer valueIn
+    unfolding valueAnswer valueIn valueBelow
     value-name p =
         let minor = minorOf (sector h) in
         let b = hive-at (baseFault h) _ p in
-        let m = member-at (entryLook (binsData h) o n) _ (b .1) in
-        let w = where-at (valueFault Header (binsData h) [] (m .0)) _ (m .1) in
+        let r = hive-at (keyFault Header (binsData h) [] o) _ (b .1) in
+        let m = member-at o (nthOf (binsData h) (keyOf (binsData h) o) n) _ (r .1) in
+        let w = where-at o (valueFault Header (binsData h) [] (m .0)) _ (m .1) in
         name-lies (b .0) (m .0) (valueOf (binsData h) minor (m .0) .name) e (name-inside Header (binsData h) [] minor (m .0) (w .0)) (w .1)
 
 -- ---- refusals
@@ -126,14 +127,11 @@ module _ (h : List ℕ) (k : Offset) where
   ruled : Ruled Header (binsData h) []
   ruled = by-header (binsData h) []
 
-  -- a key that has a subkey is one, and the subkey is listed
-  child-fit : (n : ℕ) {o : Offset} → childLook (binsData h) k n ≡ Found o → Fit Header (binsData h) a-key k
-  unfolding childLook
-  child-fit n e = key-fit Header (binsData h) [] ruled k (sound-found (keyFault Header (binsData h) [] k) _ e .0)
-
-  child-found : (n : ℕ) {o : Offset} → childLook (binsData h) k n ≡ Found o → (c : Child) × List·Memᴰ c (children (binsData h) k) × (o ≡ c .at)
-  unfolding childLook nthBelow
-  child-found n {o} e = by (eqb (keyOf (binsData h) k .subkeys) 0) refl (sound-found (keyFault Header (binsData h) [] k) _ e .1)
+  -- a subkey that is found is listed
+  child-found : (n : ℕ) {o : Offset} → nthBelow (binsData h) (keyOf (binsData h) k) n ≡ Found o
+      → (c : Child) × List·Memᴰ c (children (binsData h) k) × (o ≡ c .at)
+  unfolding nthBelow
+  child-found n {o} e = by (eqb (keyOf (binsData h) k .subkeys) 0) refl e
     where
       by : (t : Bool) → eqb (keyOf (binsData h) k .subkeys) 0 ≡ t
           → cond t Missing (onSound (headFault Header (binsData h) [] (keyOf (binsData h) k .list)) (nthIn (binsData h) (leavesOf (binsData h) (keyOf (binsData h) k .list)) n)) ≡ Found o
@@ -155,27 +153,24 @@ module _ (h : List ℕ) (k : Offset) where
       (λ s. each-cond P (leb (length cs) n) (nthIn (binsData h) ls (n - length cs)) _ (λ t. nth-each P ls (λ o i. p o (List·Memᴰ·tail i)) (n - length cs))
       (λ t. each-found P (getD cs n noChild .at)))
 
-  child-each : (n : ℕ) → Each (OfSubkey h k) (childLook (binsData h) k n)
-  unfolding childLook nthBelow
-  child-each n =
+  child-each : Fit Header (binsData h) a-key k → (n : ℕ) → Each (OfSubkey h k k) (nthBelow (binsData h) (keyOf (binsData h) k) n)
+  unfolding nthBelow
+  child-each g n =
       let d = binsData h in
-      let P = OfSubkey h k in
+      let P = OfSubkey h k k in
       let o = keyOf d k .list in
-      each-sound P (keyFault Header d [] k) _ (λ f e. of-record (key-unfit Header d [] ruled k f e))
-      (λ s. let g = key-fit Header d [] ruled k s in
       each-cond P (eqb (keyOf d k .subkeys) 0) Missing _ (λ z. each-missing P)
       (λ z. each-sound P (headFault Header d [] o) _ (λ f e. of-named g (one-of (its-list (eqb-false _ _ z)) (list-unfit Header d [] ruled o f e)))
       (λ t. nth-each P (leavesOf d o)
-      (λ l i f e. of-named g (one-of (its-leaf (eqb-false _ _ z) (list-fit Header d [] ruled o t) i) (leaf-unfit Header d [] ruled l f e))) n)))
+      (λ l i f e. of-named g (one-of (its-leaf (eqb-false _ _ z) (list-fit Header d [] ruled o t) i) (leaf-unfit Header d [] ruled l f e))) n))
 
   -- the same of its values
-  value-found : (n : ℕ) {v : Offset} → entryLook (binsData h) k n ≡ Found v
-      → Fit Header (binsData h) a-key k × (valueListFault Header (binsData h) [] (keyOf (binsData h) k) ≡ Sound) × List·Memᴰ v (valuesOf (binsData h) (keyOf (binsData h) k))
-  unfolding entryLook nthOf
+  value-found : (n : ℕ) {v : Offset} → nthOf (binsData h) (keyOf (binsData h) k) n ≡ Found v
+      → (valueListFault Header (binsData h) [] (keyOf (binsData h) k) ≡ Sound) × List·Memᴰ v (valuesOf (binsData h) (keyOf (binsData h) k))
+  unfolding nthOf
   value-found n {v} e =
-      let s = sound-found (keyFault Header (binsData h) [] k) _ e in
-      let t = sound-found (valueListFault Header (binsData h) [] (keyOf (binsData h) k)) _ (s .1) in
-      (key-fit Header (binsData h) [] ruled k (s .0), t .0, by (leb (length vs) n) refl (t .1))
+      let t = sound-found (valueListFault Header (binsData h) [] (keyOf (binsData h) k)) _ e in
+      (t .0, by (leb (length vs) n) refl (t .1))
     where
       vs : List Offset
       vs = valuesOf (binsData h) (keyOf (binsData h) k)
@@ -184,59 +179,67 @@ module _ (h : List ℕ) (k : Offset) where
       by true p q = absurd (let z : _≡_ {A = ℕ} 0 1 = cc in omega arith)
       by false p q = let z : getD vs n nowhere ≡ v = cc in subst (λ (o : Offset). List·Memᴰ o vs) z (at-in vs n nowhere (leb-false _ _ p))
 
-  value-each : (n : ℕ) → Each (OfNth h k) (entryLook (binsData h) k n)
-  unfolding entryLook nthOf
-  value-each n =
+  value-each : Fit Header (binsData h) a-key k → (n : ℕ) → Each (OfNth h k k) (nthOf (binsData h) (keyOf (binsData h) k) n)
+  unfolding nthOf
+  value-each g n =
       let d = binsData h in
-      let P = OfNth h k in
+      let P = OfNth h k k in
       let vs = valuesOf d (keyOf d k) in
-      each-sound P (keyFault Header d [] k) _ (λ f e. of-record (key-unfit Header d [] ruled k f e))
-      (λ s. each-sound P (valueListFault Header d [] (keyOf d k)) _ (λ f e. of-named (key-fit Header d [] ruled k s) (value-list-unfit Header d [] ruled k f e))
-      (λ t. each-cond P (leb (length vs) n) Missing _ (λ z. each-missing P) (λ z. each-found P (getD vs n nowhere))))
+      each-sound P (valueListFault Header d [] (keyOf d k)) _ (λ f e. of-named g (value-list-unfit Header d [] ruled k f e))
+      (λ t. each-cond P (leb (length vs) n) Missing _ (λ z. each-missing P) (λ z. each-found P (getD vs n nowhere)))
 
 -- from the tests to the answers
-where-refuses : (P : Flaw → Type 0) (v : Verdict) (x : Entry) → Every P v → (r : Refusal) → memberWhere v x ≡ Refused r → Because P r
-where-refuses P Sound x p r q = absurd (let z : _≡_ {A = ℕ} 0 1 = cc in omega arith)
-where-refuses P (Flawed g) x p r q = (g, let z : refusalOf g ≡ r = cc in sym z, p g refl)
+where-refuses : (P : Offset → Flaw → Type 0) (k : Offset) (v : Verdict) (x : Entry) → Every (P k) v → (r : Refusal) → memberWhere k v x ≡ Refused r → Because P r
+where-refuses P k Sound x p r q = absurd (let z : _≡_ {A = ℕ} 0 1 = cc in omega arith)
+where-refuses P k (Flawed g) x p r q = (k, g, let z : refusalOf k g ≡ r = cc in sym z, p g refl)
 
-member-refuses : (P : Flaw → Type 0) (l : Look) (go : Offset → Member) → Each P l → ((o : Offset) → l ≡ Found o → (r : Refusal) → go o ≡ Refused r → Because P r)
-    → (r : Refusal) → memberOf l go ≡ Refused r → Because P r
-member-refuses P (Found o) go p s r q = s o refl r q
-member-refuses P Missing go p s r q = absurd (let z : _≡_ {A = ℕ} 0 1 = cc in omega arith)
-member-refuses P (Faulty g) go p s r q = (g, let z : refusalOf g ≡ r = cc in sym z, p g refl)
+member-refuses : (P : Offset → Flaw → Type 0) (k : Offset) (l : Look) (go : Offset → Member) → Each (P k) l
+    → ((o : Offset) → l ≡ Found o → (r : Refusal) → go o ≡ Refused r → Because P r) → (r : Refusal) → memberOf k l go ≡ Refused r → Because P r
+member-refuses P k (Found o) go p s r q = s o refl r q
+member-refuses P k Missing go p s r q = absurd (let z : _≡_ {A = ℕ} 0 1 = cc in omega arith)
+member-refuses P k (Faulty g) go p s r q = (k, g, let z : refusalOf k g ≡ r = cc in sym z, p g refl)
 
-hive-refuses : (P : Flaw → Type 0) (v : Verdict) (a : Member) → Every P v → (r : Refusal) → (a ≡ Refused r → Because P r) → inHive v a ≡ Refused r → Because P r
-hive-refuses P Sound a p r s q = s q
-hive-refuses P (Flawed g) a p r s q = (g, let z : refusalOf g ≡ r = cc in sym z, p g refl)
+hive-refuses : (P : Offset → Flaw → Type 0) (v : Verdict) (a : Member) → Every (P noKey) v → (r : Refusal) → (v ≡ Sound → a ≡ Refused r → Because P r)
+    → inHive v a ≡ Refused r → Because P r
+hive-refuses P Sound a p r s q = s refl q
+hive-refuses P (Flawed g) a p r s q = (noKey, g, let z : refusalOf noKey g ≡ r = cc in sym z, p g refl)
 
 module _ (h : List ℕ) (o : Offset) where
   module _ (n : ℕ) {r : Refusal} where
     pub subkey-refuses : subkeyAnswer h o n ≡ Refused r → Because (OfSubkey h o) r
-    unfolding subkeyAnswer subkeyIn
+    unfolding subkeyAnswer subkeyIn subkeyBelow
     subkey-refuses =
-        hive-refuses (OfSubkey h o) (baseFault h) _ (λ f e. of-base (base-refuses h f e)) r
-        (member-refuses (OfSubkey h o) (childLook (binsData h) o n) _ (child-each h o n)
+        let P = OfSubkey h o in
+        let d = binsData h in
+        hive-refuses P (baseFault h) _ (λ f e. of-base (base-refuses h f e)) r
+        (λ a. hive-refuses P (keyFault Header d [] o) _ (λ f e. of-record (key-unfit Header d [] (ruled h o) o f e)) r
+        (λ b. let g = key-fit Header d [] (ruled h o) o b in
+        member-refuses P o (nthBelow d (keyOf d o) n) _ (child-each h o g n)
         (λ c e. let x = child-found h o n e in
-        where-refuses (OfSubkey h o) (keyFault Header (binsData h) [] c) _
-        (λ f q. of-named (child-fit h o n e)
-        (one-of (subst (λ (y : Offset). Lists Header (binsData h) o a-key y) (sym (x .2)) (its-child (x .1))) (key-unfit Header (binsData h) [] (ruled h o) c f q)))) r)
+        where-refuses P o (keyFault Header d [] c) _
+        (λ f q. of-named g
+        (one-of (subst (λ (y : Offset). Lists Header d o a-key y) (sym (x .2)) (its-child (x .1))) (key-unfit Header d [] (ruled h o) c f q)))) r))
 
     pub value-refuses : valueAnswer h o n ≡ Refused r → Because (OfNth h o) r
-    unfolding valueAnswer valueIn
+    unfolding valueAnswer valueIn valueBelow
     value-refuses =
-        hive-refuses (OfNth h o) (baseFault h) _ (λ f e. of-base (base-refuses h f e)) r
-        (member-refuses (OfNth h o) (entryLook (binsData h) o n) _ (value-each h o n)
+        let P = OfNth h o in
+        let d = binsData h in
+        hive-refuses P (baseFault h) _ (λ f e. of-base (base-refuses h f e)) r
+        (λ a. hive-refuses P (keyFault Header d [] o) _ (λ f e. of-record (key-unfit Header d [] (ruled h o) o f e)) r
+        (λ b. let g = key-fit Header d [] (ruled h o) o b in
+        member-refuses P o (nthOf d (keyOf d o) n) _ (value-each h o g n)
         (λ v e. let x = value-found h o n e in
-        where-refuses (OfNth h o) (valueFault Header (binsData h) [] v) _
-        (λ f q. of-named (x .0)
-        (one-of (value-named Header (binsData h) [] (ruled h o) o v (x .1) (x .2)) (value-unfit Header (binsData h) [] (ruled h o) v f q)))) r)
+        where-refuses P o (valueFault Header d [] v) _
+        (λ f q. of-named g
+        (one-of (value-named Header d [] (ruled h o) o v (x .0) (x .1)) (value-unfit Header d [] (ruled h o) v f q)))) r))
 
-  info-of : (v : Verdict) {r : Refusal} → Every (OfInfo h o) v → infoWhere v (infoOf (valueOf (binsData h) (minorOf (sector h)) o)) ≡ value.Refused r
-      → Because (OfInfo h o) r
+  info-of : (v : Verdict) {r : Refusal} → Every (OfInfo h o) v → infoWhere noKey v (infoOf (valueOf (binsData h) (minorOf (sector h)) o)) ≡ value.Refused r
+      → Keyless (OfInfo h o) r
   info-of Sound p q = absurd (let z : _≡_ {A = ℕ} 0 1 = cc in omega arith)
-  info-of (Flawed g) {r} p q = (g, let z : refusalOf g ≡ r = cc in sym z, p g refl)
+  info-of (Flawed g) {r} p q = (g, let z : refusalOf noKey g ≡ r = cc in sym z, p g refl)
 
-  pub info-refuses : {r : Refusal} → infoAt h o ≡ value.Refused r → Because (OfInfo h o) r
+  pub info-refuses : {r : Refusal} → infoAt h o ≡ value.Refused r → Keyless (OfInfo h o) r
   unfolding infoAt wholeValueFault
   info-refuses =
       let d = binsData h in
@@ -246,20 +249,22 @@ module _ (h : List ℕ) (o : Offset) where
       (λ a. every-next (OfInfo h o) (valueFault Header d [] o) _ (λ f e. of-record (value-unfit Header d [] (ruled h o) o f e))
       (λ b f e. of-named (value-fit Header d [] (ruled h o) o b) (data-unfit Header d [] (ruled h o) x f e))))
 
-  pub copy-refuses : (n : ℕ) {r : Refusal} → copyAt h o n ≡ copied.Refused r → Because (OfCopied h o n) r
+  pub copy-refuses : (n : ℕ) {r : Refusal} → copyAt h o n ≡ copied.Refused r → Keyless (OfCopied h o n) r
   unfolding copyAt
-  copy-refuses n =
-      copied-refuses (OfCopied h o n) n (infoAt h o) (λ g p. let w = info-refuses p in (w .0, w .1, as-info (w .2))) (λ i p s. too-short p s)
+  copy-refuses n e =
+      let w = copied-refuses (λ k f. (k ≡ noKey) × OfCopied h o n f) noKey n (infoAt h o)
+      (λ g p. let w = info-refuses p in (noKey, w .0, w .1, (refl, as-info (w .2)))) (λ i p s. (refl, too-short p s)) e in
+      (w .1, w .2 ∙ ap (λ (k : Offset). refusalOf k (w .1)) (w .3 .0), w .3 .1)
 
   pub copy-stays : (out : List ℕ) {f : Refusal} → copyAt h o (length out) ≡ copied.Refused f → outAt h o out ≡ out
   unfolding copyAt outAt
-  copy-stays out = refused-stays (binsData h) out (infoAt h o)
+  copy-stays out = refused-stays noKey (binsData h) out (infoAt h o)
 
-  facts-of : (v : Verdict) {r : Refusal} → Every (OfFacts h o) v → factsWhere v (factsOf (binsData h) o) ≡ facts.Refused r → Because (OfFacts h o) r
+  facts-of : (v : Verdict) {r : Refusal} → Every (OfFacts h o) v → factsWhere v (factsOf (binsData h) o) ≡ facts.Refused r → Keyless (OfFacts h o) r
   facts-of Sound p q = absurd (let z : _≡_ {A = ℕ} 0 1 = cc in omega arith)
-  facts-of (Flawed g) {r} p q = (g, let z : refusalOf g ≡ r = cc in sym z, p g refl)
+  facts-of (Flawed g) {r} p q = (g, let z : refusalOf noKey g ≡ r = cc in sym z, p g refl)
 
-  pub facts-refuses : {r : Refusal} → factsAnswer h o ≡ facts.Refused r → Because (OfFacts h o) r
+  pub facts-refuses : {r : Refusal} → factsAnswer h o ≡ facts.Refused r → Keyless (OfFacts h o) r
   unfolding factsAnswer
   facts-refuses =
       facts-of (baseFault h next keyFault Header (binsData h) [] o)

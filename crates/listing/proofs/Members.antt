@@ -13,7 +13,7 @@ use Rattle.fields.specs.declared.Verdict.{Verdict}
 use Rattle.fields.specs.declared.Verdict.the-variants.{Sound, Flawed}
 use Rattle.fields.specs.declared.Refusal.{Refusal}
 use Rattle.fields.specs.Number.{u64At}
-use Rattle.fields.specs.Faults.{nowhere, refusalOf, _next_}
+use Rattle.fields.specs.Faults.{nowhere, noKey, refusalOf, _next_}
 use Rattle.fields.proofs.Firsts.{on, stop, both}
 use Rattle.fields.proofs.Loops.{drop-all}
 use Rattle.base.specs.Block.{sector, minorOf, binsData, baseFault}
@@ -57,21 +57,17 @@ use Rattle.lookup.proofs.Answered.{where-at}
 use Rattle.listing.specs.declared.Entry.{Entry}
 use Rattle.listing.specs.declared.KeyFacts.the-variants as facts
 use Rattle.listing.specs.declared.Member.the-variants.{At, NoMore, Refused}
-use Rattle.listing.specs.Members.{entryOf, memberWhere, nthIn, nthBelow, childLook, subkeyIn, subkeyAnswer, nthOf, entryLook, valueIn, valueAnswer, infoAt, copyAt, outAt, factsOf, factsWhere, factsAnswer}
+use Rattle.listing.specs.Members.{entryOf, memberWhere, nthIn, nthBelow, subkeyBelow, subkeyIn, subkeyAnswer, nthOf, valueBelow, valueIn, valueAnswer, infoAt, copyAt, outAt, factsOf, factsWhere, factsAnswer}
 
--- a record by its offset
-module _ (d : List ℕ) (o : Offset) where
+-- a record by its offset, which a key lists
+module _ (d : List ℕ) (q o : Offset) where
   pub key-bad : {f : Flaw} → keyed (keyFault Header d [] o) (keyOf d o) ≡ key.Flawed f
-      → memberWhere (keyFault Header d [] o) (entryOf o (keyOf d o .name)) ≡ Refused (refusalOf f)
+      → memberWhere q (keyFault Header d [] o) (entryOf o (keyOf d o .name)) ≡ Refused (refusalOf q f)
   key-bad e = rw (keyed-flawed (keyFault Header d [] o) _ e)
 
   module _ {k : Key} (e : keyed (keyFault Header d [] o) (keyOf d o) ≡ key.Whole k) where
-    pub key-is : memberWhere (keyFault Header d [] o) (entryOf o (keyOf d o .name)) ≡ At (entryOf o (k .name))
+    pub key-is : memberWhere q (keyFault Header d [] o) (entryOf o (keyOf d o .name)) ≡ At (entryOf o (k .name))
     key-is = let w = keyed-whole (keyFault Header d [] o) _ e in rw (w .0, w .1)
-
-    pub key-name : k .name .at < 4294967296
-    unfolding keyOf keyIn
-    key-name = let w = keyed-whole (keyFault Header d [] o) _ e in rw (w .1) (omega arith)
 
 -- what a key's record says of it; its stamp stands at 4
 module _ (d : List ℕ) (o : Offset) where
@@ -83,10 +79,14 @@ module _ (d : List ℕ) (o : Offset) where
     stamp-is = u64-part (dataAt d o) 4 8 0 (omega arith)
 
   pub facts-bad : {f : Flaw} → keyed (keyFault Header d [] o) (keyOf d o) ≡ key.Flawed f
-      → factsWhere (keyFault Header d [] o) (factsOf d o) ≡ facts.Refused (refusalOf f)
+      → factsWhere (keyFault Header d [] o) (factsOf d o) ≡ facts.Refused (refusalOf noKey f)
   facts-bad e = rw (keyed-flawed (keyFault Header d [] o) _ e)
 
   module _ {k : Key} (e : keyed (keyFault Header d [] o) (keyOf d o) ≡ key.Whole k) where
+    pub key-name : k .name .at < 4294967296
+    unfolding keyOf keyIn
+    key-name = let w = keyed-whole (keyFault Header d [] o) _ e in rw (w .1) (omega arith)
+
     pub facts-room : 76 ≤ length (dataAt d o)
     facts-room = key-room Header d [] o (keyed-whole (keyFault Header d [] o) _ e .0)
 
@@ -95,18 +95,19 @@ module _ (d : List ℕ) (o : Offset) where
     unfolding factsOf
     facts-are p q = let w = keyed-whole (keyFault Header d [] o) _ e in rw (p, q, w .0, w .1)
 
-module _ (d : List ℕ) (minor : ℕ) (v : Offset) where
+module _ (d : List ℕ) (minor : ℕ) (q v : Offset) where
   pub value-bad : {f : Flaw} → valued (valueFault Header d [] v) (valueOf d minor v) ≡ valuedAs.Flawed f
-      → memberWhere (valueFault Header d [] v) (entryOf v (valueOf d minor v .name)) ≡ Refused (refusalOf f)
+      → memberWhere q (valueFault Header d [] v) (entryOf v (valueOf d minor v .name)) ≡ Refused (refusalOf q f)
   value-bad e = rw (is-flawed (valueFault Header d [] v) _ e)
 
   module _ {x : Value} (e : valued (valueFault Header d [] v) (valueOf d minor v) ≡ valuedAs.Whole x) where
-    pub value-is : memberWhere (valueFault Header d [] v) (entryOf v (valueOf d minor v .name)) ≡ At (entryOf v (x .name))
+    pub value-is : memberWhere q (valueFault Header d [] v) (entryOf v (valueOf d minor v .name)) ≡ At (entryOf v (x .name))
     value-is = let w = is-whole (valueFault Header d [] v) _ e in rw (w .0, w .1)
 
-    pub value-name : x .name .at < 4294967296
-    unfolding valueOf fieldsOf
-    value-name = let w = is-whole (valueFault Header d [] v) _ e in rw (← w .1) (omega arith)
+module _ (d : List ℕ) (minor : ℕ) (v : Offset) {x : Value} (e : valued (valueFault Header d [] v) (valueOf d minor v) ≡ valuedAs.Whole x) where
+  pub value-name : x .name .at < 4294967296
+  unfolding valueOf fieldsOf
+  value-name = let w = is-whole (valueFault Header d [] v) _ e in rw (← w .1) (omega arith)
 
 -- the leaves from j on: what is left of n among them answers as n among all of them does
 module _ (d : List ℕ) (ls : List Offset) (n j left : ℕ) (inv : nthIn d ls n ≡ nthIn d (drop j ls) left) where
@@ -186,63 +187,66 @@ module _ (d : List ℕ) (k : Key) (n : ℕ) where
 
 -- from a key's offset
 module _ (d : List ℕ) (o : Offset) (n : ℕ) where
-  pub child-bad : {f : Flaw} → keyed (keyFault Header d [] o) (keyOf d o) ≡ key.Flawed f → childLook d o n ≡ Faulty f
-  unfolding childLook
-  child-bad e = rw (keyed-flawed (keyFault Header d [] o) _ e)
-
-  pub child-on : {k : Key} → keyed (keyFault Header d [] o) (keyOf d o) ≡ key.Whole k → childLook d o n ≡ nthBelow d k n
-  unfolding childLook
-  child-on e = let w = keyed-whole (keyFault Header d [] o) _ e in rw (w .0, w .1)
-
-  pub look-bad : {f : Flaw} → keyed (keyFault Header d [] o) (keyOf d o) ≡ key.Flawed f → entryLook d o n ≡ Faulty f
-  unfolding entryLook
-  look-bad e = rw (keyed-flawed (keyFault Header d [] o) _ e)
-
-  pub look-on : {k : Key} → keyed (keyFault Header d [] o) (keyOf d o) ≡ key.Whole k → entryLook d o n ≡ nthOf d k n
-  unfolding entryLook
-  look-on e = let w = keyed-whole (keyFault Header d [] o) _ e in rw (w .0, w .1)
-
-  pub subkey-bad : {f : Flaw} → childLook d o n ≡ Faulty f → subkeyIn d o n ≡ Refused (refusalOf f)
+  pub subkey-bad : {f : Flaw} → keyed (keyFault Header d [] o) (keyOf d o) ≡ key.Flawed f → subkeyIn d o n ≡ Refused (refusalOf noKey f)
   unfolding subkeyIn
-  subkey-bad e = rw e
+  subkey-bad e = rw (keyed-flawed (keyFault Header d [] o) _ e)
 
-  pub subkey-none : childLook d o n ≡ Missing → subkeyIn d o n ≡ NoMore
+  pub subkey-on : {k : Key} → keyed (keyFault Header d [] o) (keyOf d o) ≡ key.Whole k → subkeyIn d o n ≡ subkeyBelow d o k n
   unfolding subkeyIn
-  subkey-none e = rw e
+  subkey-on e = let w = keyed-whole (keyFault Header d [] o) _ e in rw (w .0, w .1)
 
-  pub subkey-is : {c : Offset} → childLook d o n ≡ Found c → subkeyIn d o n ≡ memberWhere (keyFault Header d [] c) (entryOf c (keyOf d c .name))
-  unfolding subkeyIn
-  subkey-is e = rw e
+  module _ (k : Key) where
+    pub subkey-faulty : {f : Flaw} → nthBelow d k n ≡ Faulty f → subkeyBelow d o k n ≡ Refused (refusalOf o f)
+    unfolding subkeyBelow
+    subkey-faulty e = rw e
+
+    pub subkey-none : nthBelow d k n ≡ Missing → subkeyBelow d o k n ≡ NoMore
+    unfolding subkeyBelow
+    subkey-none e = rw e
+
+    pub subkey-is : {c : Offset} → nthBelow d k n ≡ Found c → subkeyBelow d o k n ≡ memberWhere o (keyFault Header d [] c) (entryOf c (keyOf d c .name))
+    unfolding subkeyBelow
+    subkey-is e = rw e
 
   module _ (minor : ℕ) where
-    pub in-bad : {f : Flaw} → entryLook d o n ≡ Faulty f → valueIn d minor o n ≡ Refused (refusalOf f)
+    pub in-bad : {f : Flaw} → keyed (keyFault Header d [] o) (keyOf d o) ≡ key.Flawed f → valueIn d minor o n ≡ Refused (refusalOf noKey f)
     unfolding valueIn
-    in-bad e = rw e
+    in-bad e = rw (keyed-flawed (keyFault Header d [] o) _ e)
 
-    pub in-none : entryLook d o n ≡ Missing → valueIn d minor o n ≡ NoMore
+    pub in-on : {k : Key} → keyed (keyFault Header d [] o) (keyOf d o) ≡ key.Whole k → valueIn d minor o n ≡ valueBelow d minor o k n
     unfolding valueIn
-    in-none e = rw e
+    in-on e = let w = keyed-whole (keyFault Header d [] o) _ e in rw (w .0, w .1)
 
-    pub in-is : {v : Offset} → entryLook d o n ≡ Found v → valueIn d minor o n ≡ memberWhere (valueFault Header d [] v) (entryOf v (valueOf d minor v .name))
-    unfolding valueIn
-    in-is e = rw e
+    module _ (k : Key) where
+      pub in-faulty : {f : Flaw} → nthOf d k n ≡ Faulty f → valueBelow d minor o k n ≡ Refused (refusalOf o f)
+      unfolding valueBelow
+      in-faulty e = rw e
+
+      pub in-none : nthOf d k n ≡ Missing → valueBelow d minor o k n ≡ NoMore
+      unfolding valueBelow
+      in-none e = rw e
+
+      pub in-is : {v : Offset} → nthOf d k n ≡ Found v
+          → valueBelow d minor o k n ≡ memberWhere o (valueFault Header d [] v) (entryOf v (valueOf d minor v .name))
+      unfolding valueBelow
+      in-is e = rw e
 
 -- in a hive
 module _ (h : List ℕ) (o : Offset) where
   module _ {f : Flaw} (e : baseFault h ≡ Flawed f) where
-    pub subkey-stop : (n : ℕ) → subkeyAnswer h o n ≡ Refused (refusalOf f)
+    pub subkey-stop : (n : ℕ) → subkeyAnswer h o n ≡ Refused (refusalOf noKey f)
     unfolding subkeyAnswer
     subkey-stop n = rw e
 
-    pub value-stop : (n : ℕ) → valueAnswer h o n ≡ Refused (refusalOf f)
+    pub value-stop : (n : ℕ) → valueAnswer h o n ≡ Refused (refusalOf noKey f)
     unfolding valueAnswer
     value-stop n = rw e
 
-    pub info-stop : infoAt h o ≡ found.Refused (refusalOf f)
+    pub info-stop : infoAt h o ≡ found.Refused (refusalOf noKey f)
     unfolding infoAt
-    info-stop = ap (λ (v : Verdict). infoWhere v (infoOf (valueOf (binsData h) (minorOf (sector h)) o))) (stop _ _ e)
+    info-stop = ap (λ (v : Verdict). infoWhere noKey v (infoOf (valueOf (binsData h) (minorOf (sector h)) o))) (stop _ _ e)
 
-    pub facts-stop : factsAnswer h o ≡ facts.Refused (refusalOf f)
+    pub facts-stop : factsAnswer h o ≡ facts.Refused (refusalOf noKey f)
     unfolding factsAnswer
     facts-stop = ap (λ (v : Verdict). factsWhere v (factsOf (binsData h) o)) (stop _ _ e)
 
@@ -256,9 +260,9 @@ module _ (h : List ℕ) (o : Offset) where
     value-in n = rw e
 
     pub info-in : infoAt h o
-        ≡ infoWhere (wholeValueFault Header (binsData h) [] (minorOf (sector h)) o) (infoOf (valueOf (binsData h) (minorOf (sector h)) o))
+        ≡ infoWhere noKey (wholeValueFault Header (binsData h) [] (minorOf (sector h)) o) (infoOf (valueOf (binsData h) (minorOf (sector h)) o))
     unfolding infoAt
-    info-in = ap (λ (v : Verdict). infoWhere v (infoOf (valueOf (binsData h) (minorOf (sector h)) o))) (on _ _ e)
+    info-in = ap (λ (v : Verdict). infoWhere noKey v (infoOf (valueOf (binsData h) (minorOf (sector h)) o))) (on _ _ e)
 
     pub facts-in : factsAnswer h o ≡ factsWhere (keyFault Header (binsData h) [] o) (factsOf (binsData h) o)
     unfolding factsAnswer
@@ -272,7 +276,7 @@ module _ (h : List ℕ) (v : Offset) where
   info-told e =
       let d = binsData h in
       let minor = minorOf (sector h) in
-      let w = where-at (baseFault h next wholeValueFault Header d [] minor v) (infoOf (valueOf d minor v)) e in
+      let w = where-at noKey (baseFault h next wholeValueFault Header d [] minor v) (infoOf (valueOf d minor v)) e in
       let b = both (baseFault h) _ (w .0) in
       let x = both (valueFault Header d [] v) _ (b .1) in
       (b .0, rw (← w .1) (lies Header d [] minor v (x .0) Header [] (x .1)), rw (← w .1))
@@ -288,7 +292,7 @@ module _ (h : List ℕ) (v : Offset) where
       out-stop = rw e
 
     module _ {i : Info} (e : infoAt h v ≡ found.At i) where
-      pub copy-on : copyAt h v (length out) ≡ copiedTo (length out) (found.At i)
+      pub copy-on : copyAt h v (length out) ≡ copiedTo noKey (length out) (found.At i)
       unfolding copyAt
       copy-on = rw e
 

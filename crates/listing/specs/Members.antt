@@ -1,6 +1,6 @@
 -- What a key holds, one by one, for a host that lists it. The tests are lookup's, in its order: 1 to 7; the key's own record; its list's head; "one leaf of
 -- an `ri` at a time", each tested when it is reached, up to the one that has the element; then the element's own record. Each is tested "only for 11
--- and 12 (not order, hash, parent or total)". h is the hive, d its bins data, o the key's offset, n counts from 0.
+-- and 12 (not order, hash, parent or total)". Once the given key's own record is accepted, it is the key under examination. h is the hive, d its bins data, o the key's offset, n counts from 0.
 use Prim.Native.Nat.{ℕ, _-_}
 use mathlib.Core.Bool.{cond}
 use mathlib.Core.List.{List, [], _∷_}
@@ -10,7 +10,7 @@ use Rattle.fields.specs.declared.Offset.{Offset}
 use Rattle.fields.specs.declared.Verdict.{Verdict}
 use Rattle.fields.specs.declared.Verdict.the-variants.{Sound, Flawed}
 use Rattle.fields.specs.Number.{u64At}
-use Rattle.fields.specs.Faults.{nowhere, refusalOf, _next_}
+use Rattle.fields.specs.Faults.{nowhere, noKey, refusalOf, _next_}
 use Rattle.base.specs.Block.{sector, minorOf, binsData, baseFault}
 use Rattle.cells.specs.declared.Rule.the-variants.{Header}
 use Rattle.cells.specs.Named.{dataAt, partPlace}
@@ -38,20 +38,21 @@ use Rattle.listing.specs.declared.Member.the-variants.{At, NoMore, Refus
 unfoldable pub entryOf : Offset → Name → Entry
 entryOf o n = record { at = o; name = partPlace (n .cell) (n .at) (n .len); len = n .len; narrow = n .narrow }
 
-abbrev pub memberWhere : Verdict → Entry → Member
-memberWhere Sound e = At e
-memberWhere (Flawed f) e = Refused (refusalOf f)
+-- what a key lists, where it passes its tests
+abbrev pub memberWhere : Offset → Verdict → Entry → Member
+memberWhere k Sound e = At e
+memberWhere k (Flawed f) e = Refused (refusalOf k f)
 
--- what is named, past the end "no more", or the fault on the way
-abbrev pub memberOf : Look → (Offset → Member) → Member
-memberOf (Found o) go = go o
-memberOf Missing go = NoMore
-memberOf (Faulty f) go = Refused (refusalOf f)
+-- what is named below a key, past the end "no more", or the fault on the way
+abbrev pub memberOf : Offset → Look → (Offset → Member) → Member
+memberOf k (Found o) go = go o
+memberOf k Missing go = NoMore
+memberOf k (Faulty f) go = Refused (refusalOf k f)
 
--- a hive's own tests, 1 to 7, then what follows them
+-- tests that are made before the key is accepted, a hive's own 1 to 7 and that of the key's record, then what follows them
 abbrev pub inHive : Verdict → Member → Member
 inHive Sound a = a
-inHive (Flawed f) a = Refused (refusalOf f)
+inHive (Flawed f) a = Refused (refusalOf noKey f)
 
 -- element n of the elements of some leaves: in the first leaf if that has so many, else the rest are counted from its end on
 unfoldable pub nthIn : List ℕ → List Offset → ℕ → Look
@@ -64,11 +65,11 @@ nthIn d (l ∷ ls) n =
 unfoldable pub nthBelow : List ℕ → Key → ℕ → Look
 nthBelow d k n = cond (eqb (k .subkeys) 0) Missing (onSound (headFault Header d [] (k .list)) (nthIn d (leavesOf d (k .list)) n))
 
-unfoldable pub childLook : List ℕ → Offset → ℕ → Look
-childLook d o n = onSound (keyFault Header d [] o) (nthBelow d (keyOf d o) n)
+unfoldable pub subkeyBelow : List ℕ → Offset → Key → ℕ → Member
+subkeyBelow d o k n = memberOf o (nthBelow d k n) (λ c. memberWhere o (keyFault Header d [] c) (entryOf c (keyOf d c .name)))
 
 unfoldable pub subkeyIn : List ℕ → Offset → ℕ → Member
-subkeyIn d o n = memberOf (childLook d o n) (λ c. memberWhere (keyFault Header d [] c) (entryOf c (keyOf d c .name)))
+subkeyIn d o n = inHive (keyFault Header d [] o) (subkeyBelow d o (keyOf d o) n)
 
 -- nth_subkey
 unfoldable pub subkeyAnswer : List ℕ → Offset → ℕ → Member
@@ -78,26 +79,26 @@ subkeyAnswer h o n = inHive (baseFault h) (subkeyIn (binsData h) o n)
 unfoldable pub nthOf : List ℕ → Key → ℕ → Look
 nthOf d k n = onSound (valueListFault Header d [] k) (cond (leb (length (valuesOf d k)) n) Missing (Found (getD (valuesOf d k) n nowhere)))
 
-unfoldable pub entryLook : List ℕ → Offset → ℕ → Look
-entryLook d o n = onSound (keyFault Header d [] o) (nthOf d (keyOf d o) n)
+unfoldable pub valueBelow : List ℕ → ℕ → Offset → Key → ℕ → Member
+valueBelow d minor o k n = memberOf o (nthOf d k n) (λ v. memberWhere o (valueFault Header d [] v) (entryOf v (valueOf d minor v .name)))
 
 unfoldable pub valueIn : List ℕ → ℕ → Offset → ℕ → Member
-valueIn d minor o n = memberOf (entryLook d o n) (λ v. memberWhere (valueFault Header d [] v) (entryOf v (valueOf d minor v .name)))
+valueIn d minor o n = inHive (keyFault Header d [] o) (valueBelow d minor o (keyOf d o) n)
 
 -- nth_value
 unfoldable pub valueAnswer : List ℕ → Offset → ℕ → Member
 valueAnswer h o n = inHive (baseFault h) (valueIn (binsData h) (minorOf (sector h)) o n)
 
--- info_at: as `value_info` answers for the value that it finds
+-- info_at: as `value_info` answers for the value that it finds; no key is asked, and lists may be shared, so none is named
 unfoldable pub infoAt : List ℕ → Offset → ValueFound
 infoAt h v =
     let d = binsData h in
     let minor = minorOf (sector h) in
-    infoWhere (baseFault h next wholeValueFault Header d [] minor v) (infoOf (valueOf d minor v))
+    infoWhere noKey (baseFault h next wholeValueFault Header d [] minor v) (infoOf (valueOf d minor v))
 
 -- copy_at: as `value_copy` copies the value that it finds
 unfoldable pub copyAt : List ℕ → Offset → ℕ → Copied
-copyAt h v n = copiedTo n (infoAt h v)
+copyAt h v n = copiedTo noKey n (infoAt h v)
 
 -- the output afterwards
 unfoldable pub outAt : List ℕ → Offset → List ℕ → List ℕ
@@ -111,7 +112,7 @@ factsOf d o =
 
 abbrev pub factsWhere : Verdict → Facts → KeyFacts
 factsWhere Sound k = facts.At k
-factsWhere (Flawed f) k = facts.Refused (refusalOf f)
+factsWhere (Flawed f) k = facts.Refused (refusalOf noKey f)
 
 -- key_facts: 1 to 7, then the key's own 11 or 12
 unfoldable pub factsAnswer : List ℕ → Offset → KeyFacts

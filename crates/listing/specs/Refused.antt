@@ -1,12 +1,12 @@
--- What a refusal of the listing calls says: the table's rows 1 to 7, 11, 12 and, of a copy, 20, each with its reason. They take a record by its offset, read it, and then
--- what it names. h is the hive.
+-- What a refusal of the listing calls says: the table's rows 1 to 7, 11, 12 and, of a copy, 20, each with its reason, and the key under examination. They
+-- take a record by its offset, read it, and then what it names. h is the hive.
 use Prim.Native.Nat.{ℕ, _<_}
 use mathlib.Core.Path.{_≡_}
 use mathlib.Core.List.{List}
 use Rattle.fields.specs.declared.Fault.the-variants.{OutputShort}
 use Rattle.fields.specs.declared.Flaw.{Flaw}
 use Rattle.fields.specs.declared.Offset.{Offset}
-use Rattle.fields.specs.Faults.{flaw, nowhere}
+use Rattle.fields.specs.Faults.{flaw, nowhere, noKey}
 use Rattle.base.specs.Block.{sector, minorOf, binsData}
 use Rattle.base.specs.Refused.{OfBase}
 use Rattle.cells.specs.declared.Rule.the-variants.{Header}
@@ -16,22 +16,23 @@ use Rattle.lookup.specs.declared.Info.{Info}
 use Rattle.lookup.specs.declared.ValueFound.the-variants.{At as ValueAt}
 use Rattle.listing.specs.Members.{infoAt}
 
-pub data OfRecord (h : List ℕ) (w : Role) (o : Offset) (named : Role → Offset → Type 0) : Flaw → Type 0 where
-  of-base : {f : Flaw} → OfBase h f → OfRecord h w o named f
+-- the key under examination, and the flaw: once the record is accepted that key is `key`
+pub data OfRecord (h : List ℕ) (w : Role) (o : Offset) (named : Role → Offset → Type 0) (key : Offset) : Offset → Flaw → Type 0 where
+  of-base : {f : Flaw} → OfBase h f → OfRecord h w o named key noKey f
   -- 11 and 12: the record at that offset, and what it names
-  of-record : {f : Flaw} → Unfit Header (binsData h) w o f → OfRecord h w o named f
-  of-named : {f : Flaw} → Fit Header (binsData h) w o → Among Header (binsData h) named f → OfRecord h w o named f
+  of-record : {f : Flaw} → Unfit Header (binsData h) w o f → OfRecord h w o named key noKey f
+  of-named : {f : Flaw} → Fit Header (binsData h) w o → Among Header (binsData h) named f → OfRecord h w o named key key f
 
--- nth_subkey and nth_value of the key at an offset
-abbrev pub OfSubkey : List ℕ → Offset → Flaw → Type 0
-OfSubkey h k = OfRecord h a-key k (Lists Header (binsData h) k)
+-- nth_subkey and nth_value of the key at an offset, which is then the key under examination
+abbrev pub OfSubkey : List ℕ → Offset → Offset → Flaw → Type 0
+OfSubkey h k = OfRecord h a-key k (Lists Header (binsData h) k) k
 
-abbrev pub OfNth : List ℕ → Offset → Flaw → Type 0
-OfNth h k = OfRecord h a-key k (Values Header (binsData h) k)
+abbrev pub OfNth : List ℕ → Offset → Offset → Flaw → Type 0
+OfNth h k = OfRecord h a-key k (Values Header (binsData h) k) k
 
--- info_at of the value at an offset
+-- info_at of the value at an offset: no key is asked, and none is named
 abbrev pub OfInfo : List ℕ → Offset → Flaw → Type 0
-OfInfo h v = OfRecord h a-value v (Data Header (binsData h) (dataIn (binsData h) (minorOf (sector h)) v))
+OfInfo h v = OfRecord h a-value v (Data Header (binsData h) (dataIn (binsData h) (minorOf (sector h)) v)) noKey noKey
 
 -- copy_at of the value at an offset, to an output of so many bytes
 pub data OfCopied (h : List ℕ) (v : Offset) (room : ℕ) : Flaw → Type 0 where
@@ -41,4 +42,4 @@ pub data OfCopied (h : List ℕ) (v : Offset) (room : ℕ) : Flaw → Type 0 whe
 
 -- key_facts of the key at an offset: what it names is not read
 abbrev pub OfFacts : List ℕ → Offset → Flaw → Type 0
-OfFacts h k = OfRecord h a-key k (λ w o. ⊥)
+OfFacts h k = OfRecord h a-key k (λ w o. ⊥) noKey noKey

@@ -28,7 +28,7 @@ ghost use Rattle.cells.specs.Named.{dataAt};
 ghost use Rattle.records.specs.Keys.{keyFault, keyOf};
 ghost use Rattle.records.specs.Steps.{LeavesLie, leavesNamed};
 ghost use Rattle.values.specs.Records.{valueFault, valueOf};
-ghost use Rattle.listing.specs.Members.{entryOf, memberWhere, nthIn, nthBelow, childLook, subkeyIn, subkeyAnswer, nthOf, entryLook, valueIn, valueAnswer, infoAt, copyAt, outAt, factsOf, factsWhere, factsAnswer};
+ghost use Rattle.listing.specs.Members.{entryOf, memberWhere, nthIn, nthBelow, subkeyBelow, subkeyIn, subkeyAnswer, nthOf, valueBelow, valueIn, valueAnswer, infoAt, copyAt, outAt, factsOf, factsWhere, factsAnswer};
 
 // A key or a value that a list names, and where its name stands in the file: `len` bytes from `name` on, one for each character if narrow, else UTF-16LE.
 pub struct Entry {
@@ -56,12 +56,12 @@ fn entry_of(o: Offset, n: Name) -> Entry
     }
 }
 
-// A key by its offset.
-fn key_entry(bins: &[u8], o: Offset) -> Member
-    ensures { λ r. ⌜ r ≡ memberWhere (keyFault Header (now (bins .entry)) [] o) (entryOf o (keyOf (now (bins .entry)) o .name)) ⌝ }
+// A key by its offset, which another lists.
+fn key_entry(bins: &[u8], key: Offset, o: Offset) -> Member
+    ensures { λ r. ⌜ r ≡ memberWhere key (keyFault Header (now (bins .entry)) [] o) (entryOf o (keyOf (now (bins .entry)) o .name)) ⌝ }
 {
     match records::key_at(bins, b"", Rule::Header, o) {
-        Keyed::Flawed(f) => Member::Refused(fields::refused(f)),
+        Keyed::Flawed(f) => Member::Refused(fields::refused(key, f)),
         Keyed::Whole(k) => {
             let name = k.name;
             Member::At(entry_of(o, name))
@@ -112,22 +112,23 @@ fn nth_below(bins: &[u8], k: Key, n: usize) -> Look
     }
 }
 
-fn child_look(bins: &[u8], key: Offset, n: usize) -> Look
-    ensures { λ r. ⌜ r ≡ childLook (now (bins .entry)) key n ⌝ }
+// Past the key's own record all is tested on its behalf.
+fn subkey_below(bins: &[u8], key: Offset, k: Key, n: usize) -> Member
+    ensures { λ r. ⌜ r ≡ subkeyBelow (now (bins .entry)) key k n ⌝ }
 {
-    match records::key_at(bins, b"", Rule::Header, key) {
-        Keyed::Flawed(f) => Look::Faulty(f),
-        Keyed::Whole(k) => nth_below(bins, k, n),
+    match nth_below(bins, k, n) {
+        Look::Faulty(f) => Member::Refused(fields::refused(key, f)),
+        Look::Missing => Member::NoMore,
+        Look::Found(c) => key_entry(bins, key, c),
     }
 }
 
 fn subkey_in(bins: &[u8], key: Offset, n: usize) -> Member
     ensures { λ r. ⌜ r ≡ subkeyIn (now (bins .entry)) key n ⌝ }
 {
-    match child_look(bins, key, n) {
-        Look::Faulty(f) => Member::Refused(fields::refused(f)),
-        Look::Missing => Member::NoMore,
-        Look::Found(c) => key_entry(bins, c),
+    match records::key_at(bins, b"", Rule::Header, key) {
+        Keyed::Flawed(f) => Member::Refused(fields::refused(Offset(fields::NO_KEY), f)),
+        Keyed::Whole(k) => subkey_below(bins, key, k, n),
     }
 }
 
@@ -136,17 +137,17 @@ pub fn nth_subkey(hive: &[u8], key: Offset, n: usize) -> Member
     ensures { λ r. ⌜ r ≡ subkeyAnswer (now (hive .entry)) key n ⌝ }
 {
     match base::base_flaw(hive) {
-        Verdict::Flawed(f) => Member::Refused(fields::refused(f)),
+        Verdict::Flawed(f) => Member::Refused(fields::refused(Offset(fields::NO_KEY), f)),
         Verdict::Sound => subkey_in(base::bins_of(hive), key, n),
     }
 }
 
-// A value by its offset.
-fn value_entry(bins: &[u8], minor: u32, v: Offset) -> Member
-    ensures { λ r. ⌜ r ≡ memberWhere (valueFault Header (now (bins .entry)) [] v) (entryOf v (valueOf (now (bins .entry)) minor v .name)) ⌝ }
+// A value by its offset, which a key lists.
+fn value_entry(bins: &[u8], minor: u32, key: Offset, v: Offset) -> Member
+    ensures { λ r. ⌜ r ≡ memberWhere key (valueFault Header (now (bins .entry)) [] v) (entryOf v (valueOf (now (bins .entry)) minor v .name)) ⌝ }
 {
     match values::value_at(bins, b"", Rule::Header, minor, v) {
-        Valued::Flawed(f) => Member::Refused(fields::refused(f)),
+        Valued::Flawed(f) => Member::Refused(fields::refused(key, f)),
         Valued::Whole(x) => {
             let name = x.name;
             Member::At(entry_of(v, name))
@@ -169,22 +170,22 @@ fn nth_of(bins: &[u8], k: Key, n: usize) -> Look
     }
 }
 
-fn entry_look(bins: &[u8], key: Offset, n: usize) -> Look
-    ensures { λ r. ⌜ r ≡ entryLook (now (bins .entry)) key n ⌝ }
+fn value_below(bins: &[u8], minor: u32, key: Offset, k: Key, n: usize) -> Member
+    ensures { λ r. ⌜ r ≡ valueBelow (now (bins .entry)) minor key k n ⌝ }
 {
-    match records::key_at(bins, b"", Rule::Header, key) {
-        Keyed::Flawed(f) => Look::Faulty(f),
-        Keyed::Whole(k) => nth_of(bins, k, n),
+    match nth_of(bins, k, n) {
+        Look::Faulty(f) => Member::Refused(fields::refused(key, f)),
+        Look::Missing => Member::NoMore,
+        Look::Found(v) => value_entry(bins, minor, key, v),
     }
 }
 
 fn value_in(bins: &[u8], minor: u32, key: Offset, n: usize) -> Member
     ensures { λ r. ⌜ r ≡ valueIn (now (bins .entry)) minor key n ⌝ }
 {
-    match entry_look(bins, key, n) {
-        Look::Faulty(f) => Member::Refused(fields::refused(f)),
-        Look::Missing => Member::NoMore,
-        Look::Found(v) => value_entry(bins, minor, v),
+    match records::key_at(bins, b"", Rule::Header, key) {
+        Keyed::Flawed(f) => Member::Refused(fields::refused(Offset(fields::NO_KEY), f)),
+        Keyed::Whole(k) => value_below(bins, minor, key, k, n),
     }
 }
 
@@ -193,18 +194,23 @@ pub fn nth_value(hive: &[u8], key: Offset, n: usize) -> Member
     ensures { λ r. ⌜ r ≡ valueAnswer (now (hive .entry)) key n ⌝ }
 {
     match base::base_flaw(hive) {
-        Verdict::Flawed(f) => Member::Refused(fields::refused(f)),
+        Verdict::Flawed(f) => Member::Refused(fields::refused(Offset(fields::NO_KEY), f)),
         Verdict::Sound => value_in(base::bins_of(hive), base::minor_of(hive), key, n),
     }
 }
 
-// The facts of the value at an offset, for all three cases of data.
+// The facts of the value at an offset, for all three cases of data. No key is asked, so none is under examination.
 pub fn info_at(hive: &[u8], v: Offset) -> ValueFound
     ensures { λ r. ⌜ r ≡ infoAt (now (hive .entry)) v ⌝ }
 {
     match base::base_flaw(hive) {
-        Verdict::Flawed(f) => ValueFound::Refused(fields::refused(f)),
-        Verdict::Sound => lookup::whole_info(base::bins_of(hive), base::minor_of(hive), v),
+        Verdict::Flawed(f) => ValueFound::Refused(fields::refused(Offset(fields::NO_KEY), f)),
+        Verdict::Sound => lookup::whole_info(
+            base::bins_of(hive),
+            base::minor_of(hive),
+            Offset(fields::NO_KEY),
+            v,
+        ),
     }
 }
 
@@ -215,7 +221,7 @@ pub fn copy_at(hive: &[u8], v: Offset, out: &mut [u8]) -> Copied
 {
     match info_at(hive, v) {
         ValueFound::Refused(f) => Copied::Refused(f),
-        ValueFound::At(i) => lookup::copy_info(hive, i, out),
+        ValueFound::At(i) => lookup::copy_info(hive, Offset(fields::NO_KEY), i, out),
     }
 }
 
@@ -245,7 +251,7 @@ fn facts_in(bins: &[u8], o: Offset) -> KeyFacts
     ensures { λ r. ⌜ r ≡ factsWhere (keyFault Header (now (bins .entry)) [] o) (factsOf (now (bins .entry)) o) ⌝ }
 {
     match records::key_at(bins, b"", Rule::Header, o) {
-        Keyed::Flawed(f) => KeyFacts::Refused(fields::refused(f)),
+        Keyed::Flawed(f) => KeyFacts::Refused(fields::refused(Offset(fields::NO_KEY), f)),
         Keyed::Whole(k) => {
             let name = k.name;
             let parent = k.parent;
@@ -265,7 +271,7 @@ pub fn key_facts(hive: &[u8], key: Offset) -> KeyFacts
     ensures { λ r. ⌜ r ≡ factsAnswer (now (hive .entry)) key ⌝ }
 {
     match base::base_flaw(hive) {
-        Verdict::Flawed(f) => KeyFacts::Refused(fields::refused(f)),
+        Verdict::Flawed(f) => KeyFacts::Refused(fields::refused(Offset(fields::NO_KEY), f)),
         Verdict::Sound => facts_in(base::bins_of(hive), key),
     }
 }

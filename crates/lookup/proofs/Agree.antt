@@ -16,16 +16,17 @@ use Rattle.values.specs.declared.ValueData.{ValueData}
 use Rattle.values.specs.declared.ValueData.the-variants.{Segments}
 use Rattle.values.specs.Segments.{segmentsOf, joinedBytes, bytesOf}
 use Rattle.values.proofs.LawsData.{bytes-length}
+use Rattle.paths.specs.Answers.{findAnswer}
 use Rattle.lookup.specs.declared.Copied.the-variants.{Done, Refused as Uncopied}
 use Rattle.lookup.specs.declared.Info.{Info}
 use Rattle.lookup.specs.declared.ValueFound.{ValueFound}
 use Rattle.lookup.specs.declared.ValueFound.the-variants.{At, Refused}
-use Rattle.lookup.specs.Answers.{infoAnswer, viewAnswer, viewBytes, copiedTo, copyAnswer, copyOut}
+use Rattle.lookup.specs.Answers.{infoAnswer, viewAnswer, viewBytes, copiedTo, keyAsked, copyAnswer, copyOut}
 use Rattle.lookup.proofs.Answered.{info-answered, view-answered, view-shown, view-part, copy-written, view-info-same, refused-stays}
 
 -- what a copy that is done says
-done-is : (n : ℕ) (i : Info) {k : ℕ} → copiedTo n (At i) ≡ Done k → (i .len ≤ n) × (i .len ≡ k)
-done-is n i {k} e = by (leb (i .len) n) refl
+done-is : (key : Offset) (n : ℕ) (i : Info) {k : ℕ} → copiedTo key n (At i) ≡ Done k → (i .len ≤ n) × (i .len ≡ k)
+done-is key n i {k} e = by (leb (i .len) n) refl
   where
     by : (t : Bool) → leb (i .len) n ≡ t → (i .len ≤ n) × (i .len ≡ k)
     by true q = (leb-true (i .len) n q, let s = rw q at e in let p : i .len ≡ k = cc in p)
@@ -52,7 +53,7 @@ module _ (h us x out : List ℕ) where
       by : (a : ValueFound) → infoAnswer h us x ≡ a → Written n
       by (Refused f) q = absurd (let s = rw q at e in let z : _≡_ {A = ℕ} 0 1 = cc in omega arith)
       by (At i) q =
-          let d = done-is (length out) i (rw q at e) in
+          let d = done-is (keyAsked (findAnswer h us)) (length out) i (rw q at e) in
           let a = info-answered h us x q in
           record {
             info = i;
@@ -85,7 +86,7 @@ module _ (h us x out : List ℕ) where
   -- a refusal changes nothing
   pub refused-untouched : {f : Refusal} → copyAnswer h us x (length out) ≡ Uncopied f → copyOut h us x out ≡ out
   unfolding copyAnswer copyOut
-  refused-untouched = refused-stays (binsData h) out (infoAnswer h us x)
+  refused-untouched = refused-stays (keyAsked (findAnswer h us)) (binsData h) out (infoAnswer h us x)
 
   -- view and copy agree: where the view answers, a copy with room for it writes the view's bytes
   module _ {i : Info} (e : viewAnswer h us x ≡ At i) where

@@ -25,28 +25,33 @@ use Rattle.values.specs.Parts.{partOf}
 use Rattle.values.specs.Steps.{Lies}
 use Rattle.values.proofs.LawsData.{isOne, part-whole, part-lies}
 use Rattle.values.proofs.LawsValues.{lies as data-lies}
-use Rattle.paths.specs.declared.Look.{Look}
-use Rattle.paths.specs.declared.Look.the-variants.{Found, Missing, Faulty}
+use Rattle.paths.specs.declared.KeyFound.the-variants as found
+use Rattle.paths.specs.Answers.{findAnswer}
+use Rattle.paths.proofs.Opens.{find-at}
 use Rattle.lookup.specs.declared.Copied.the-variants.{Done, Refused as Uncopied}
 use Rattle.lookup.specs.declared.Info.{Info}
+use Rattle.lookup.specs.declared.Spot.{Spot}
+use Rattle.lookup.specs.declared.Spot.the-variants.{Found, Missing, Faulty}
 use Rattle.lookup.specs.declared.ValueFound.{ValueFound}
 use Rattle.lookup.specs.declared.ValueFound.the-variants.{At, Refused}
-use Rattle.lookup.specs.Answers.{valueLook, placeIn, infoOf, viewFault, infoWhere, valueFound, infoAnswer, viewAnswer, viewStart, viewBytes, copiedTo, copyAnswer, written, copyOut}
-use Rattle.lookup.proofs.Value_searches.{value-facts}
+use Rattle.lookup.specs.Answers.{valueLook, placeIn, infoOf, viewFault, infoWhere, valueFound, infoAnswer, viewAnswer, viewStart, viewBytes, copiedTo, keyAsked, copyAnswer, written, copyOut}
+use Rattle.lookup.proofs.Value_searches.{value-key, value-facts}
 
-pub where-at : (v : Verdict) (i : Info) {j : Info} → infoWhere v i ≡ At j → (v ≡ Sound) × (i ≡ j)
-where-at Sound i e = (refl, cc)
-where-at (Flawed f) i e = absurd (let z : _≡_ {A = ℕ} 0 1 = cc in omega arith)
+pub where-at : (k : Offset) (v : Verdict) (i : Info) {j : Info} → infoWhere k v i ≡ At j → (v ≡ Sound) × (i ≡ j)
+where-at k Sound i e = (refl, cc)
+where-at k (Flawed f) i e = absurd (let z : _≡_ {A = ℕ} 0 1 = cc in omega arith)
 
-found-at : (l : Look) (go : Offset → ValueFound) {i : Info} → valueFound l go ≡ At i → (v : Offset) × (l ≡ Found v) × (go v ≡ At i)
-found-at (Found v) go e = (v, refl, e)
-found-at Missing go e = absurd (let z : _≡_ {A = ℕ} 0 1 = cc in omega arith)
+found-at : (l : Spot) (go : Offset → Offset → ValueFound) {i : Info} → valueFound l go ≡ At i
+    → (k : Offset) × (v : Offset) × (l ≡ Found k v) × (go k v ≡ At i)
+found-at (Found k v) go e = (k, v, refl, e)
+found-at (Missing k) go e = absurd (let z : _≡_ {A = ℕ} 0 1 = cc in omega arith)
 found-at (Faulty f) go e = absurd (let z : _≡_ {A = ℕ} 0 1 = cc in omega arith)
 
 -- the value behind an answer
 pub record Answered (h us x : List ℕ) (i : Info) : Type 0 where
+  pub key : Offset
   pub value : Offset
-  pub found : valueLook h us x ≡ Found value
+  pub found : valueLook h us x ≡ Found key value
   pub info : i ≡ infoOf (valueOf (binsData h) (minorOf (sector h)) value)
   pub content : i .content ≡ dataIn (binsData h) (minorOf (sector h)) value
   pub base : baseFault h ≡ Sound
@@ -58,13 +63,14 @@ pub content-as : (d : List ℕ) (minor : ℕ) (i : Info) (v : Offset) → infoOf
 unfolding infoOf valueOf fieldsOf dataIn
 content-as d minor i v q = sym (ap (λ (j : Info). j .content) q)
 
-answered-as : (h us x : List ℕ) (i : Info) (v : Offset) → valueLook h us x ≡ Found v
+answered-as : (h us x : List ℕ) (i : Info) (k v : Offset) → valueLook h us x ≡ Found k v
     → dataFault Header (binsData h) [] (dataIn (binsData h) (minorOf (sector h)) v) ≡ Sound
     → infoOf (valueOf (binsData h) (minorOf (sector h)) v) ≡ i → Answered h us x i
 unfolding infoOf valueOf fieldsOf dataIn
-answered-as h us x i v e s q =
+answered-as h us x i k v e s q =
     let f = value-facts h us x e in
     record {
+      key = k;
       value = v;
       found = e;
       info = sym q;
@@ -86,18 +92,18 @@ module _ (h us x : List ℕ) {i : Info} where
   unfolding infoAnswer
   info-answered e =
       let f = found-at (valueLook h us x) _ e in
-      let w = where-at (dataFault Header (binsData h) [] (dataIn (binsData h) (minorOf (sector h)) (f .0))) _ (f .2) in
-      answered-as h us x i (f .0) (f .1) (w .0) (w .1)
+      let w = where-at (f .0) (dataFault Header (binsData h) [] (dataIn (binsData h) (minorOf (sector h)) (f .1))) _ (f .3) in
+      answered-as h us x i (f .0) (f .1) (f .2) (w .0) (w .1)
 
   pub view-answered : viewAnswer h us x ≡ At i → Answered h us x i × (isOne (i .content) ≡ true)
   unfolding viewAnswer
   view-answered e =
       let f = found-at (valueLook h us x) _ e in
-      let y = dataIn (binsData h) (minorOf (sector h)) (f .0) in
-      let w = where-at (viewFault (f .0) y next dataFault Header (binsData h) [] y) _ (f .2) in
-      let b = both (viewFault (f .0) y) _ (w .0) in (
-        answered-as h us x i (f .0) (f .1) (b .1) (w .1),
-        ap isOne (content-as (binsData h) (minorOf (sector h)) i (f .0) (w .1)) ∙ one-case (f .0) y (b .0),
+      let y = dataIn (binsData h) (minorOf (sector h)) (f .1) in
+      let w = where-at (f .0) (viewFault (f .1) y next dataFault Header (binsData h) [] y) _ (f .3) in
+      let b = both (viewFault (f .1) y) _ (w .0) in (
+        answered-as h us x i (f .0) (f .1) (f .2) (b .1) (w .1),
+        ap isOne (content-as (binsData h) (minorOf (sector h)) i (f .1) (w .1)) ∙ one-case (f .1) y (b .0),
       )
 
 -- where the view's sister answers, value_info gives the same facts
@@ -105,9 +111,9 @@ pub view-info-same : (h us x : List ℕ) {i : Info} → viewAnswer h us x ≡ At
 unfolding viewAnswer infoAnswer
 view-info-same h us x e =
     let f = found-at (valueLook h us x) _ e in
-    let y = dataIn (binsData h) (minorOf (sector h)) (f .0) in
-    let w = where-at (viewFault (f .0) y next dataFault Header (binsData h) [] y) _ (f .2) in
-    rw (f .1, both (viewFault (f .0) y) _ (w .0) .1) (ap At (w .1))
+    let y = dataIn (binsData h) (minorOf (sector h)) (f .1) in
+    let w = where-at (f .0) (viewFault (f .1) y next dataFault Header (binsData h) [] y) _ (f .3) in
+    rw (f .2, both (viewFault (f .1) y) _ (w .0) .1) (ap At (w .1))
 
 -- the part of the hive that a view shows
 pub record Shown (h : List ℕ) (i : Info) : Type 0 where
@@ -125,26 +131,26 @@ view-shown h us x i a t =
       bytes = rw (a .place, len) (place-bytes (p .cell) (p .at) (p .len) h (a .base) (w .ends) ∙ sym (w .bytes));
     }
 
--- the ways out of a copy of what was told
-module _ (out : List ℕ) (i : Info) where
+-- the ways out of a copy of what was told, in the examination of a key
+module _ (key : Offset) (out : List ℕ) (i : Info) where
   module _ (p : length out < i .len) where
-    pub told-short : copiedTo (length out) (At i) ≡ Uncopied (refusalOf (flaw OutputShort nowhere))
+    pub told-short : copiedTo key (length out) (At i) ≡ Uncopied (refusalOf key (flaw OutputShort nowhere))
     told-short = rw (lt-leb (i .len) (length out) p)
 
     pub short-stays : (d : List ℕ) → written d out (At i) ≡ out
     short-stays d = rw (lt-leb (i .len) (length out) p)
 
   module _ (p : i .len ≤ length out) where
-    pub told-done : copiedTo (length out) (At i) ≡ Done (i .len)
+    pub told-done : copiedTo key (length out) (At i) ≡ Done (i .len)
     told-done = rw (le-leb (i .len) (length out) p)
 
     pub told-written : (d : List ℕ) → written d out (At i) ≡ bytesOf d (i .content) ++ drop (i .len) out
     told-written d = rw (le-leb (i .len) (length out) p)
 
 -- a refusal changes nothing
-pub refused-stays : (d out : List ℕ) (a : ValueFound) {f : Refusal} → copiedTo (length out) a ≡ Uncopied f → written d out a ≡ out
-refused-stays d out (Refused g) e = refl
-refused-stays d out (At i) e = cut (leb (i .len) (length out)) refl
+pub refused-stays : (k : Offset) (d out : List ℕ) (a : ValueFound) {f : Refusal} → copiedTo k (length out) a ≡ Uncopied f → written d out a ≡ out
+refused-stays k d out (Refused g) e = refl
+refused-stays k d out (At i) e = cut (leb (i .len) (length out)) refl
   where
     cut : (t : Bool) → leb (i .len) (length out) ≡ t → written d out (At i) ≡ out
     cut true p = absurd (let s = rw p at e in let z : _≡_ {A = ℕ} 0 1 = cc in omega arith)
@@ -179,19 +185,25 @@ module _ (h us x : List ℕ) where
       copy-untouched = rw e
 
     module _ {i : Info} (e : infoAnswer h us x ≡ At i) where
-      pub copy-told : copyAnswer h us x (length out) ≡ copiedTo (length out) (At i)
+      pub copy-told : {k : Offset} → findAnswer h us ≡ found.At k → copyAnswer h us x (length out) ≡ copiedTo k (length out) (At i)
       unfolding copyAnswer
-      copy-told = rw e
+      copy-told q = rw (q, e)
 
       pub out-told : copyOut h us x out ≡ written (binsData h) out (At i)
       unfolding copyOut
       out-told = rw e
 
-      pub copy-short : length out < i .len → copyAnswer h us x (length out) ≡ Uncopied (refusalOf (flaw OutputShort nowhere))
-      copy-short p = copy-told ∙ told-short out i p
+      pub copy-short : {k : Offset} → findAnswer h us ≡ found.At k → length out < i .len
+          → copyAnswer h us x (length out) ≡ Uncopied (refusalOf k (flaw OutputShort nowhere))
+      copy-short {k} q p = copy-told q ∙ told-short k out i p
 
       pub copy-done : i .len ≤ length out → copyAnswer h us x (length out) ≡ Done (i .len)
-      copy-done p = copy-told ∙ told-done out i p
+      unfolding copyAnswer
+      copy-done p = rw e (told-done (keyAsked (findAnswer h us)) out i p)
 
       pub copy-written : i .len ≤ length out → copyOut h us x out ≡ bytesOf (binsData h) (i .content) ++ drop (i .len) out
-      copy-written p = out-told ∙ told-written out i p (binsData h)
+      copy-written p = out-told ∙ told-written (keyAsked (findAnswer h us)) out i p (binsData h)
+
+  -- the key of the value that is found
+  pub found-key : {k v : Offset} → valueLook h us x ≡ Found k v → findAnswer h us ≡ found.At k
+  found-key e = find-at h us (value-key h us x e .0)

@@ -26,18 +26,19 @@ use Rattle.values.specs.Lists.{valuesOf}
 use Rattle.tree.specs.Tree.{levels, hiveOf}
 use Rattle.tree.specs.WellFormed.{CleanAndWellFormed, ValuesStand}
 use Rattle.paths.specs.declared.KeyFound.the-variants.{At}
-use Rattle.paths.specs.declared.Look.the-variants.{Found}
+use Rattle.paths.specs.declared.Way.the-variants as way
 use Rattle.paths.specs.Paths.{partsOf}
 use Rattle.paths.specs.Answers.{keyLook, findAnswer}
 use Rattle.paths.proofs.Exact.{find-exactly, found-look-is}
 use Rattle.paths.proofs.In_accepted.{holds-stands}
 use Rattle.lookup.specs.declared.Copied.the-variants.{Done, Refused as Uncopied}
 use Rattle.lookup.specs.declared.Info.{Info}
+use Rattle.lookup.specs.declared.Spot.the-variants.{Found}
 use Rattle.lookup.specs.declared.ValueFound.the-variants.{At as ValueAt, Refused as Unvalued}
-use Rattle.lookup.specs.Answers.{valueLook, infoOf, viewFault, infoAnswer, viewAnswer, viewBytes, copyAnswer, copyOut}
+use Rattle.lookup.specs.Answers.{inKey, valueLook, infoOf, viewFault, infoAnswer, viewAnswer, viewBytes, copyAnswer, copyOut}
 use Rattle.lookup.specs.Reach.{FirstNamed, first, later}
 use Rattle.lookup.proofs.ValueFinds.{value-exactly, value-none, data-good}
-use Rattle.lookup.proofs.Value_searches.{value-below}
+use Rattle.lookup.proofs.Value_searches.{in-found, value-below}
 use Rattle.lookup.proofs.Value_answers.{info-missing}
 use Rattle.lookup.proofs.Answered.{content-as, info-answered, copy-short, copy-done, copy-written}
 use Rattle.lookup.proofs.Agree.{view-is}
@@ -57,7 +58,7 @@ unsegmented v (Segments o len) f = absurd (f o len refl)
 module _ (h : List ℕ) (w : CleanAndWellFormed h) (us : List ℕ) where
   -- ---- values of the key that is found
   module _ (o : Offset) (found : findAnswer h us ≡ At o) where
-    at : keyLook h us ≡ Found o
+    at : keyLook h us ≡ way.Found o
     unfolding findAnswer
     at = found-look-is (keyLook h us) found
 
@@ -66,10 +67,10 @@ module _ (h : List ℕ) (w : CleanAndWellFormed h) (us : List ℕ) where
         holds-stands (binsData h) (hiveOf h) levels (hiveOf h .root) o (partsOf us) (w .formed .tree) (find-exactly h w us o .0 found) .values
 
     module _ (x : List ℕ) where
-      look-first : {v : Offset} → FirstNamed (binsData h) (minorOf (sector h)) x (valuesOf (binsData h) (keyOf (binsData h) o)) v → valueLook h us x ≡ Found v
+      look-first : {v : Offset} → FirstNamed (binsData h) (minorOf (sector h)) x (valuesOf (binsData h) (keyOf (binsData h) o)) v → valueLook h us x ≡ Found o v
       look-first {v} f =
           value-below h us x at
-          ∙ value-exactly (binsData h) (w .formed .tiled) (minorOf (sector h)) (keyOf (binsData h) o) stands x v .1 f
+          ∙ ap (inKey o) (value-exactly (binsData h) (w .formed .tiled) (minorOf (sector h)) (keyOf (binsData h) o) stands x v .1 f)
 
       whole : {v : Offset} → FirstNamed (binsData h) (minorOf (sector h)) x (valuesOf (binsData h) (keyOf (binsData h) o)) v
           → dataFault Header (binsData h) [] (dataIn (binsData h) (minorOf (sector h)) v) ≡ Sound
@@ -83,10 +84,10 @@ module _ (h : List ℕ) (w : CleanAndWellFormed h) (us : List ℕ) where
 
       -- and 18 where there is none
       pub info-none : ((v : Offset) → FirstNamed (binsData h) (minorOf (sector h)) x (valuesOf (binsData h) (keyOf (binsData h) o)) v → ⊥)
-          → infoAnswer h us x ≡ Unvalued (refusalOf (flaw NoValue nowhere))
+          → infoAnswer h us x ≡ Unvalued (refusalOf o (flaw NoValue nowhere))
       info-none f =
           info-missing h us x
-          (value-below h us x at ∙ value-none (binsData h) (w .formed .tiled) (minorOf (sector h)) (keyOf (binsData h) o) stands x f)
+          (value-below h us x at ∙ ap (inKey o) (value-none (binsData h) (w .formed .tiled) (minorOf (sector h)) (keyOf (binsData h) o) stands x f))
 
       -- so the answer is the first value of that name, and 18 exactly if there is none: no other refusal can occur
       pub info-says : {i : Info} → infoAnswer h us x ≡ ValueAt i
@@ -96,18 +97,18 @@ module _ (h : List ℕ) (w : CleanAndWellFormed h) (us : List ℕ) where
           let a = info-answered h us x e in (
             a .value,
             value-exactly (binsData h) (w .formed .tiled) (minorOf (sector h)) (keyOf (binsData h) o) stands x (a .value) .0
-                (sym (value-below h us x at) ∙ a .found),
+                (in-found o _ (sym (value-below h us x at) ∙ a .found) .1),
             a .info,
           )
 
       pub info-refused : {f : Refusal} → infoAnswer h us x ≡ Unvalued f
           → ((v : Offset) → FirstNamed (binsData h) (minorOf (sector h)) x (valuesOf (binsData h) (keyOf (binsData h) o)) v → ⊥)
-          × (f ≡ refusalOf (flaw NoValue nowhere))
+          × (f ≡ refusalOf o (flaw NoValue nowhere))
       info-refused {f} e =
           let none : (v : Offset) → FirstNamed (binsData h) (minorOf (sector h)) x (valuesOf (binsData h) (keyOf (binsData h) o)) v → ⊥ =
           λ v g. let q = sym (info-first g) ∙ e in let z : _≡_ {A = ℕ} 0 1 = cc in omega arith in
           let q = sym (info-none none) ∙ e in
-          (none, let z : refusalOf (flaw NoValue nowhere) ≡ f = cc in sym z)
+          (none, let z : refusalOf o (flaw NoValue nowhere) ≡ f = cc in sym z)
 
       -- ---- the bytes of the first value of that name
       module _ (v : Offset) (named : FirstNamed (binsData h) (minorOf (sector h)) x (valuesOf (binsData h) (keyOf (binsData h) o)) v) where
@@ -143,7 +144,7 @@ module _ (h : List ℕ) (w : CleanAndWellFormed h) (us : List ℕ) where
 
         -- in segments: 19 at the value
         pub segments-unviewed : (a : Offset) (n : ℕ) → dataIn (binsData h) (minorOf (sector h)) v ≡ Segments a n
-            → (viewAnswer h us x ≡ Unvalued (refusalOf (flaw Segmented v))) × (viewBytes h us x ≡ [])
+            → (viewAnswer h us x ≡ Unvalued (refusalOf o (flaw Segmented v))) × (viewBytes h us x ≡ [])
         unfolding viewAnswer viewBytes viewFault _next_
         segments-unviewed a n e = (rw (look-first named, e), rw (look-first named, e))
 
@@ -157,9 +158,9 @@ module _ (h : List ℕ) (w : CleanAndWellFormed h) (us : List ℕ) where
         copy-says out p = copy-done h us x out (info-first named) (rw (← content) at p) ∙ ap (λ (y : ValueData). Done (lengthOf y)) content
 
         pub copy-20 : (out : List ℕ) → length out < lengthOf (dataIn (binsData h) (minorOf (sector h)) v)
-            → copyAnswer h us x (length out) ≡ Uncopied (refusalOf (flaw OutputShort nowhere))
+            → copyAnswer h us x (length out) ≡ Uncopied (refusalOf o (flaw OutputShort nowhere))
         unfolding infoOf
-        copy-20 out p = copy-short h us x out (info-first named) (rw (← content) at p)
+        copy-20 out p = copy-short h us x out (info-first named) found (rw (← content) at p)
 
         pub copied : (out : List ℕ) → lengthOf (dataIn (binsData h) (minorOf (sector h)) v) ≤ length out
             → copyOut h us x out

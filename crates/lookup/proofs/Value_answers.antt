@@ -5,6 +5,7 @@ use mathlib.Core.List.{List, []}
 use Rattle.fields.specs.declared.Fault.the-variants.{NoValue}
 use Rattle.fields.specs.declared.Flaw.{Flaw}
 use Rattle.fields.specs.declared.Offset.{Offset}
+use Rattle.fields.specs.declared.Refusal.{Refusal}
 use Rattle.fields.specs.declared.Verdict.{Verdict}
 use Rattle.fields.specs.declared.Verdict.the-variants.{Sound, Flawed}
 use Rattle.fields.specs.Faults.{flaw, nowhere, refusalOf, _next_}
@@ -17,33 +18,33 @@ use Rattle.values.specs.Records.{valueFault, dataIn, fieldsOf, valueOf, valued}
 use Rattle.values.specs.Segments.{dataFault}
 use Rattle.values.specs.Lists.{wholeValueFault}
 use Rattle.values.proofs.Valued_at.{is-whole, is-flawed, whole-stop, whole-on}
-use Rattle.paths.specs.declared.Look.the-variants.{Found, Missing, Faulty}
 use Rattle.lookup.specs.declared.Info.{Info}
+use Rattle.lookup.specs.declared.Spot.the-variants.{Found, Missing, Faulty}
 use Rattle.lookup.specs.declared.ValueFound.the-variants.{At, Refused}
 use Rattle.lookup.specs.Answers.{valueLook, infoOf, viewFault, viewedFault, infoWhere, infoAnswer, viewAnswer}
 use Rattle.lookup.proofs.Value_searches.{value-facts}
 
 -- a verdict and the answer where it is sound
-pub where-sound : (v : Verdict) (i : Info) → v ≡ Sound → infoWhere v i ≡ At i
-where-sound v i e = rw e
+pub where-sound : (k : Offset) (v : Verdict) (i : Info) → v ≡ Sound → infoWhere k v i ≡ At i
+where-sound k v i e = rw e
 
-pub where-flawed : (v : Verdict) (i : Info) {f : Flaw} → v ≡ Flawed f → infoWhere v i ≡ Refused (refusalOf f)
-where-flawed v i e = rw e
+pub where-flawed : (k : Offset) (v : Verdict) (i : Info) {f : Flaw} → v ≡ Flawed f → infoWhere k v i ≡ Refused (refusalOf k f)
+where-flawed k v i e = rw e
 
--- one value: its record, then its data
-module _ (d : List ℕ) (minor : ℕ) (v : Offset) where
+-- one value, in the examination of a key: its record, then its data
+module _ (d : List ℕ) (minor : ℕ) (k v : Offset) where
   content-is : valueOf d minor v .content ≡ dataIn d minor v
   unfolding valueOf fieldsOf dataIn
   content-is = refl
 
   pub info-bad : {f : Flaw} → valued (valueFault Header d [] v) (valueOf d minor v) ≡ valuedAs.Flawed f
-      → infoWhere (wholeValueFault Header d [] minor v) (infoOf (valueOf d minor v)) ≡ Refused (refusalOf f)
-  info-bad e = where-flawed _ _ (whole-stop Header d [] minor v e)
+      → infoWhere k (wholeValueFault Header d [] minor v) (infoOf (valueOf d minor v)) ≡ Refused (refusalOf k f)
+  info-bad e = where-flawed k _ _ (whole-stop Header d [] minor v e)
 
   pub view-bad : {f : Flaw} → valued (valueFault Header d [] v) (valueOf d minor v) ≡ valuedAs.Flawed f
-      → infoWhere (viewedFault d minor v) (infoOf (valueOf d minor v)) ≡ Refused (refusalOf f)
+      → infoWhere k (viewedFault d minor v) (infoOf (valueOf d minor v)) ≡ Refused (refusalOf k f)
   unfolding viewedFault
-  view-bad e = where-flawed _ _ (stop _ _ (is-flawed (valueFault Header d [] v) _ e))
+  view-bad e = where-flawed k _ _ (stop _ _ (is-flawed (valueFault Header d [] v) _ e))
 
   module _ {y : Value} (e : valued (valueFault Header d [] v) (valueOf d minor v) ≡ valuedAs.Whole y) where
     whole : (valueFault Header d [] v ≡ Sound) × (valueOf d minor v ≡ y)
@@ -52,29 +53,29 @@ module _ (d : List ℕ) (minor : ℕ) (v : Offset) where
     data-is : dataIn d minor v ≡ y .content
     data-is = sym content-is ∙ ap (λ (z : Value). z .content) (whole .1)
 
-    pub info-on : infoWhere (wholeValueFault Header d [] minor v) (infoOf (valueOf d minor v)) ≡ infoWhere (dataFault Header d [] (y .content)) (infoOf y)
-    info-on = ap₂ (λ (a : Verdict) (b : Value). infoWhere a (infoOf b)) (whole-on Header d [] minor v e) (whole .1)
+    pub info-on : infoWhere k (wholeValueFault Header d [] minor v) (infoOf (valueOf d minor v)) ≡ infoWhere k (dataFault Header d [] (y .content)) (infoOf y)
+    info-on = ap₂ (λ (a : Verdict) (b : Value). infoWhere k a (infoOf b)) (whole-on Header d [] minor v e) (whole .1)
 
     pub view-segmented : {f : Flaw} → viewFault v (y .content) ≡ Flawed f
-        → infoWhere (viewedFault d minor v) (infoOf (valueOf d minor v)) ≡ Refused (refusalOf f)
+        → infoWhere k (viewedFault d minor v) (infoOf (valueOf d minor v)) ≡ Refused (refusalOf k f)
     unfolding viewedFault
-    view-segmented q = where-flawed _ _ (on _ _ (whole .0) ∙ stop _ _ (ap (viewFault v) data-is ∙ q))
+    view-segmented q = where-flawed k _ _ (on _ _ (whole .0) ∙ stop _ _ (ap (viewFault v) data-is ∙ q))
 
     pub view-on : viewFault v (y .content) ≡ Sound
-        → infoWhere (viewedFault d minor v) (infoOf (valueOf d minor v)) ≡ infoWhere (dataFault Header d [] (y .content)) (infoOf y)
+        → infoWhere k (viewedFault d minor v) (infoOf (valueOf d minor v)) ≡ infoWhere k (dataFault Header d [] (y .content)) (infoOf y)
     unfolding viewedFault
     view-on q =
-        ap₂ (λ (a : Verdict) (b : Value). infoWhere a (infoOf b))
+        ap₂ (λ (a : Verdict) (b : Value). infoWhere k a (infoOf b))
         (on _ _ (whole .0) ∙ on _ _ (ap (viewFault v) data-is ∙ q) ∙ ap (dataFault Header d []) data-is) (whole .1)
 
 -- in a hive: the value that is found has passed its own tests
 module _ (h us x : List ℕ) where
-  module _ {v : Offset} (e : valueLook h us x ≡ Found v) where
-    pub info-found : infoAnswer h us x ≡ infoWhere (wholeValueFault Header (binsData h) [] (minorOf (sector h)) v) (infoOf (valueOf (binsData h) (minorOf (sector h)) v))
+  module _ {k v : Offset} (e : valueLook h us x ≡ Found k v) where
+    pub info-found : infoAnswer h us x ≡ infoWhere k (wholeValueFault Header (binsData h) [] (minorOf (sector h)) v) (infoOf (valueOf (binsData h) (minorOf (sector h)) v))
     unfolding infoAnswer wholeValueFault
     info-found = rw (e, on (valueFault Header (binsData h) [] v) (dataFault Header (binsData h) [] (dataIn (binsData h) (minorOf (sector h)) v)) (value-facts h us x e .1))
 
-    pub view-found : viewAnswer h us x ≡ infoWhere (viewedFault (binsData h) (minorOf (sector h)) v) (infoOf (valueOf (binsData h) (minorOf (sector h)) v))
+    pub view-found : viewAnswer h us x ≡ infoWhere k (viewedFault (binsData h) (minorOf (sector h)) v) (infoOf (valueOf (binsData h) (minorOf (sector h)) v))
     unfolding viewAnswer viewedFault
     view-found =
         rw (
@@ -84,20 +85,20 @@ module _ (h us x : List ℕ) where
               (value-facts h us x e .1),
         )
 
-  module _ (e : valueLook h us x ≡ Missing) where
-    pub info-missing : infoAnswer h us x ≡ Refused (refusalOf (flaw NoValue nowhere))
+  module _ {k : Offset} (e : valueLook h us x ≡ Missing k) where
+    pub info-missing : infoAnswer h us x ≡ Refused (refusalOf k (flaw NoValue nowhere))
     unfolding infoAnswer
     info-missing = rw e
 
-    pub view-missing : viewAnswer h us x ≡ Refused (refusalOf (flaw NoValue nowhere))
+    pub view-missing : viewAnswer h us x ≡ Refused (refusalOf k (flaw NoValue nowhere))
     unfolding viewAnswer
     view-missing = rw e
 
-  module _ {f : Flaw} (e : valueLook h us x ≡ Faulty f) where
-    pub info-faulty : infoAnswer h us x ≡ Refused (refusalOf f)
+  module _ {r : Refusal} (e : valueLook h us x ≡ Faulty r) where
+    pub info-faulty : infoAnswer h us x ≡ Refused r
     unfolding infoAnswer
     info-faulty = rw e
 
-    pub view-faulty : viewAnswer h us x ≡ Refused (refusalOf f)
+    pub view-faulty : viewAnswer h us x ≡ Refused r
     unfolding viewAnswer
     view-faulty = rw e

@@ -1,14 +1,15 @@
 -- The search among values: a law for each way out, and what is known where a value is found.
 use Prim.Native.Nat.{ℕ}
 use native.Mathlib.Omega.{arith}
-use mathlib.Core.Path.{_≡_, refl, subst}
+use mathlib.Core.Path.{_≡_, refl, ap, _∙_, subst}
 use mathlib.Core.Bool.{Bool, cond}
 use mathlib.Core.List.{List, []}
 use Rattle.fields.specs.declared.Fault.the-variants.{NoKey}
 use Rattle.fields.specs.declared.Flaw.{Flaw}
 use Rattle.fields.specs.declared.Offset.{Offset}
+use Rattle.fields.specs.declared.Refusal.{Refusal}
 use Rattle.fields.specs.declared.Verdict.the-variants.{Sound, Flawed}
-use Rattle.fields.specs.Faults.{flaw, nowhere}
+use Rattle.fields.specs.Faults.{flaw, nowhere, refusalOf}
 use Rattle.base.specs.Block.{sector, minorOf, binsData, baseFault}
 use Rattle.cells.specs.declared.Rule.the-variants.{Header}
 use Rattle.names.specs.Comparison.{sameName}
@@ -28,11 +29,14 @@ use Rattle.values.proofs.Segment_faults.{entered-whole, entered-flawed}
 use Rattle.values.proofs.Valued_at.{is-whole, is-flawed}
 use Rattle.paths.specs.declared.Look.{Look}
 use Rattle.paths.specs.declared.Look.the-variants.{Found, Missing, Faulty}
+use Rattle.paths.specs.declared.Way.{Way}
+use Rattle.paths.specs.declared.Way.the-variants as way
 use Rattle.paths.specs.Answers.{keyLook}
 use Rattle.paths.proofs.Descents.{first-at, sound-found, picked}
 use Rattle.paths.proofs.Opens.{look-facts}
+use Rattle.lookup.specs.declared.Spot.the-variants as spot
 use Rattle.lookup.specs.Search.{valueNamed, searchValues, lookupValue}
-use Rattle.lookup.specs.Answers.{onKey, valueLook}
+use Rattle.lookup.specs.Answers.{inKey, onKey, valueLook}
 
 -- one value
 module _ (d : List ℕ) (minor : ℕ) (x : List ℕ) (v : Offset) where
@@ -73,27 +77,42 @@ module _ (d : List ℕ) (minor : ℕ) (x : List ℕ) (k : Key) where
       let s = sound-found (valueFault Header d [] (c .0)) _ (c .1) in
       subst (λ (y : Offset). valueFault Header d [] y ≡ Sound) (picked (sameName (codesOf d (valueOf d minor (c .0) .name)) x) (c .0) (s .1) .1) (s .0)
 
+-- what is found in a key
+pub in-found : (o : Offset) (l : Look) {k v : Offset} → inKey o l ≡ spot.Found k v → (o ≡ k) × (l ≡ Found v)
+in-found o (Found u) e = (cc, cc)
+in-found o Missing e = absurd (let z : _≡_ {A = ℕ} 0 1 = cc in omega arith)
+in-found o (Faulty f) e = absurd (let z : _≡_ {A = ℕ} 0 1 = cc in omega arith)
+
 -- in a hive
 module _ (h us x : List ℕ) where
-  pub value-faulty : {f : Flaw} → keyLook h us ≡ Faulty f → valueLook h us x ≡ Faulty f
+  pub value-faulty : {r : Refusal} → keyLook h us ≡ way.Faulty r → valueLook h us x ≡ spot.Faulty r
   unfolding valueLook
   value-faulty e = rw e
 
-  pub value-keyless : keyLook h us ≡ Missing → valueLook h us x ≡ Faulty (flaw NoKey nowhere)
+  pub value-keyless : {k : Offset} → keyLook h us ≡ way.Missing k → valueLook h us x ≡ spot.Faulty (refusalOf k (flaw NoKey nowhere))
   unfolding valueLook
   value-keyless e = rw e
 
-  pub value-below : {o : Offset} → keyLook h us ≡ Found o
-      → valueLook h us x ≡ lookupValue (binsData h) (minorOf (sector h)) x (keyOf (binsData h) o)
+  pub value-below : {o : Offset} → keyLook h us ≡ way.Found o
+      → valueLook h us x ≡ inKey o (lookupValue (binsData h) (minorOf (sector h)) x (keyOf (binsData h) o))
   unfolding valueLook
   value-below e = rw e
 
-  pub value-facts : {v : Offset} → valueLook h us x ≡ Found v → (baseFault h ≡ Sound) × (valueFault Header (binsData h) [] v ≡ Sound)
+  -- the key whose values were searched, and the search
+  pub value-key : {k v : Offset} → valueLook h us x ≡ spot.Found k v
+      → (keyLook h us ≡ way.Found k) × (lookupValue (binsData h) (minorOf (sector h)) x (keyOf (binsData h) k) ≡ Found v)
   unfolding valueLook
-  value-facts {v} e = by (keyLook h us) refl e
+  value-key {k} {v} e = by (keyLook h us) refl e
     where
-      by : (l : Look) → keyLook h us ≡ l → onKey l (λ o. lookupValue (binsData h) (minorOf (sector h)) x (keyOf (binsData h) o)) ≡ Found v
-          → (baseFault h ≡ Sound) × (valueFault Header (binsData h) [] v ≡ Sound)
-      by (Found o) p q = (look-facts h us p .0, value-tested (binsData h) (minorOf (sector h)) x (keyOf (binsData h) o) q)
-      by Missing p q = absurd (let z : _≡_ {A = ℕ} 0 1 = cc in omega arith)
-      by (Faulty f) p q = absurd (let z : _≡_ {A = ℕ} 0 1 = cc in omega arith)
+      by : (w : Way) → keyLook h us ≡ w → onKey w (λ o. lookupValue (binsData h) (minorOf (sector h)) x (keyOf (binsData h) o)) ≡ spot.Found k v
+          → (keyLook h us ≡ way.Found k) × (lookupValue (binsData h) (minorOf (sector h)) x (keyOf (binsData h) k) ≡ Found v)
+      by (way.Found o) p q =
+          let f = in-found o (lookupValue (binsData h) (minorOf (sector h)) x (keyOf (binsData h) o)) q in
+          (p ∙ ap way.Found (f .0), subst (λ (y : Offset). lookupValue (binsData h) (minorOf (sector h)) x (keyOf (binsData h) y) ≡ Found v) (f .0) (f .1))
+      by (way.Missing y) p q = absurd (let z : _≡_ {A = ℕ} 0 1 = cc in omega arith)
+      by (way.Faulty f) p q = absurd (let z : _≡_ {A = ℕ} 0 1 = cc in omega arith)
+
+  pub value-facts : {k v : Offset} → valueLook h us x ≡ spot.Found k v → (baseFault h ≡ Sound) × (valueFault Header (binsData h) [] v ≡ Sound)
+  value-facts {k} {v} e =
+      let w = value-key e in
+      (look-facts h us (w .0) .0, value-tested (binsData h) (minorOf (sector h)) x (keyOf (binsData h) k) (w .1))

@@ -1,5 +1,6 @@
 -- The answers of the value calls: "Order: 1 to 7; 16; then the records in list order up to the first match [..]; 17; 18; for a view 19 before any data cell
--- is read; then the data's own 11 or 12." h is the hive, us the path, x the value's name.
+-- is read; then the data's own 11 or 12." What is found below the key of the path is found in its examination. h is the hive, us the path, x the value's
+-- name.
 use Prim.Native.Nat.{ℕ}
 use mathlib.Core.Bool.{cond}
 use mathlib.Core.List.{List, [], _++_}
@@ -21,24 +22,36 @@ use Rattle.values.specs.declared.ValueData.the-variants.{Inline, OneCell, Segme
 use Rattle.values.specs.Records.{valueFault, dataIn, valueOf}
 use Rattle.values.specs.Segments.{dataFault, bytesOf, lengthOf}
 use Rattle.values.specs.Parts.{partOf}
+use Rattle.paths.specs.declared.KeyFound.{KeyFound}
+use Rattle.paths.specs.declared.KeyFound.the-variants.{At, Refused}
 use Rattle.paths.specs.declared.Look.{Look}
-use Rattle.paths.specs.declared.Look.the-variants.{Found, Missing, Faulty}
-use Rattle.paths.specs.Answers.{keyLook}
+use Rattle.paths.specs.declared.Look.the-variants as look
+use Rattle.paths.specs.declared.Way.{Way}
+use Rattle.paths.specs.declared.Way.the-variants as way
+use Rattle.paths.specs.Answers.{keyLook, findAnswer}
 use Rattle.lookup.specs.declared.Copied.{Copied}
 use Rattle.lookup.specs.declared.Copied.the-variants.{Done, Refused as Uncopied}
 use Rattle.lookup.specs.declared.Info.{Info}
+use Rattle.lookup.specs.declared.Spot.{Spot}
+use Rattle.lookup.specs.declared.Spot.the-variants.{Found, Missing, Faulty}
 use Rattle.lookup.specs.declared.ValueFound.{ValueFound}
 use Rattle.lookup.specs.declared.ValueFound.the-variants.{At as ValueAt, Refused as Unvalued}
 use Rattle.lookup.specs.Search.{lookupValue}
 
+-- a search among the values of a key, which is the key under examination
+abbrev pub inKey : Offset → Look → Spot
+inKey k (look.Found v) = Found k v
+inKey k look.Missing = Missing k
+inKey k (look.Faulty f) = Faulty (refusalOf k f)
+
 -- what a value call does with the key: where there is none, 17
-abbrev pub onKey : Look → (Offset → Look) → Look
-onKey (Found o) go = go o
-onKey Missing go = Faulty (flaw NoKey nowhere)
-onKey (Faulty f) go = Faulty f
+abbrev pub onKey : Way → (Offset → Look) → Spot
+onKey (way.Found o) go = inKey o (go o)
+onKey (way.Missing k) go = Faulty (refusalOf k (flaw NoKey nowhere))
+onKey (way.Faulty r) go = Faulty r
 
 -- the value of that name, of the key of that path
-unfoldable pub valueLook : List ℕ → List ℕ → List ℕ → Look
+unfoldable pub valueLook : List ℕ → List ℕ → List ℕ → Spot
 valueLook h us x = onKey (keyLook h us) (λ o. lookupValue (binsData h) (minorOf (sector h)) x (keyOf (binsData h) o))
 
 -- where in the file the data lie: where their part stands, or the `db` of segments; no data lie at 0
@@ -62,22 +75,23 @@ viewedFault d minor v =
     next viewFault v (dataIn d minor v)
     next dataFault Header d [] (dataIn d minor v)
 
-abbrev pub infoWhere : Verdict → Info → ValueFound
-infoWhere Sound i = ValueAt i
-infoWhere (Flawed f) i = Unvalued (refusalOf f)
+-- the facts of a value where its tests are passed, in the examination of a key
+abbrev pub infoWhere : Offset → Verdict → Info → ValueFound
+infoWhere k Sound i = ValueAt i
+infoWhere k (Flawed f) i = Unvalued (refusalOf k f)
 
 -- "18: no such value"
-abbrev pub valueFound : Look → (Offset → ValueFound) → ValueFound
-valueFound (Found v) go = go v
-valueFound Missing go = Unvalued (refusalOf (flaw NoValue nowhere))
-valueFound (Faulty f) go = Unvalued (refusalOf f)
+abbrev pub valueFound : Spot → (Offset → Offset → ValueFound) → ValueFound
+valueFound (Found k v) go = go k v
+valueFound (Missing k) go = Unvalued (refusalOf k (flaw NoValue nowhere))
+valueFound (Faulty r) go = Unvalued r
 
 -- value_info: the value found, then its data's own 11 or 12
 unfoldable pub infoAnswer : List ℕ → List ℕ → List ℕ → ValueFound
 infoAnswer h us x =
     let d = binsData h in
     let minor = minorOf (sector h) in
-    valueFound (valueLook h us x) (λ v. infoWhere (dataFault Header d [] (dataIn d minor v)) (infoOf (valueOf d minor v)))
+    valueFound (valueLook h us x) (λ k v. infoWhere k (dataFault Header d [] (dataIn d minor v)) (infoOf (valueOf d minor v)))
 
 -- view_info, the view's sister: the same with 19 "before any data cell is read"
 unfoldable pub viewAnswer : List ℕ → List ℕ → List ℕ → ValueFound
@@ -85,7 +99,7 @@ viewAnswer h us x =
     let d = binsData h in
     let minor = minorOf (sector h) in
     valueFound (valueLook h us x)
-    (λ v. infoWhere (viewFault v (dataIn d minor v) next dataFault Header d [] (dataIn d minor v)) (infoOf (valueOf d minor v)))
+    (λ k v. infoWhere k (viewFault v (dataIn d minor v) next dataFault Header d [] (dataIn d minor v)) (infoOf (valueOf d minor v)))
 
 -- "A view is the very part of the lent hive that holds the data, empty on refusal"
 abbrev pub viewedIn : List ℕ → ValueFound → List ℕ
@@ -103,13 +117,18 @@ viewStart h us x = partStart (viewAnswer h us x)
 unfoldable pub viewBytes : List ℕ → List ℕ → List ℕ → List ℕ
 viewBytes h us x = viewedIn h (viewAnswer h us x)
 
--- "a copy checks all segments, then 20, and writes only the data's length"
-abbrev pub copiedTo : ℕ → ValueFound → Copied
-copiedTo n (ValueAt i) = cond (leb (i .len) n) (Done (i .len)) (Uncopied (refusalOf (flaw OutputShort nowhere)))
-copiedTo n (Unvalued f) = Uncopied f
+-- "a copy checks all segments, then 20, and writes only the data's length", in the examination of a key
+abbrev pub copiedTo : Offset → ℕ → ValueFound → Copied
+copiedTo k n (ValueAt i) = cond (leb (i .len) n) (Done (i .len)) (Uncopied (refusalOf k (flaw OutputShort nowhere)))
+copiedTo k n (Unvalued f) = Uncopied f
+
+-- the key that is found, or that under examination where none is
+abbrev pub keyAsked : KeyFound → Offset
+keyAsked (At o) = o
+keyAsked (Refused r) = r .key
 
 unfoldable pub copyAnswer : List ℕ → List ℕ → List ℕ → ℕ → Copied
-copyAnswer h us x n = copiedTo n (infoAnswer h us x)
+copyAnswer h us x n = copiedTo (keyAsked (findAnswer h us)) n (infoAnswer h us x)
 
 abbrev pub written : List ℕ → List ℕ → ValueFound → List ℕ
 written d out (ValueAt i) = cond (leb (i .len) (length out)) (bytesOf d (i .content) ++ drop (i .len) out) out

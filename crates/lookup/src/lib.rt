@@ -7,6 +7,7 @@ use fields::Place;
 use fields::Refusal;
 use fields::Verdict;
 use paths::Look;
+use paths::Way;
 use records::Key;
 use values::Entered;
 use values::Entries;
@@ -27,7 +28,9 @@ ghost use Rattle.values.specs.Records.{valueOf};
 ghost use Rattle.values.specs.Segments.{dataFault, lengthOf};
 ghost use Rattle.values.specs.Lists.{wholeValueFault};
 ghost use Rattle.lookup.specs.Search.{valueNamed, searchValues, lookupValue};
-ghost use Rattle.lookup.specs.Answers.{valueLook, infoOf, viewFault, viewedFault, infoWhere, infoAnswer, viewAnswer, viewStart, viewBytes, copiedTo, copyAnswer, written, copyOut};
+ghost use Rattle.fields.specs.declared.Fault.the-variants.{NoValue};
+ghost use Rattle.fields.specs.Faults.{flaw, nowhere, refusalOf};
+ghost use Rattle.lookup.specs.Answers.{inKey, valueLook, infoOf, viewFault, viewedFault, infoWhere, infoAnswer, viewAnswer, viewStart, viewBytes, copiedTo, copyAnswer, written, copyOut};
 
 // One value, against a name, which is compared in place.
 fn value_named(bins: &[u8], minor: u32, name: &[u16], v: Offset) -> Look
@@ -79,20 +82,41 @@ fn lookup_value(bins: &[u8], minor: u32, name: &[u16], k: Key) -> Look
     }
 }
 
+// Where the search for a value ends: at its key and itself, at a key that has no value of the name, or with a refusal.
+pub enum Spot {
+    Found(Offset, Offset),
+    Missing(Offset),
+    Faulty(Refusal),
+}
+
+// A search among the values of a key is made on behalf of that key.
+fn in_key(key: Offset, l: Look) -> Spot
+    ensures { λ r. ⌜ r ≡ inKey key l ⌝ }
+{
+    match l {
+        Look::Found(v) => Spot::Found(key, v),
+        Look::Missing => Spot::Missing(key),
+        Look::Faulty(f) => Spot::Faulty(fields::refused(key, f)),
+    }
+}
+
 // The value of a name, of the key of a path in a hive.
-fn value_look(hive: &[u8], path: &[u16], name: &[u16]) -> Look
+fn value_look(hive: &[u8], path: &[u16], name: &[u16]) -> Spot
     ensures { λ r. ⌜ r ≡ valueLook (now (hive .entry)) (now (path .entry)) (now (name .entry)) ⌝ }
 {
     match paths::key_look(hive, path) {
-        Look::Faulty(f) => Look::Faulty(f),
-        Look::Missing => Look::Faulty(Flaw {
-            fault: Fault::NoKey,
-            place: Offset(0),
-        }),
-        Look::Found(o) => {
+        Way::Faulty(r) => Spot::Faulty(r),
+        Way::Missing(key) => Spot::Faulty(fields::refused(
+            key,
+            Flaw {
+                fault: Fault::NoKey,
+                place: Offset(0),
+            },
+        )),
+        Way::Found(o) => {
             let bins = base::bins_of(hive);
             let k = records::key_fields(bins, o);
-            lookup_value(bins, base::minor_of(hive), name, k)
+            in_key(o, lookup_value(bins, base::minor_of(hive), name, k))
         }
     }
 }
@@ -124,23 +148,23 @@ pub enum ValueFound {
 }
 
 // A value whose data have passed their tests, or the data's own 11 or 12.
-fn info_where(bins: &[u8], x: Value) -> ValueFound
-    ensures { λ r. ⌜ r ≡ infoWhere (dataFault Header (now (bins .entry)) [] (x .content)) (infoOf x) ⌝ }
+fn info_where(bins: &[u8], key: Offset, x: Value) -> ValueFound
+    ensures { λ r. ⌜ r ≡ infoWhere key (dataFault Header (now (bins .entry)) [] (x .content)) (infoOf x) ⌝ }
 {
     let content = x.content;
     match values::data_flaw(bins, b"", Rule::Header, content) {
-        Verdict::Flawed(f) => ValueFound::Refused(fields::refused(f)),
+        Verdict::Flawed(f) => ValueFound::Refused(fields::refused(key, f)),
         Verdict::Sound => ValueFound::At(info_of(x)),
     }
 }
 
-// The value at an offset: its record, then its data.
-pub fn whole_info(bins: &[u8], minor: u32, v: Offset) -> ValueFound
-    ensures { λ r. ⌜ r ≡ infoWhere (wholeValueFault Header (now (bins .entry)) [] minor v) (infoOf (valueOf (now (bins .entry)) minor v)) ⌝ }
+// The value at an offset: its record, then its data, in the examination of a key.
+pub fn whole_info(bins: &[u8], minor: u32, key: Offset, v: Offset) -> ValueFound
+    ensures { λ r. ⌜ r ≡ infoWhere key (wholeValueFault Header (now (bins .entry)) [] minor v) (infoOf (valueOf (now (bins .entry)) minor v)) ⌝ }
 {
     match values::value_at(bins, b"", Rule::Header, minor, v) {
-        Valued::Flawed(f) => ValueFound::Refused(fields::refused(f)),
-        Valued::Whole(x) => info_where(bins, x),
+        Valued::Flawed(f) => ValueFound::Refused(fields::refused(key, f)),
+        Valued::Whole(x) => info_where(bins, key, x),
     }
 }
 
@@ -156,19 +180,32 @@ fn view_flaw(v: Offset, x: ValueData) -> Verdict
 }
 
 // The same for a view: 19 before any data cell is read.
-fn view_at(bins: &[u8], minor: u32, v: Offset) -> ValueFound
-    ensures { λ r. ⌜ r ≡ infoWhere (viewedFault (now (bins .entry)) minor v) (infoOf (valueOf (now (bins .entry)) minor v)) ⌝ }
+fn view_at(bins: &[u8], minor: u32, key: Offset, v: Offset) -> ValueFound
+    ensures { λ r. ⌜ r ≡ infoWhere key (viewedFault (now (bins .entry)) minor v) (infoOf (valueOf (now (bins .entry)) minor v)) ⌝ }
 {
     match values::value_at(bins, b"", Rule::Header, minor, v) {
-        Valued::Flawed(f) => ValueFound::Refused(fields::refused(f)),
+        Valued::Flawed(f) => ValueFound::Refused(fields::refused(key, f)),
         Valued::Whole(x) => {
             let content = x.content;
             match view_flaw(v, content) {
-                Verdict::Flawed(f) => ValueFound::Refused(fields::refused(f)),
-                Verdict::Sound => info_where(bins, x),
+                Verdict::Flawed(f) => ValueFound::Refused(fields::refused(key, f)),
+                Verdict::Sound => info_where(bins, key, x),
             }
         }
     }
+}
+
+// "18: no such value", with the key that has none.
+fn no_value(key: Offset) -> Refusal
+    ensures { λ r. ⌜ r ≡ refusalOf key (flaw NoValue nowhere) ⌝ }
+{
+    fields::refused(
+        key,
+        Flaw {
+            fault: Fault::NoValue,
+            place: Offset(0),
+        },
+    )
 }
 
 // The facts of a value, for all three cases of data.
@@ -176,12 +213,9 @@ pub fn value_info(hive: &[u8], path: &[u16], name: &[u16]) -> ValueFound
     ensures { λ r. ⌜ r ≡ infoAnswer (now (hive .entry)) (now (path .entry)) (now (name .entry)) ⌝ }
 {
     match value_look(hive, path, name) {
-        Look::Found(v) => whole_info(base::bins_of(hive), base::minor_of(hive), v),
-        Look::Missing => ValueFound::Refused(fields::refused(Flaw {
-            fault: Fault::NoValue,
-            place: Offset(0),
-        })),
-        Look::Faulty(f) => ValueFound::Refused(fields::refused(f)),
+        Spot::Found(key, v) => whole_info(base::bins_of(hive), base::minor_of(hive), key, v),
+        Spot::Missing(key) => ValueFound::Refused(no_value(key)),
+        Spot::Faulty(r) => ValueFound::Refused(r),
     }
 }
 
@@ -190,12 +224,9 @@ pub fn view_info(hive: &[u8], path: &[u16], name: &[u16]) -> ValueFound
     ensures { λ r. ⌜ r ≡ viewAnswer (now (hive .entry)) (now (path .entry)) (now (name .entry)) ⌝ }
 {
     match value_look(hive, path, name) {
-        Look::Found(v) => view_at(base::bins_of(hive), base::minor_of(hive), v),
-        Look::Missing => ValueFound::Refused(fields::refused(Flaw {
-            fault: Fault::NoValue,
-            place: Offset(0),
-        })),
-        Look::Faulty(f) => ValueFound::Refused(fields::refused(f)),
+        Spot::Found(key, v) => view_at(base::bins_of(hive), base::minor_of(hive), key, v),
+        Spot::Missing(key) => ValueFound::Refused(no_value(key)),
+        Spot::Faulty(r) => ValueFound::Refused(r),
     }
 }
 
@@ -220,19 +251,22 @@ pub enum Copied {
 }
 
 // The data that were told, which lie in the hive: "a copy checks all segments, then 20, and writes only the data's length"
-pub fn copy_info(hive: &[u8], i: Info, out: &mut [u8]) -> Copied
+pub fn copy_info(hive: &[u8], key: Offset, i: Info, out: &mut [u8]) -> Copied
     requires { ⌜ baseFault (now hive) ≡ Sound ⌝ }
     requires { ⌜ Lies (binsData (now hive)) (i .content) ⌝ }
     requires { ⌜ i .len ≡ lengthOf (i .content) ⌝ }
-    ensures { λ r. ⌜ r ≡ copiedTo (length (now (out .entry))) (ValueFound.At i) ⌝ }
+    ensures { λ r. ⌜ r ≡ copiedTo key (length (now (out .entry))) (ValueFound.At i) ⌝ }
     ensures { λ _. ⌜ now (out .exit) ≡ written (binsData (now (hive .entry))) (now (out .entry)) (ValueFound.At i) ⌝ }
 {
     let len = i.len;
     if out.len() < len {
-        return Copied::Refused(fields::refused(Flaw {
-            fault: Fault::OutputShort,
-            place: Offset(0),
-        }));
+        return Copied::Refused(fields::refused(
+            key,
+            Flaw {
+                fault: Fault::OutputShort,
+                place: Offset(0),
+            },
+        ));
     }
     let content = i.content;
     values::copy_data(base::bins_of(hive), content, out);
@@ -244,8 +278,14 @@ pub fn value_copy(hive: &[u8], path: &[u16], name: &[u16], out: &mut [u8]) -> Co
     ensures { λ r. ⌜ r ≡ copyAnswer (now (hive .entry)) (now (path .entry)) (now (name .entry)) (length (now (out .entry))) ⌝ }
     ensures { λ _. ⌜ now (out .exit) ≡ copyOut (now (hive .entry)) (now (path .entry)) (now (name .entry)) (now (out .entry)) ⌝ }
 {
-    match value_info(hive, path, name) {
-        ValueFound::Refused(f) => Copied::Refused(f),
-        ValueFound::At(i) => copy_info(hive, i, out),
+    match value_look(hive, path, name) {
+        Spot::Missing(key) => Copied::Refused(no_value(key)),
+        Spot::Faulty(r) => Copied::Refused(r),
+        Spot::Found(key, v) => {
+            match whole_info(base::bins_of(hive), base::minor_of(hive), key, v) {
+                ValueFound::Refused(r) => Copied::Refused(r),
+                ValueFound::At(i) => copy_info(hive, key, i, out),
+            }
+        }
     }
 }

@@ -10,6 +10,7 @@ use Rattle.fields.specs.declared.Flaw.{Flaw}
 use Rattle.fields.specs.declared.Offset.{Offset}
 use Rattle.fields.specs.declared.Verdict.{Verdict}
 use Rattle.fields.specs.declared.Verdict.the-variants.{Sound, Flawed}
+use Rattle.fields.specs.Faults.{noKey, refusalOf}
 use Rattle.fields.proofs.Bools.{and-inv}
 use Rattle.fields.proofs.Loops.{drop-all}
 use Rattle.cells.specs.declared.Rule.the-variants.{Header}
@@ -24,8 +25,10 @@ use Rattle.records.proofs.LawsAnswer.{keyed-whole, keyed-flawed}
 use Rattle.tree.specs.Tree.{nameAt}
 use Rattle.paths.specs.declared.Look.{Look}
 use Rattle.paths.specs.declared.Look.the-variants.{Found, Missing, Faulty}
+use Rattle.paths.specs.declared.Way.{Way}
+use Rattle.paths.specs.declared.Way.the-variants as way
 use Rattle.paths.specs.Paths.{firstPart, partsOf, areParts, isPath}
-use Rattle.paths.specs.Search.{onSound, orElse, onFound, firstOf, keyNamed, searchLeaf, searchLeaves, searchBelow, descend, lookupKey}
+use Rattle.paths.specs.Search.{onSound, orElse, onFound, firstOf, keyNamed, searchLeaf, searchLeaves, searchBelow, descend, opened, lookupKey}
 use Rattle.paths.proofs.Parts.{behind, part-first, Next, next-cut, next-end}
 
 -- ---- what is found
@@ -74,22 +77,26 @@ module _ (d x : List ℕ) where
           let l = first-at (searchLeaf d x) (leavesOf d (k .list)) (sound-found (headFault Header d [] (k .list)) _ q .1) in
           leaf-tested (l .0) (l .1)
 
-pub descend-tested : (d : List ℕ) (o : Offset) (xs : List (List ℕ)) {e : Offset} → keyFault Header d [] o ≡ Sound → descend d o xs ≡ Found e
+pub descend-tested : (d : List ℕ) (o : Offset) (xs : List (List ℕ)) {e : Offset} → keyFault Header d [] o ≡ Sound → descend d o xs ≡ way.Found e
     → keyFault Header d [] e ≡ Sound
 unfolding descend onFound
 descend-tested d o [] t p = subst (λ (y : Offset). keyFault Header d [] y ≡ Sound) (cc) t
 descend-tested d o (x ∷ xs) {e} t p = by (searchBelow d x (keyOf d o)) refl (λ c. descend-tested d c xs) p
   where
     by : (w : Look) → searchBelow d x (keyOf d o) ≡ w
-        → ((c : Offset) → keyFault Header d [] c ≡ Sound → descend d c xs ≡ Found e → keyFault Header d [] e ≡ Sound)
-        → onFound w (λ c. descend d c xs) ≡ Found e → keyFault Header d [] e ≡ Sound
+        → ((c : Offset) → keyFault Header d [] c ≡ Sound → descend d c xs ≡ way.Found e → keyFault Header d [] e ≡ Sound)
+        → onFound o w (λ c. descend d c xs) ≡ way.Found e → keyFault Header d [] e ≡ Sound
     by (Found c) q rest p = rest c (below-tested d x (keyOf d o) q) p
     by Missing q rest p = absurd (let z : _≡_ {A = ℕ} 0 1 = cc in omega arith)
     by (Faulty f) q rest p = absurd (let z : _≡_ {A = ℕ} 0 1 = cc in omega arith)
 
-pub lookup-tested : (d : List ℕ) (root : Offset) (xs : List (List ℕ)) {e : Offset} → lookupKey d root xs ≡ Found e → keyFault Header d [] e ≡ Sound
+pub opened-found : (v : Verdict) (w : Way) {o : Offset} → opened v w ≡ way.Found o → (v ≡ Sound) × (w ≡ way.Found o)
+opened-found Sound w e = (refl, e)
+opened-found (Flawed f) w e = absurd (let z : _≡_ {A = ℕ} 0 1 = cc in omega arith)
+
+pub lookup-tested : (d : List ℕ) (root : Offset) (xs : List (List ℕ)) {e : Offset} → lookupKey d root xs ≡ way.Found e → keyFault Header d [] e ≡ Sound
 unfolding lookupKey
-lookup-tested d root xs p = let s = sound-found (keyFault Header d [] root) _ p in descend-tested d root xs (s .0) (s .1)
+lookup-tested d root xs p = let s = opened-found (keyFault Header d [] root) _ p in descend-tested d root xs (s .0) (s .1)
 
 -- ---- the loop
 
@@ -100,7 +107,7 @@ pub record Descended (d : List ℕ) (from : Offset) (us : List ℕ) (key : Offse
   pub tested : keyFault Header d [] key ≡ Sound
   pub same : descend d from (partsOf us) ≡ descend d key (partsOf (drop start us))
 
-descend-cons : (d : List ℕ) (o : Offset) (x : List ℕ) (xs : List (List ℕ)) → descend d o (x ∷ xs) ≡ onFound (searchBelow d x (keyOf d o)) (λ c. descend d c xs)
+descend-cons : (d : List ℕ) (o : Offset) (x : List ℕ) (xs : List (List ℕ)) → descend d o (x ∷ xs) ≡ onFound o (searchBelow d x (keyOf d o)) (λ c. descend d c xs)
 unfolding descend
 descend-cons d o x xs = refl
 
@@ -110,7 +117,7 @@ module _ (d : List ℕ) (from : Offset) (us : List ℕ) where
   descended-start p t = record { within = omega arith; good = and-inv (areParts (partsOf us)) _ p .0; tested = t; same = refl }
 
   module _ (key : Offset) (start : ℕ) (w : Descended d from us key start) where
-    pub descended-end : length us ≤ start → descend d from (partsOf us) ≡ Found key
+    pub descended-end : length us ≤ start → descend d from (partsOf us) ≡ way.Found key
     unfolding partsOf descend
     descended-end p = w .same ∙ rw (drop-all us start p)
 
@@ -118,14 +125,14 @@ module _ (d : List ℕ) (from : Offset) (us : List ℕ) where
     module _ (end : ℕ) (more : start < length us) (ends : end ≡ start + length (firstPart (drop start us))) (k : Key) (is : k ≡ keyOf d key) (l : Look)
         (looked : l ≡ searchBelow d (take (end - start) (drop start us)) k) where
       turn : (xs : List (List ℕ)) → partsOf (drop start us) ≡ take (end - start) (drop start us) ∷ xs
-          → descend d from (partsOf us) ≡ onFound l (λ c. descend d c xs)
+          → descend d from (partsOf us) ≡ onFound key l (λ c. descend d c xs)
       turn xs e = w .same ∙ ap (descend d key) e ∙ descend-cons d key _ xs ∙ rw (← is, ← looked)
 
-      pub descended-missing : l ≡ Missing → descend d from (partsOf us) ≡ Missing
+      pub descended-missing : l ≡ Missing → descend d from (partsOf us) ≡ way.Missing key
       unfolding onFound
       descended-missing e = turn (behind (drop start us)) (part-first us start end more ends (w .good)) ∙ rw e
 
-      pub descended-faulty : {f : Flaw} → l ≡ Faulty f → descend d from (partsOf us) ≡ Faulty f
+      pub descended-faulty : {f : Flaw} → l ≡ Faulty f → descend d from (partsOf us) ≡ way.Faulty (refusalOf key f)
       unfolding onFound
       descended-faulty e = turn (behind (drop start us)) (part-first us start end more ends (w .good)) ∙ rw e
 
@@ -148,7 +155,7 @@ module _ (d : List ℕ) (from : Offset) (us : List ℕ) where
 
 -- ---- from the root
 module _ (d : List ℕ) (root : Offset) (xs : List (List ℕ)) where
-  pub root-bad : {f : Flaw} → keyed (keyFault Header d [] root) (keyOf d root) ≡ key.Flawed f → lookupKey d root xs ≡ Faulty f
+  pub root-bad : {f : Flaw} → keyed (keyFault Header d [] root) (keyOf d root) ≡ key.Flawed f → lookupKey d root xs ≡ way.Faulty (refusalOf noKey f)
   unfolding lookupKey
   root-bad e = rw (keyed-flawed (keyFault Header d [] root) _ e)
 

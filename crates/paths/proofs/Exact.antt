@@ -9,20 +9,20 @@ use Rattle.fields.specs.declared.Offset.{Offset}
 use Rattle.fields.specs.declared.Refusal.{Refusal}
 use Rattle.fields.specs.declared.Verdict.the-variants.{Sound, Flawed}
 use Rattle.fields.specs.declared.Fault.the-variants.{PathParts, NoKey}
-use Rattle.fields.specs.Faults.{flaw, nowhere, refusalOf}
+use Rattle.fields.specs.Faults.{flaw, nowhere, noKey, refusalOf}
 use Rattle.fields.proofs.Firsts.{on, sound, holds, fails}
 use Rattle.base.specs.Block.{binsData}
 use Rattle.base.proofs.Laws.{facts-base}
 use Rattle.tree.specs.Tree.{levels, hiveOf}
 use Rattle.tree.specs.WellFormed.{CleanAndWellFormed}
 use Rattle.paths.specs.declared.KeyFound.the-variants.{At, Refused}
-use Rattle.paths.specs.declared.Look.{Look}
-use Rattle.paths.specs.declared.Look.the-variants.{Found, Missing, Faulty}
+use Rattle.paths.specs.declared.Way.{Way}
+use Rattle.paths.specs.declared.Way.the-variants.{Found, Missing, Faulty}
 use Rattle.paths.specs.Paths.{partsOf, isPath, pathFault}
 use Rattle.paths.specs.Search.{descend, lookupKey}
 use Rattle.paths.specs.Answers.{openFault, keyLook, keyFound, findAnswer}
-use Rattle.paths.specs.Reach.{Holds}
-use Rattle.paths.proofs.Finds.{key-good, found-holds, holds-found, never-faulty}
+use Rattle.paths.specs.Reach.{Holds, Deepest}
+use Rattle.paths.proofs.Finds.{key-good, found-holds, holds-found, never-faulty, missing-deepest}
 use Rattle.paths.proofs.Held.{held-path}
 
 module _ (h : List ℕ) (w : CleanAndWellFormed h) where
@@ -44,7 +44,7 @@ module _ (h : List ℕ) (w : CleanAndWellFormed h) where
     found-look : {o : Offset} → descend (binsData h) (hiveOf h .root) (partsOf us) ≡ Found o → keyLook h us ≡ Found o
     found-look e = look-is us p ∙ e
 
-    missing-look : descend (binsData h) (hiveOf h .root) (partsOf us) ≡ Missing → keyLook h us ≡ Missing
+    missing-look : {k : Offset} → descend (binsData h) (hiveOf h .root) (partsOf us) ≡ Missing k → keyLook h us ≡ Missing k
     missing-look e = look-is us p ∙ e
 
     -- a key is found under a path exactly when the tree holds it there
@@ -54,40 +54,40 @@ module _ (h : List ℕ) (w : CleanAndWellFormed h) where
         to : keyLook h us ≡ Found o → Holds (binsData h) (hiveOf h .root) (partsOf us) o
         to e = by (descend (binsData h) (hiveOf h .root) (partsOf us)) refl
           where
-            by : (l : Look) → descend (binsData h) (hiveOf h .root) (partsOf us) ≡ l → Holds (binsData h) (hiveOf h .root) (partsOf us) o
+            by : (l : Way) → descend (binsData h) (hiveOf h .root) (partsOf us) ≡ l → Holds (binsData h) (hiveOf h .root) (partsOf us) o
             by (Found y) q =
                 let s = sym (found-look q) ∙ e in
                 let r : y ≡ o = cc in
                 found-holds (binsData h) (hiveOf h) (w .formed .tiled) levels (hiveOf h .root) (partsOf us) (w .formed .tree) (q ∙ ap Found r)
-            by Missing q = let s = sym (missing-look q) ∙ e in absurd (let z : _≡_ {A = ℕ} 0 1 = cc in omega arith)
+            by (Missing k) q = let s = sym (missing-look q) ∙ e in absurd (let z : _≡_ {A = ℕ} 0 1 = cc in omega arith)
             by (Faulty f) q = absurd (never-faulty (binsData h) (hiveOf h) (w .formed .tiled) levels (hiveOf h .root) (partsOf us) (w .formed .tree) q)
 
-    -- and none is found exactly when it holds none
-    pub look-none : (keyLook h us ≡ Missing) ↔ ((o : Offset) → Holds (binsData h) (hiveOf h .root) (partsOf us) o → ⊥)
-    look-none = (λ e o r. let s = sym (look-exactly o .1 r) ∙ e in let z : _≡_ {A = ℕ} 0 1 = cc in omega arith, from)
+    -- and where it holds none, the way ends at the deepest key that it holds
+    pub look-none : ((o : Offset) → Holds (binsData h) (hiveOf h .root) (partsOf us) o → ⊥)
+        → (k : Offset) × (keyLook h us ≡ Missing k) × Deepest (binsData h) (hiveOf h .root) (partsOf us) k
+    look-none f = by (descend (binsData h) (hiveOf h .root) (partsOf us)) refl
       where
-        from : ((o : Offset) → Holds (binsData h) (hiveOf h .root) (partsOf us) o → ⊥) → keyLook h us ≡ Missing
-        from f = by (descend (binsData h) (hiveOf h .root) (partsOf us)) refl
-          where
-            by : (l : Look) → descend (binsData h) (hiveOf h .root) (partsOf us) ≡ l → keyLook h us ≡ Missing
-            by (Found y) q = absurd (f y (look-exactly y .0 (found-look q)))
-            by Missing q = missing-look q
-            by (Faulty g) q = absurd (never-faulty (binsData h) (hiveOf h) (w .formed .tiled) levels (hiveOf h .root) (partsOf us) (w .formed .tree) q)
+        by : (l : Way) → descend (binsData h) (hiveOf h .root) (partsOf us) ≡ l
+            → (k : Offset) × (keyLook h us ≡ Missing k) × Deepest (binsData h) (hiveOf h .root) (partsOf us) k
+        by (Found y) q = absurd (f y (look-exactly y .0 (found-look q)))
+        by (Missing k) q =
+            (k, missing-look q, missing-deepest (binsData h) (hiveOf h) (w .formed .tiled) levels (hiveOf h .root) (partsOf us) (w .formed .tree) q)
+        by (Faulty g) q = absurd (never-faulty (binsData h) (hiveOf h) (w .formed .tiled) levels (hiveOf h .root) (partsOf us) (w .formed .tree) q)
 
   -- a malformed path is 16, whatever the tree
-  pub look-malformed : (us : List ℕ) → isPath us ≡ false → keyLook h us ≡ Faulty (flaw PathParts nowhere)
+  pub look-malformed : (us : List ℕ) → isPath us ≡ false → keyLook h us ≡ Faulty (refusalOf noKey (flaw PathParts nowhere))
   unfolding keyLook
   look-malformed us p = rw (open-path us p)
 
 -- The call find_key, said of its own answer.
-pub found-look-is : (l : Look) {o : Offset} → keyFound l ≡ At o → l ≡ Found o
+pub found-look-is : (l : Way) {o : Offset} → keyFound l ≡ At o → l ≡ Found o
 found-look-is (Found y) e = cc
-found-look-is Missing e = absurd (let z : _≡_ {A = ℕ} 0 1 = cc in omega arith)
+found-look-is (Missing k) e = absurd (let z : _≡_ {A = ℕ} 0 1 = cc in omega arith)
 found-look-is (Faulty f) e = absurd (let z : _≡_ {A = ℕ} 0 1 = cc in omega arith)
 
 module _ (h : List ℕ) (w : CleanAndWellFormed h) (us : List ℕ) where
   -- 16 where the path is malformed
-  pub find-malformed : isPath us ≡ false → findAnswer h us ≡ Refused (refusalOf (flaw PathParts nowhere))
+  pub find-malformed : isPath us ≡ false → findAnswer h us ≡ Refused (refusalOf noKey (flaw PathParts nowhere))
   unfolding findAnswer
   find-malformed p = ap keyFound (look-malformed h w us p)
 
@@ -106,11 +106,11 @@ module _ (h : List ℕ) (w : CleanAndWellFormed h) (us : List ℕ) where
     λ r. ap keyFound (look-exactly h w us (held-path h w us r) o .1 r),
   )
 
-  -- 17 where the tree holds none under a path
+  -- 17 where the tree holds none under a path, with the deepest key that it holds along it
   pub find-none : isPath us ≡ true → ((o : Offset) → Holds (binsData h) (hiveOf h .root) (partsOf us) o → ⊥)
-      → findAnswer h us ≡ Refused (refusalOf (flaw NoKey nowhere))
+      → (k : Offset) × (findAnswer h us ≡ Refused (refusalOf k (flaw NoKey nowhere))) × Deepest (binsData h) (hiveOf h .root) (partsOf us) k
   unfolding findAnswer
-  find-none p f = ap keyFound (look-none h w us p .1 f)
+  find-none p f = let x = look-none h w us p f in (x .0, ap keyFound (x .1), x .2)
 
   -- refused exactly if the tree holds no such key, whatever the path
   pub find-refuses : ((r : Refusal) × (findAnswer h us ≡ Refused r)) ↔ ((o : Offset) → Holds (binsData h) (hiveOf h .root) (partsOf us) o → ⊥)
@@ -118,5 +118,5 @@ module _ (h : List ℕ) (w : CleanAndWellFormed h) (us : List ℕ) where
     where
       by : ((o : Offset) → Holds (binsData h) (hiveOf h .root) (partsOf us) o → ⊥) → (t : Bool) → isPath us ≡ t
           → (r : Refusal) × (findAnswer h us ≡ Refused r)
-      by f true p = (refusalOf (flaw NoKey nowhere), find-none p f)
-      by f false p = (refusalOf (flaw PathParts nowhere), find-malformed p)
+      by f true p = let x = find-none p f in (refusalOf (x .0) (flaw NoKey nowhere), x .1)
+      by f false p = (refusalOf noKey (flaw PathParts nowhere), find-malformed p)

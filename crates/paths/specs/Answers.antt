@@ -1,4 +1,5 @@
--- The answer of the call for a key: "Order: 1 to 7; 16; then the records in list order up to the first match [..]; 17". h is the hive, us the path.
+-- The answer of the call for a key: "Order: 1 to 7; 16; then the records in list order up to the first match [..]; 17", each with the key under examination.
+-- h is the hive, us the path.
 use Prim.Native.Nat.{ℕ}
 use mathlib.Core.List.{List}
 use Rattle.fields.specs.declared.Verdict.{Verdict}
@@ -8,24 +9,24 @@ use Rattle.base.specs.Block.{binsData, baseFault}
 use Rattle.tree.specs.Tree.{hiveOf}
 use Rattle.paths.specs.declared.KeyFound.{KeyFound}
 use Rattle.paths.specs.declared.KeyFound.the-variants.{At, Refused}
-use Rattle.paths.specs.declared.Look.{Look}
-use Rattle.paths.specs.declared.Look.the-variants.{Found, Missing, Faulty}
+use Rattle.paths.specs.declared.Way.{Way}
+use Rattle.paths.specs.declared.Way.the-variants.{Found, Missing, Faulty}
 use Rattle.paths.specs.Paths.{partsOf, pathFault}
-use Rattle.paths.specs.Search.{onSound, lookupKey}
+use Rattle.paths.specs.Search.{opened, lookupKey}
 
 -- 1 to 7, then 16
 unfoldable pub openFault : List ℕ → List ℕ → Verdict
 openFault h us = baseFault h next pathFault us
 
 -- the key of that path
-unfoldable pub keyLook : List ℕ → List ℕ → Look
-keyLook h us = onSound (openFault h us) (lookupKey (binsData h) (hiveOf h .root) (partsOf us))
+unfoldable pub keyLook : List ℕ → List ℕ → Way
+keyLook h us = opened (openFault h us) (lookupKey (binsData h) (hiveOf h .root) (partsOf us))
 
--- "17: no such key"
-abbrev pub keyFound : Look → KeyFound
+-- "17: no such key", with the last key that the way stood on
+abbrev pub keyFound : Way → KeyFound
 keyFound (Found o) = At o
-keyFound Missing = Refused (refusalOf (flaw NoKey nowhere))
-keyFound (Faulty f) = Refused (refusalOf f)
+keyFound (Missing k) = Refused (refusalOf k (flaw NoKey nowhere))
+keyFound (Faulty r) = Refused r
 
 -- find_key
 unfoldable pub findAnswer : List ℕ → List ℕ → KeyFound

@@ -1,8 +1,9 @@
 -- What the tree holds, said without a search: a key under a path. d is the bins data.
-use Prim.Native.Nat.{ℕ}
+use Prim.Native.Nat.{ℕ, _≤_}
 use mathlib.Core.Path.{_≡_}
 use mathlib.Core.Bool.{true}
 use mathlib.Core.List.{List, [], _∷_, _++_, List·Memᴰ}
+use lib.ListN.{length}
 use Rattle.fields.specs.declared.Offset.{Offset}
 use Rattle.base.specs.Block.{binsData}
 use Rattle.names.specs.declared.Order.the-variants.{Same}
@@ -20,6 +21,14 @@ pub data Holds (d : List ℕ) : Offset → List (List ℕ) → Offset → Type 0
   here : {o : Offset} → Holds d o [] o
   below : {o e : Offset} {c : Child} {x : List ℕ} {xs : List (List ℕ)} → List·Memᴰ c (children d o) → compare (nameAt d (c .at)) x ≡ Same
       → Holds d (c .at) xs e → Holds d o (x ∷ xs) e
+
+-- the deepest key along a path of names: the tree holds it under the first of them, and none under more
+pub record Deepest (d : List ℕ) (o : Offset) (xs : List (List ℕ)) (k : Offset) : Type 0 where
+  pub front : List (List ℕ)
+  pub rest : List (List ℕ)
+  pub parts : xs ≡ front ++ rest
+  pub held : Holds d o front k
+  pub none-deeper : (ys zs : List (List ℕ)) → xs ≡ ys ++ zs → (e : Offset) → Holds d o ys e → length ys ≤ length front
 
 -- the names along the way from a key down to another, as they are stored
 pub data Named (d : List ℕ) : Offset → List (List ℕ) → Offset → Type 0 where

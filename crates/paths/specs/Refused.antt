@@ -1,4 +1,5 @@
--- What a refusal of the lookup of a key says: the table's rows 1 to 7, 11, 12, 16 and 17, each with its reason. h is the hive, us the path.
+-- What a refusal of the lookup of a key says: the table's rows 1 to 7, 11, 12, 16 and 17, each with its reason, and the key under examination. h is the
+-- hive, us the path.
 use Prim.Native.Nat.{ℕ}
 use mathlib.Core.Path.{_≡_}
 use mathlib.Core.Bool.{false}
@@ -6,19 +7,20 @@ use mathlib.Core.List.{List, _∷_, List·Memᴰ}
 use Rattle.fields.specs.declared.Fault.the-variants.{PathParts, NoKey}
 use Rattle.fields.specs.declared.Flaw.{Flaw}
 use Rattle.fields.specs.declared.Offset.{Offset}
-use Rattle.fields.specs.Faults.{flaw, nowhere}
+use Rattle.fields.specs.Faults.{flaw, nowhere, noKey}
 use Rattle.base.specs.Block.{binsData}
 use Rattle.base.specs.Refused.{OfBase}
 use Rattle.cells.specs.declared.Rule.the-variants.{Header}
 use Rattle.names.specs.declared.Order.the-variants.{Same}
 use Rattle.names.specs.Comparison.{compare}
 use Rattle.records.specs.declared.Child.{Child}
+use Rattle.records.specs.Keys.{keyOf}
 use Rattle.records.specs.Lists.{children}
 use Rattle.values.specs.Refused.{a-key, Fit, Unfit, Among, Lists}
 use Rattle.tree.specs.Tree.{nameAt, hiveOf}
 use Rattle.paths.specs.declared.Look.the-variants.{Missing}
 use Rattle.paths.specs.Paths.{partsOf, isPath}
-use Rattle.paths.specs.Answers.{keyLook}
+use Rattle.paths.specs.Search.{searchBelow}
 
 -- the keys on the way of a path, each with the parts that are still to go
 pub data OnWay (h us : List ℕ) : List (List ℕ) → Offset → Type 0 where
@@ -26,14 +28,15 @@ pub data OnWay (h us : List ℕ) : List (List ℕ) → Offset → Type 0 where
   a-child : {x : List ℕ} {xs : List (List ℕ)} {k : Offset} {c : Child} → OnWay h us (x ∷ xs) k → List·Memᴰ c (children (binsData h) k)
       → compare (nameAt (binsData h) (c .at)) x ≡ Same → Fit Header (binsData h) a-key (c .at) → OnWay h us xs (c .at)
 
--- find_key
-pub data OfKey (h us : List ℕ) : Flaw → Type 0 where
-  of-base : {f : Flaw} → OfBase h f → OfKey h us f
+-- find_key: the key under examination, and the flaw
+pub data OfKey (h us : List ℕ) : Offset → Flaw → Type 0 where
+  of-base : {f : Flaw} → OfBase h f → OfKey h us noKey f
   -- 16: "path: empty part, part over 255 units, over 512 parts"
-  no-path : isPath us ≡ false → OfKey h us (flaw PathParts nowhere)
-  -- 11 and 12: the root, and what a key on the way lists
-  of-root : {f : Flaw} → Unfit Header (binsData h) a-key (hiveOf h .root) f → OfKey h us f
+  no-path : isPath us ≡ false → OfKey h us noKey (flaw PathParts nowhere)
+  -- 11 and 12: of the root, with no key yet; of what a key on the way lists, with that key
+  of-root : {f : Flaw} → Unfit Header (binsData h) a-key (hiveOf h .root) f → OfKey h us noKey f
   of-lists : {x : List ℕ} {xs : List (List ℕ)} {k : Offset} {f : Flaw} → OnWay h us (x ∷ xs) k → Among Header (binsData h) (Lists Header (binsData h) k) f
-      → OfKey h us f
-  -- 17: "no such key"
-  no-key : keyLook h us ≡ Missing → OfKey h us (flaw NoKey nowhere)
+      → OfKey h us k f
+  -- 17: "no such key", with the key on the way that has none of the next name
+  no-key : {x : List ℕ} {xs : List (List ℕ)} {k : Offset} → OnWay h us (x ∷ xs) k → searchBelow (binsData h) x (keyOf (binsData h) k) ≡ Missing
+      → OfKey h us k (flaw NoKey nowhere)

@@ -82,6 +82,13 @@ pub enum Look {
     Faulty(Flaw),
 }
 
+// Where the way along a path ends: at its key, at a key that has no child of the next name, or with a refusal.
+pub enum Way {
+    Found(Offset),
+    Missing(Offset),
+    Faulty(Refusal),
+}
+
 // One key, against a name, which is compared in place.
 fn key_named(bins: &[u8], name: &[u16], c: Child) -> Look
     ensures { λ r. ⌜ r ≡ keyNamed (now (bins .entry)) (now (name .entry)) c ⌝ }
@@ -169,8 +176,8 @@ fn search_below(bins: &[u8], name: &[u16], k: Key) -> Look
     }
 }
 
-// Along the parts of a path, from a key that was tested.
-fn descend(bins: &[u8], from: Offset, path: &[u16]) -> Look
+// Along the parts of a path, from a key that was tested. Each search is made on behalf of the key that the way stands on.
+fn descend(bins: &[u8], from: Offset, path: &[u16]) -> Way
     requires { ⌜ isPath (now path) ≡ true ⌝ }
     requires { ⌜ keyFault Header (now bins) [] from ≡ Sound ⌝ }
     ensures { λ r. ⌜ r ≡ descendTo (now (bins .entry)) from (partsOf (now (path .entry))) ⌝ }
@@ -182,10 +189,10 @@ fn descend(bins: &[u8], from: Offset, path: &[u16]) -> Look
         let k = records::key_fields(bins, key);
         match search_below(bins, &path[start..end], k) {
             Look::Missing => {
-                return Look::Missing;
+                return Way::Missing(key);
             }
             Look::Faulty(f) => {
-                return Look::Faulty(f);
+                return Way::Faulty(fields::refused(key, f));
             }
             Look::Found(o) => {
                 key = o;
@@ -196,16 +203,16 @@ fn descend(bins: &[u8], from: Offset, path: &[u16]) -> Look
             start += 1;
         }
     }
-    Look::Found(key)
+    Way::Found(key)
 }
 
 // The key of a path. The root's own record is read for every path.
-fn lookup_key(bins: &[u8], root: Offset, path: &[u16]) -> Look
+fn lookup_key(bins: &[u8], root: Offset, path: &[u16]) -> Way
     requires { ⌜ isPath (now path) ≡ true ⌝ }
     ensures { λ r. ⌜ r ≡ lookupKey (now (bins .entry)) root (partsOf (now (path .entry))) ⌝ }
 {
     match records::key_at(bins, b"", Rule::Header, root) {
-        Keyed::Flawed(f) => Look::Faulty(f),
+        Keyed::Flawed(f) => Way::Faulty(fields::refused(Offset(fields::NO_KEY), f)),
         Keyed::Whole(_) => descend(bins, root, path),
     }
 }
@@ -227,11 +234,11 @@ fn open_flaw(hive: &[u8], path: &[u16]) -> Verdict
 }
 
 // The key of a path in a hive.
-pub fn key_look(hive: &[u8], path: &[u16]) -> Look
+pub fn key_look(hive: &[u8], path: &[u16]) -> Way
     ensures { λ r. ⌜ r ≡ keyLook (now (hive .entry)) (now (path .entry)) ⌝ }
 {
     match open_flaw(hive, path) {
-        Verdict::Flawed(f) => Look::Faulty(f),
+        Verdict::Flawed(f) => Way::Faulty(fields::refused(Offset(fields::NO_KEY), f)),
         Verdict::Sound => lookup_key(base::bins_of(hive), base::root_of(hive), path),
     }
 }
@@ -246,11 +253,14 @@ pub fn find_key(hive: &[u8], path: &[u16]) -> KeyFound
     ensures { λ r. ⌜ r ≡ findAnswer (now (hive .entry)) (now (path .entry)) ⌝ }
 {
     match key_look(hive, path) {
-        Look::Found(o) => KeyFound::At(o),
-        Look::Missing => KeyFound::Refused(fields::refused(Flaw {
-            fault: Fault::NoKey,
-            place: Offset(0),
-        })),
-        Look::Faulty(f) => KeyFound::Refused(fields::refused(f)),
+        Way::Found(o) => KeyFound::At(o),
+        Way::Missing(key) => KeyFound::Refused(fields::refused(
+            key,
+            Flaw {
+                fault: Fault::NoKey,
+                place: Offset(0),
+            },
+        )),
+        Way::Faulty(r) => KeyFound::Refused(r),
     }
 }

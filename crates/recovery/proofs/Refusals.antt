@@ -1,4 +1,4 @@
--- Every refusal of the repair calls says why, and has place 0.
+-- Every refusal of the repair calls says why, and has place 0 and no key.
 use Prim.Native.Nat.{ℕ, _+_}
 use native.Mathlib.Omega.{arith}
 use mathlib.Core.Path.{_≡_, refl, sym, ap, _∙_}
@@ -13,7 +13,7 @@ use Rattle.fields.specs.declared.Flaw.{Flaw}
 use Rattle.fields.specs.declared.Refusal.{Refusal}
 use Rattle.fields.specs.declared.Verdict.{Verdict}
 use Rattle.fields.specs.declared.Verdict.the-variants.{Sound, Flawed}
-use Rattle.fields.specs.Faults.{flaw, nowhere, unless, refusalOf}
+use Rattle.fields.specs.Faults.{flaw, nowhere, unless, noKey, refusalOf}
 use Rattle.fields.proofs.Bools.{never}
 use Rattle.fields.proofs.Every.{Every, every-unless, every-next}
 use Rattle.base.specs.Block.{sector, clean}
@@ -40,62 +40,62 @@ module _ (h l : List ℕ) where
       (every-unless (OfStart h l) (leb (4096 + logBins l) (length h)) _ (λ e. hive-cut (leb-false _ _ e)))
       (λ b. every-unless (OfStart h l) (applies h l) _ (λ e. stamps-differ e)))
 
-  pub start-refuses : {r : Refusal} → startAnswer h l ≡ started.Refused r → (f : Flaw) × (r ≡ refusalOf f) × OfStart h l f
+  pub start-refuses : {r : Refusal} → startAnswer h l ≡ started.Refused r → (f : Flaw) × (r ≡ refusalOf noKey f) × OfStart h l f
   unfolding startAnswer
   start-refuses {r} e = by (ltb (length h) 4096) refl (clean (sector h)) (testFault h l) refl e
     where
       by : (a : Bool) → ltb (length h) 4096 ≡ a → (b : Bool) (v : Verdict) → testFault h l ≡ v
-          → cond a (started.Refused (refusalOf (flaw named.HiveShort nowhere))) (cond b started.Clean (startedBy v (loggedCount l))) ≡ started.Refused r
-          → (f : Flaw) × (r ≡ refusalOf f) × OfStart h l f
+          → cond a (started.Refused (refusalOf noKey (flaw named.HiveShort nowhere))) (cond b started.Clean (startedBy v (loggedCount l))) ≡ started.Refused r
+          → (f : Flaw) × (r ≡ refusalOf noKey f) × OfStart h l f
       by true s b v p q =
-          (flaw named.HiveShort nowhere, let z : refusalOf (flaw named.HiveShort nowhere) ≡ r = cc in sym z, hive-short (ltb-true _ _ s))
+          (flaw named.HiveShort nowhere, let z : refusalOf noKey (flaw named.HiveShort nowhere) ≡ r = cc in sym z, hive-short (ltb-true _ _ s))
       by false s true v p q = absurd (let z : _≡_ {A = ℕ} 0 1 = cc in omega arith)
       by false s false Sound p q = absurd (let z : _≡_ {A = ℕ} 0 1 = cc in omega arith)
-      by false s false (Flawed f) p q = (f, let z : refusalOf f ≡ r = cc in sym z, tests-refuse f p)
+      by false s false (Flawed f) p q = (f, let z : refusalOf noKey f ≡ r = cc in sym z, tests-refuse f p)
 
   -- a call's own refusal, and one of the tests'
   step-refuses : (P : Flaw → Type 0) → ((f : Flaw) → OfStart h l f → P f) → (t : Bool) (n : Fault) → (t ≡ false → P (flaw n nowhere)) → (r : Refusal)
-      → tested (startAnswer h l) (cond t stepped.Done (stepped.Refused (refusalOf (flaw n nowhere)))) ≡ stepped.Refused r
-      → (f : Flaw) × (r ≡ refusalOf f) × P f
+      → tested (startAnswer h l) (cond t stepped.Done (stepped.Refused (refusalOf noKey (flaw n nowhere)))) ≡ stepped.Refused r
+      → (f : Flaw) × (r ≡ refusalOf noKey f) × P f
   step-refuses P up t n own r e = by (startAnswer h l) refl t refl e
     where
-      by : (s : Started) → startAnswer h l ≡ s → (b : Bool) → t ≡ b → tested s (cond b stepped.Done (stepped.Refused (refusalOf (flaw n nowhere)))) ≡ stepped.Refused r
-          → (f : Flaw) × (r ≡ refusalOf f) × P f
+      by : (s : Started) → startAnswer h l ≡ s → (b : Bool) → t ≡ b → tested s (cond b stepped.Done (stepped.Refused (refusalOf noKey (flaw n nowhere)))) ≡ stepped.Refused r
+          → (f : Flaw) × (r ≡ refusalOf noKey f) × P f
       by started.Clean p b w q = absurd (let z : _≡_ {A = ℕ} 0 1 = cc in omega arith)
       by (started.Pages k) p true w q = absurd (let z : _≡_ {A = ℕ} 0 1 = cc in omega arith)
-      by (started.Pages k) p false w q = (flaw n nowhere, let z : refusalOf (flaw n nowhere) ≡ r = cc in sym z, own w)
+      by (started.Pages k) p false w q = (flaw n nowhere, let z : refusalOf noKey (flaw n nowhere) ≡ r = cc in sym z, own w)
       by (started.Refused s) p b w q =
           let z : s ≡ r = cc in
           let x = start-refuses (p ∙ ap started.Refused z) in
           (x .0, x .1, up (x .0) (x .2))
 
-  pub page-refuses : (p : ℕ) {r : Refusal} → pageAnswer h l p ≡ stepped.Refused r → (f : Flaw) × (r ≡ refusalOf f) × OfPage h l p f
+  pub page-refuses : (p : ℕ) {r : Refusal} → pageAnswer h l p ≡ stepped.Refused r → (f : Flaw) × (r ≡ refusalOf noKey f) × OfPage h l p f
   unfolding pageAnswer
   page-refuses p {r} e = step-refuses (OfPage h l p) (λ f s. page-start s) (isLogged l p) named.NotDirty (λ w. not-dirty w) r e
 
-  pub close-refuses : {r : Refusal} → closeAnswer h l ≡ stepped.Refused r → (f : Flaw) × (r ≡ refusalOf f) × OfClose h l f
+  pub close-refuses : {r : Refusal} → closeAnswer h l ≡ stepped.Refused r → (f : Flaw) × (r ≡ refusalOf noKey f) × OfClose h l f
   unfolding closeAnswer
   close-refuses {r} e = step-refuses (OfClose h l) (λ f s. close-start s) (allIn h l) named.NotIn (λ w. not-in w) r e
 
   -- all pages at once have no refusal of their own
-  pub all-refuses : {r : Refusal} → allAnswer h l ≡ stepped.Refused r → (f : Flaw) × (r ≡ refusalOf f) × OfStart h l f
+  pub all-refuses : {r : Refusal} → allAnswer h l ≡ stepped.Refused r → (f : Flaw) × (r ≡ refusalOf noKey f) × OfStart h l f
   unfolding allAnswer
   all-refuses {r} e = step-refuses (OfStart h l) (λ f s. s) true named.NotDirty (λ w. absurd (never true refl w)) r e
 
-pub next-refuses : (l : List ℕ) (from : ℕ) {r : Refusal} → nextAnswer l from ≡ next.Refused r → (f : Flaw) × (r ≡ refusalOf f) × OfLog l f
+pub next-refuses : (l : List ℕ) (from : ℕ) {r : Refusal} → nextAnswer l from ≡ next.Refused r → (f : Flaw) × (r ≡ refusalOf noKey f) × OfLog l f
 unfolding nextAnswer
 next-refuses l from {r} e = by (logFault l) refl (nextLogged l from) e
   where
-    by : (v : Verdict) → logFault l ≡ v → (n : Next) → nextTested v (nextOf l n) ≡ next.Refused r → (f : Flaw) × (r ≡ refusalOf f) × OfLog l f
+    by : (v : Verdict) → logFault l ≡ v → (n : Next) → nextTested v (nextOf l n) ≡ next.Refused r → (f : Flaw) × (r ≡ refusalOf noKey f) × OfLog l f
     by Sound p (following.At k) q = absurd (let z : _≡_ {A = ℕ} 0 1 = cc in omega arith)
     by Sound p following.Nothing q = absurd (let z : _≡_ {A = ℕ} 0 1 = cc in omega arith)
-    by (Flawed f) p n q = (f, let z : refusalOf f ≡ r = cc in sym z, log-refuses l f p)
+    by (Flawed f) p n q = (f, let z : refusalOf noKey f ≡ r = cc in sym z, log-refuses l f p)
 
-pub mark-refuses : (l : List ℕ) (from : ℕ) {r : Refusal} → markAnswer l from ≡ mark.Refused r → (f : Flaw) × (r ≡ refusalOf f) × OfHead l f
+pub mark-refuses : (l : List ℕ) (from : ℕ) {r : Refusal} → markAnswer l from ≡ mark.Refused r → (f : Flaw) × (r ≡ refusalOf noKey f) × OfHead l f
 unfolding markAnswer
 mark-refuses l from {r} e = by (headFault l) refl (nextLogged l from) e
   where
-    by : (v : Verdict) → headFault l ≡ v → (n : Next) → markTested v (markOf n) ≡ mark.Refused r → (f : Flaw) × (r ≡ refusalOf f) × OfHead l f
+    by : (v : Verdict) → headFault l ≡ v → (n : Next) → markTested v (markOf n) ≡ mark.Refused r → (f : Flaw) × (r ≡ refusalOf noKey f) × OfHead l f
     by Sound p (following.At k) q = absurd (let z : _≡_ {A = ℕ} 0 1 = cc in omega arith)
     by Sound p following.Nothing q = absurd (let z : _≡_ {A = ℕ} 0 1 = cc in omega arith)
-    by (Flawed f) p n q = (f, let z : refusalOf f ≡ r = cc in sym z, head-refuses l f p)
+    by (Flawed f) p n q = (f, let z : refusalOf noKey f ≡ r = cc in sym z, head-refuses l f p)

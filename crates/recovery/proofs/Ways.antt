@@ -11,7 +11,7 @@ use Rattle.fields.specs.declared.Flaw.{Flaw}
 use Rattle.fields.specs.declared.Fault.the-variants.{HiveShort, HiveCut, Stamps}
 use Rattle.fields.specs.declared.Verdict.{Verdict}
 use Rattle.fields.specs.declared.Verdict.the-variants.{Sound, Flawed}
-use Rattle.fields.specs.Faults.{flaw, nowhere, refusalOf, unless}
+use Rattle.fields.specs.Faults.{flaw, nowhere, noKey, refusalOf, unless}
 use Rattle.fields.proofs.Firsts.{on, stop, both, held, holds, fails}
 use Rattle.base.specs.Block.{sector, clean}
 use Rattle.logs.specs.declared.Tested.the-variants as log
@@ -50,7 +50,7 @@ module _ (h l : List ℕ) where
 
   -- ---- the start
 
-  pub short : length h < 4096 → startAnswer h l ≡ Refused (refusalOf (flaw HiveShort nowhere))
+  pub short : length h < 4096 → startAnswer h l ≡ Refused (refusalOf noKey (flaw HiveShort nowhere))
   unfolding startAnswer
   short p = rw (lt-ltb (length h) 4096 p)
 
@@ -87,7 +87,7 @@ module _ (h l : List ℕ) where
     pub tests : testFault h l ≡ Sound
     pub count : loggedCount l ≡ n
 
-  begun-of : (a b : Bool) (v : Verdict) (k n : ℕ) → cond a (Refused (refusalOf (flaw HiveShort nowhere))) (cond b Clean (started v k)) ≡ Pages n
+  begun-of : (a b : Bool) (v : Verdict) (k n : ℕ) → cond a (Refused (refusalOf noKey (flaw HiveShort nowhere))) (cond b Clean (started v k)) ≡ Pages n
       → (a ≡ false) × (b ≡ false) × (v ≡ Sound) × (k ≡ n)
   begun-of true b v k n e = absurd (let z : _≡_ {A = ℕ} 0 1 = cc in omega arith)
   begun-of false true v k n e = absurd (let z : _≡_ {A = ℕ} 0 1 = cc in omega arith)

@@ -12,7 +12,7 @@ use borrow.Author.Tests.{le-leb}
 use Rattle.fields.specs.declared.Verdict.{Verdict}
 use Rattle.fields.specs.declared.Verdict.the-variants.{Sound}
 use Rattle.fields.specs.declared.Fault.the-variants.{NotDirty, NotIn}
-use Rattle.fields.specs.Faults.{flaw, nowhere, refusalOf}
+use Rattle.fields.specs.Faults.{flaw, nowhere, noKey, refusalOf}
 use Rattle.fields.proofs.Firsts.{sound, holds}
 use Rattle.base.specs.Block.{sector, clean}
 use Rattle.sectors.specs.Sector.{stored, pagePlace, page}
@@ -101,25 +101,25 @@ module _ (h l : List ℕ) (n : ℕ) (ok : startAnswer h l ≡ Pages n) where
 
     pub page-done : (p : ℕ) → isLogged l p ≡ true → pageAnswer d l p ≡ Done
     page-done p e =
-        page-answer d l (Pages n) reached p ∙ ap (λ (b : Bool). cond b Done (Refused (refusalOf (flaw NotDirty nowhere)))) e
+        page-answer d l (Pages n) reached p ∙ ap (λ (b : Bool). cond b Done (Refused (refusalOf noKey (flaw NotDirty nowhere)))) e
 
     -- and only where the page is logged
     pub done-logged : (p : ℕ) → pageAnswer d l p ≡ Done → isLogged l p ≡ true
     done-logged p e = go (isLogged l p) (sym (page-answer d l (Pages n) reached p) ∙ e)
       where
-        go : (b : Bool) → cond b Done (Refused (refusalOf (flaw NotDirty nowhere))) ≡ Done → b ≡ true
+        go : (b : Bool) → cond b Done (Refused (refusalOf noKey (flaw NotDirty nowhere))) ≡ Done → b ≡ true
         go true e = refl
         go false e = absurd (let z : _≡_ {A = ℕ} 0 1 = cc in omega arith)
 
     pub page-stores : (p : ℕ) → isLogged l p ≡ true → pageHive d l p ≡ stored d (pagePlace p) (logged l p)
     page-stores p e =
         page-hive d l (Pages n) reached p
-        ∙ ap (λ (b : Bool). changed (cond b Done (Refused (refusalOf (flaw NotDirty nowhere)))) (stored d (pagePlace p) (logged l p)) d) e
+        ∙ ap (λ (b : Bool). changed (cond b Done (Refused (refusalOf noKey (flaw NotDirty nowhere)))) (stored d (pagePlace p) (logged l p)) d) e
 
     pub page-not : (p : ℕ) → isLogged l p ≡ false → pageHive d l p ≡ d
     page-not p e =
         page-hive d l (Pages n) reached p
-        ∙ ap (λ (b : Bool). changed (cond b Done (Refused (refusalOf (flaw NotDirty nowhere)))) (stored d (pagePlace p) (logged l p)) d) e
+        ∙ ap (λ (b : Bool). changed (cond b Done (Refused (refusalOf noKey (flaw NotDirty nowhere)))) (stored d (pagePlace p) (logged l p)) d) e
 
     pub within-page : (p : ℕ) → Within h l (pageHive d l p)
     within-page p = go (isLogged l p) refl
@@ -153,12 +153,12 @@ module _ (h l : List ℕ) (n : ℕ) (ok : startAnswer h l ≡ Pages n) where
     pub close-all : closeAnswer d l ≡ Done → AllIn d l
     close-all e p m = all-in d l (good .log) (go (allIn d l) (sym closing ∙ e)) p m
       where
-        go : (b : Bool) → cond b Done (Refused (refusalOf (flaw NotIn nowhere))) ≡ Done → b ≡ true
+        go : (b : Bool) → cond b Done (Refused (refusalOf noKey (flaw NotIn nowhere))) ≡ Done → b ≡ true
         go true e = refl
         go false e = absurd (let z : _≡_ {A = ℕ} 0 1 = cc in omega arith)
 
     pub all-close : AllIn d l → closeAnswer d l ≡ Done
-    all-close i = closing ∙ ap (λ (b : Bool). cond b Done (Refused (refusalOf (flaw NotIn nowhere)))) (in-all d l i)
+    all-close i = closing ∙ ap (λ (b : Bool). cond b Done (Refused (refusalOf noKey (flaw NotIn nowhere)))) (in-all d l i)
 
     pub close-stores : AllIn d l → closeHive d l ≡ stored d 0 (closingOf l)
     unfolding closeHive

@@ -4,7 +4,7 @@ use mathlib.Core.Bool.{cond}
 use mathlib.Core.List.{List, [], _∷_, _++_}
 use Rattle.fields.specs.declared.Verdict.{Verdict}
 use Rattle.fields.specs.declared.Verdict.the-variants.{Sound, Flawed}
-use Rattle.fields.specs.Faults.{refusalOf}
+use Rattle.fields.specs.Faults.{noKey, refusalOf}
 use Rattle.bitmap.specs.declared.Next.{Next}
 use Rattle.bitmap.specs.declared.Next.the-variants as next
 use Rattle.sectors.specs.Sector.{pagePlace}
@@ -39,7 +39,7 @@ markOf next.Nothing = mark.NoMore
 
 abbrev pub markTested : Verdict → NextMark → NextMark
 markTested Sound a = a
-markTested (Flawed f) a = mark.Refused (refusalOf f)
+markTested (Flawed f) a = mark.Refused (refusalOf noKey f)
 
 unfoldable pub markAnswer : List ℕ → ℕ → NextMark
 markAnswer l from = markTested (headFault l) (markOf (nextLogged l from))

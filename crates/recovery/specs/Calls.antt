@@ -7,7 +7,7 @@ use lib.ListN.{length}
 use Rattle.fields.specs.declared.Fault.the-variants.{HiveShort, HiveCut, Stamps, NotDirty, NotIn}
 use Rattle.fields.specs.declared.Verdict.{Verdict}
 use Rattle.fields.specs.declared.Verdict.the-variants.{Sound, Flawed}
-use Rattle.fields.specs.Faults.{flaw, nowhere, refusalOf, unless, _next_}
+use Rattle.fields.specs.Faults.{flaw, nowhere, noKey, refusalOf, unless, _next_}
 use Rattle.base.specs.Block.{sector, clean}
 use Rattle.bitmap.specs.declared.Next.{Next}
 use Rattle.bitmap.specs.declared.Next.the-variants as next
@@ -33,12 +33,12 @@ testFault h l = logFault l next hiveFault h l
 -- "An accepted start gives the number of set bits."
 abbrev pub started : Verdict → ℕ → Started
 started Sound n = start.Pages n
-started (Flawed f) n = start.Refused (refusalOf f)
+started (Flawed f) n = start.Refused (refusalOf noKey f)
 
 -- "Order: 1; a clean hive answers "clean" and nothing changes, whatever the log; 21; [..]"
 unfoldable pub startAnswer : List ℕ → List ℕ → Started
 startAnswer h l =
-    cond (ltb (length h) 4096) (start.Refused (refusalOf (flaw HiveShort nowhere)))
+    cond (ltb (length h) 4096) (start.Refused (refusalOf noKey (flaw HiveShort nowhere)))
     (cond (clean (sector h)) start.Clean (started (testFault h l) (loggedCount l)))
 
 -- "Every call makes all these tests first": what a call answers where it alone would answer a
@@ -55,7 +55,7 @@ changed (step.Refused r) new old = old
 
 -- "A page call names a page (26) and writes its 512 bytes and no others."
 abbrev pub installed : List ℕ → ℕ → Stepped
-installed l p = cond (isLogged l p) step.Done (step.Refused (refusalOf (flaw NotDirty nowhere)))
+installed l p = cond (isLogged l p) step.Done (step.Refused (refusalOf noKey (flaw NotDirty nowhere)))
 
 unfoldable pub pageAnswer : List ℕ → List ℕ → ℕ → Stepped
 pageAnswer h l p = tested (startAnswer h l) (installed l p)
@@ -65,7 +65,7 @@ pageHive h l p = changed (pageAnswer h l p) (stored h (pagePlace p) (logged l p)
 
 -- "The closing call (27) writes the log's first 512 bytes with type 0 and a new checksum to the hive's first 512."
 abbrev pub closed : List ℕ → List ℕ → Stepped
-closed h l = cond (allIn h l) step.Done (step.Refused (refusalOf (flaw NotIn nowhere)))
+closed h l = cond (allIn h l) step.Done (step.Refused (refusalOf noKey (flaw NotIn nowhere)))
 
 unfoldable pub closeAnswer : List ℕ → List ℕ → Stepped
 closeAnswer h l = tested (startAnswer h l) (closed h l)
@@ -80,7 +80,7 @@ nextOf l next.Nothing = page.NoMore
 
 abbrev pub nextTested : Verdict → NextPage → NextPage
 nextTested Sound a = a
-nextTested (Flawed f) a = page.Refused (refusalOf f)
+nextTested (Flawed f) a = page.Refused (refusalOf noKey f)
 
 unfoldable pub nextAnswer : List ℕ → ℕ → NextPage
 nextAnswer l from = nextTested (logFault l) (nextOf l (nextLogged l from))

@@ -1,5 +1,5 @@
--- What a refusal of the repair calls says: the table's rows 1 and 21 to 27, with place 0, each with its reason. h is the hive and l the log. What a
--- refusal by the log's own tests says, 21 to 23, is `OfHead` (next_mark) and `OfLog` (next_page) of logs/specs/Refused.antt.
+-- What a refusal of the repair calls says: the table's rows 1 and 21 to 27, with place 0 and no key, each with its reason. h is the hive and l the log. What
+-- a refusal by the log's own tests says, 21 to 23, is `OfHead` (next_mark) and `OfLog` (next_page) of logs/specs/Refused.antt.
 use Prim.Native.Nat.{ℕ, _+_, _<_}
 use mathlib.Core.Path.{_≡_}
 use mathlib.Core.Bool.{false}

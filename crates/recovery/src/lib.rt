@@ -9,7 +9,7 @@ use fields::Verdict;
 use logs::Tested;
 ghost use mathlib.Core.Path.{_≡_};
 ghost use Rattle.fields.specs.declared.Verdict.the-variants.{Sound};
-ghost use Rattle.fields.specs.Faults.{flaw, nowhere, refusalOf};
+ghost use Rattle.fields.specs.Faults.{flaw, nowhere, noKey, refusalOf};
 ghost use Rattle.sectors.specs.Sector.{stored, pagePlace};
 ghost use Rattle.logs.specs.Logs.{headFault, logFault, loggedCount, logged, nextLogged, closingOf};
 ghost use Rattle.recovery.specs.Calls.{hiveFault, testFault, started, startAnswer, installed, closed, changed, pageAnswer, pageHive, closeAnswer, closeHive, nextOf, nextAnswer};
@@ -45,14 +45,17 @@ pub enum NextMark {
     Refused(Refusal),
 }
 
-// A refusal of recovery: its place is always 0.
+// A refusal of recovery: its place is always 0, and there is no key.
 fn refuse(fault: Fault) -> Refusal
-    ensures { λ r. ⌜ r ≡ refusalOf (flaw fault nowhere) ⌝ }
+    ensures { λ r. ⌜ r ≡ refusalOf noKey (flaw fault nowhere) ⌝ }
 {
-    fields::refused(Flaw {
-        fault,
-        place: Offset(0),
-    })
+    fields::refused(
+        Offset(fields::NO_KEY),
+        Flaw {
+            fault,
+            place: Offset(0),
+        },
+    )
 }
 
 // 24; 25.
@@ -74,9 +77,9 @@ fn log_tests(hive: &[u8], log: &[u8]) -> Started
     ensures { λ r. ⌜ r ≡ started (testFault (now (hive .entry)) (now (log .entry))) (loggedCount (now (log .entry))) ⌝ }
 {
     match logs::log_test(log) {
-        Tested::Flawed(f) => Started::Refused(fields::refused(f)),
+        Tested::Flawed(f) => Started::Refused(fields::refused(Offset(fields::NO_KEY), f)),
         Tested::Logged(n) => match hive_flaw(hive, log) {
-            Verdict::Flawed(f) => Started::Refused(fields::refused(f)),
+            Verdict::Flawed(f) => Started::Refused(fields::refused(Offset(fields::NO_KEY), f)),
             Verdict::Sound => Started::Pages(n),
         },
     }
@@ -166,7 +169,7 @@ pub fn next_page(log: &[u8], from: usize) -> NextPage
     ensures { λ r. ⌜ r ≡ nextAnswer (now (log .entry)) from ⌝ }
 {
     match logs::log_test(log) {
-        Tested::Flawed(f) => NextPage::Refused(fields::refused(f)),
+        Tested::Flawed(f) => NextPage::Refused(fields::refused(Offset(fields::NO_KEY), f)),
         Tested::Logged(_) => next_of(log, from),
     }
 }
@@ -206,7 +209,7 @@ pub fn next_mark(log: &[u8], from: usize) -> NextMark
     ensures { λ r. ⌜ r ≡ markAnswer (now (log .entry)) from ⌝ }
 {
     match logs::head_flaw(log) {
-        Verdict::Flawed(f) => NextMark::Refused(fields::refused(f)),
+        Verdict::Flawed(f) => NextMark::Refused(fields::refused(Offset(fields::NO_KEY), f)),
         Verdict::Sound => mark_of(log, from),
     }
 }

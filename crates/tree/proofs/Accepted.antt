@@ -29,7 +29,7 @@ use Rattle.records.specs.Lists.{childrenBelow, children}
 use Rattle.tree.specs.declared.Hive.{Hive}
 use Rattle.tree.specs.declared.Arrival.{Arrival}
 use Rattle.tree.specs.declared.Arrival.the-variants.{Start, First, After}
-use Rattle.tree.specs.Tree.{Free, _after_, chargeOf, nameAt, parentFault, isBefore, orderFault, placeFault, hashFault, levelFault, totalFault, restFault, ownFault, keyCharge, listCharge, treeCharge, levels, rootChild}
+use Rattle.tree.specs.Tree.{Free, _after_, chargeOf, holder, nameAt, parentFault, isBefore, orderFault, placeFault, hashFault, levelFault, totalFault, restFault, ownFault, keyCharge, listCharge, treeCharge, levels, rootChild}
 use Rattle.tree.specs.WellFormed.{KeyStands, ChildStands, Ascends, none, more, TreeStands, key}
 use Rattle.tree.proofs.Facts.{key-exactly}
 use Rattle.tree.proofs.Stands.{values-of, of-values, lists-of, of-lists, key-of, of-key}
@@ -176,8 +176,8 @@ module _ (d m : List ℕ) (hive : Hive) (tiles : BinsTile d 0) (mapped : Mapped 
       → hashFault d (keyOf d (c .at)) c ≡ Sound → keyCharge d m hive (suc n) c l ≡ Free
   unfolding keyCharge ownFault restFault levelFault
   of-stands n c l s p h =
-      free _ _ (ap chargeOf (of-key Map d m (in-use-sound d tiles m mapped) (c .at) (s .in-use) (key-exactly (dataAt d (c .at)) .1 (s .record-good))))
-      (ap chargeOf
+      free _ _ (ap (chargeOf (holder l)) (of-key Map d m (in-use-sound d tiles m mapped) (c .at) (s .in-use) (key-exactly (dataAt d (c .at)) .1 (s .record-good))))
+      (ap (chargeOf (c .at))
       (sound _ _ p
       (sound _ _ h
       (sound Sound _ refl

@@ -3,6 +3,7 @@ use Prim.Native.Nat.{ℕ, zero, suc}
 use native.Mathlib.Omega.{arith}
 use mathlib.Core.Path.{_≡_, refl}
 use mathlib.Core.List.{List}
+use Rattle.fields.specs.declared.Offset.{Offset}
 use Rattle.fields.specs.declared.Verdict.{Verdict}
 use Rattle.fields.specs.declared.Verdict.the-variants.{Sound, Flawed}
 use Rattle.fields.proofs.Firsts.{both}
@@ -15,7 +16,7 @@ use Rattle.values.specs.Lists.{valuesFault}
 use Rattle.tree.specs.declared.Hive.{Hive}
 use Rattle.tree.specs.declared.Arrival.{Arrival}
 use Rattle.tree.specs.declared.Arrival.the-variants.{First}
-use Rattle.tree.specs.Tree.{Charge, Free, Of, _after_, chargeOf, placeFault, hashFault, levelFault, totalFault, restFault, ownFault, keyCharge, listCharge, treeCharge}
+use Rattle.tree.specs.Tree.{Charge, Free, Of, _after_, chargeOf, holder, placeFault, hashFault, levelFault, totalFault, restFault, ownFault, keyCharge, listCharge, treeCharge}
 
 pub both-free : (a b : Charge) → a after b ≡ Free → (a ≡ Free) × (b ≡ Free)
 unfolding _after_
@@ -31,9 +32,9 @@ unfolding _after_
 after-assoc Free b c = refl
 after-assoc (Of f) b c = refl
 
-pub clear-of : (v : Verdict) → chargeOf v ≡ Free → v ≡ Sound
-clear-of Sound e = refl
-clear-of (Flawed f) e = absurd (let z : _≡_ {A = ℕ} 0 1 = cc in omega arith)
+pub clear-of : (key : Offset) (v : Verdict) → chargeOf key v ≡ Free → v ≡ Sound
+clear-of key Sound e = refl
+clear-of key (Flawed f) e = absurd (let z : _≡_ {A = ℕ} 0 1 = cc in omega arith)
 
 -- what a key's own tests say, part by part
 pub record Own (d m : List ℕ) (hive : Hive) (n : ℕ) (k : Key) (c : Child) (l : Arrival) : Type 0 where
@@ -64,8 +65,8 @@ module _ (d m : List ℕ) (hive : Hive) where
       → (keyFault Map d m (c .at) ≡ Sound) × Own d m hive n (keyOf d (c .at)) c l
   unfolding keyCharge
   key-parts n c l e =
-      let x = both-free (chargeOf (keyFault Map d m (c .at))) _ e in
-      (clear-of _ (x .0), own-parts n (keyOf d (c .at)) c l (clear-of _ (x .1)))
+      let x = both-free (chargeOf (holder l) (keyFault Map d m (c .at))) _ e in
+      (clear-of (holder l) _ (x .0), own-parts n (keyOf d (c .at)) c l (clear-of (c .at) _ (x .1)))
 
   pub key-zero : (c : Child) (l : Arrival) → keyCharge d m hive 0 c l ≡ Free → ⊥
   key-zero c l e = level-zero c (key-parts 0 c l e .1 .level)

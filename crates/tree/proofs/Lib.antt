@@ -11,3 +11,4 @@ pub mod Elements
 pub mod Roots
 pub mod Tells
 pub mod Maps
+pub mod Examines

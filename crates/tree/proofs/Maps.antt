@@ -10,7 +10,7 @@ use Rattle.fields.specs.declared.Flaw.{Flaw}
 use Rattle.fields.specs.declared.Refusal.{Refusal}
 use Rattle.fields.specs.declared.Verdict.{Verdict}
 use Rattle.fields.specs.declared.Verdict.the-variants.{Sound, Flawed}
-use Rattle.fields.specs.Faults.{numberOf, refusalOf}
+use Rattle.fields.specs.Faults.{numberOf, noKey, refusalOf}
 use Rattle.base.specs.Block.{sector, binsOf, binsData}
 use Rattle.base.proofs.Laws.{base-facts}
 use Rattle.cells.specs.declared.Surveyed.{Surveyed}
@@ -34,8 +34,8 @@ use Rattle.tree.proofs.Tells.{walk-tells, tree-number}
 module _ (h m : List ℕ) where
   -- the three kinds of answers
   data Ended : Checked → Type 0 where
-    early : {f : Flaw} → frontFault h (length m) ≡ Flawed f → Ended (Refused (refusalOf f))
-    untiled : {f : Flaw} → frontFault h (length m) ≡ Sound → surveyOf (layout (binsData h) 0) 0 0 0 ≡ Untiled f → Ended (Refused (refusalOf f))
+    early : {f : Flaw} → frontFault h (length m) ≡ Flawed f → Ended (Refused (refusalOf noKey f))
+    untiled : {f : Flaw} → frontFault h (length m) ≡ Sound → surveyOf (layout (binsData h) 0) 0 0 0 ≡ Untiled f → Ended (Refused (refusalOf noKey f))
     walked : {t : Tally} {a : Checked} → surveyAnswer h (length m) ≡ Tiled t → ((r : Refusal) → a ≡ Refused r → 11 ≤ numberOf (r .fault)) → Ended a
 
   ended : Ended (checkAnswer h m)
@@ -46,7 +46,7 @@ module _ (h m : List ℕ) where
       on p (Untiled f) q = rw (survey-on h m (binsData h) _ p refl refl .0 ∙ q) (untiled p q)
       on p (Tiled t) q =
           let e = survey-on h m (binsData h) _ p refl refl .0 ∙ q in
-          walked {a = onTiled h m (surveyAnswer h (length m))} e (λ r x. let w = walk-tells h m e (rw e at x) in rw (w .1) (tree-number (binsData h) (hiveOf h) (w .2)))
+          walked {a = onTiled h m (surveyAnswer h (length m))} e (λ r x. let w = walk-tells h m e (rw e at x) in rw (w .2) (tree-number (binsData h) (hiveOf h) (w .3)))
 
       by : (v : Verdict) → frontFault h (length m) ≡ v → Ended (onTiled h m (surveyAnswer h (length m)))
       by Sound p = on p _ refl
@@ -87,7 +87,7 @@ module _ (h m : List ℕ) where
       by : {a : Checked} → Ended a → a ≡ Refused r → mapLeft h m ≡ m
       by (early p) q = survey-front h m p .1
       by (untiled {f} p s) q =
-          let z : refusalOf f ≡ r = cc in
+          let z : refusalOf noKey f ≡ r = cc in
           let n = bins-number (binsData h) (bins-refuse (binsData h) s) in
           absurd (let w : numberOf (f .fault) ≤ 8 = rw (← z) at le in omega (arith, n .0))
       by (walked p n) q = absurd (let w = n r q in omega arith)
@@ -99,7 +99,7 @@ module _ (h m : List ℕ) where
     where
       by : {a : Checked} → Ended a → a ≡ Refused r → take (mapBytes h) (mapLeft h m) ≡ replicate (mapBytes h) 0
       by (early {f} p) q =
-          let z : refusalOf f ≡ r = cc in
+          let z : refusalOf noKey f ≡ r = cc in
           let n = front-number h (length m) p in
           absurd (let w : 9 ≤ numberOf (f .fault) = rw (← z) at low in omega arith)
       by (untiled p s) q = ap (take (mapBytes h)) (zeroed p s) ∙ zeros-front (mapBytes h)
@@ -111,11 +111,11 @@ module _ (h m : List ℕ) where
     where
       by : {a : Checked} → Ended a → a ≡ Refused r → Mapped (binsData h) (mapLeft h m)
       by (early {f} p) q =
-          let z : refusalOf f ≡ r = cc in
+          let z : refusalOf noKey f ≡ r = cc in
           let n = front-number h (length m) p in
           absurd (let w : 11 ≤ numberOf (f .fault) = rw (← z) at low in omega arith)
       by (untiled {f} p s) q =
-          let z : refusalOf f ≡ r = cc in
+          let z : refusalOf noKey f ≡ r = cc in
           let n = bins-number (binsData h) (bins-refuse (binsData h) s) in
           absurd (let w : 11 ≤ numberOf (f .fault) = rw (← z) at low in omega (arith, n .1))
       by (walked {t} p n) q = surveyed h m t p .1 .mapped

@@ -8,7 +8,7 @@ use lib.ListN.{length, length-take, length-drop}
 use Rattle.fields.specs.declared.Flaw.{Flaw}
 use Rattle.fields.specs.declared.Offset.{Offset}
 use Rattle.fields.specs.declared.Refusal.{Refusal}
-use Rattle.fields.specs.Faults.{refusalOf}
+use Rattle.fields.specs.Faults.{noKey, refusalOf}
 use Rattle.base.specs.Block.{sector, minorOf, rootOf, binsLimit, binsData}
 use Rattle.base.proofs.Laws.{base-facts}
 use Rattle.cells.specs.declared.Tally.{Tally}
@@ -54,7 +54,7 @@ module _ (h m : List ℕ) (r : Ready h m) where
       rw (x .0, q)
 
 module _ (h m : List ℕ) where
-  pub check-refused : {f : Flaw} {r : Refusal} → surveyAnswer h (length m) ≡ Untiled f → r ≡ refusalOf f → checkAnswer h m ≡ Refused r
+  pub check-refused : {f : Flaw} {r : Refusal} → surveyAnswer h (length m) ≡ Untiled f → r ≡ refusalOf noKey f → checkAnswer h m ≡ Refused r
   unfolding checkAnswer
   check-refused e q = rw (e, q)
 

@@ -13,7 +13,7 @@ use Rattle.fields.specs.declared.Flaw.{Flaw}
 use Rattle.fields.specs.declared.Refusal.{Refusal}
 use Rattle.fields.specs.declared.Verdict.{Verdict}
 use Rattle.fields.specs.declared.Verdict.the-variants.{Sound, Flawed}
-use Rattle.fields.specs.Faults.{numberOf, flaw, unless, refusalOf}
+use Rattle.fields.specs.Faults.{numberOf, flaw, unless, noKey, refusalOf, Because}
 use Rattle.fields.proofs.Every.{Every, every-sound, every-flaw, every-unless, every-next, every-over}
 use Rattle.base.specs.Block.{binsData}
 use Rattle.cells.specs.declared.Rule.the-variants.{Map}
@@ -41,9 +41,9 @@ use Rattle.tree.specs.declared.Hive.{Hive}
 use Rattle.tree.specs.declared.Report.{Report}
 use Rattle.tree.specs.declared.Arrival.{Arrival}
 use Rattle.tree.specs.declared.Arrival.the-variants.{Start, First, After}
-use Rattle.tree.specs.Tree.{Charge, Free, Of, chargeOf, _after_, nameAt, isBefore, parentFault, orderFault, placeFault, hashFault, levelFault, totalFault, restFault, ownFault, keyCharge, listCharge, treeCharge, levels, hiveOf, rootChild, answer, onTiled, checkAnswer}
-use Rattle.tree.specs.Told.{Because, Reached, the-root, a-child, Follows, at-once, later, OfTree, of-root, of-lists, of-values, of-data, no-order, other-hash, other-parent, root-listed, other-total, too-deep, Told, of-survey, of-tree}
-use Rattle.tree.proofs.Charges.{clear-of, key-parts}
+use Rattle.tree.specs.Tree.{Charge, Free, Of, chargeOf, _after_, holder, nameAt, isBefore, parentFault, orderFault, placeFault, hashFault, levelFault, totalFault, restFault, ownFault, keyCharge, listCharge, treeCharge, levels, hiveOf, rootChild, answer, onTiled, checkAnswer}
+use Rattle.tree.specs.Told.{Reached, the-root, a-child, Follows, at-once, later, OfTree, of-root, of-lists, of-values, of-data, no-order, other-hash, other-parent, root-listed, other-total, too-deep, Told, of-survey, of-tree}
+use Rattle.tree.proofs.Charges.{clear-of, level-zero, key-parts}
 
 follows-in : {b c : Child} {cs : List Child} → Follows b c cs → List·Memᴰ c cs
 follows-in at-once = List·Memᴰ·tail (List·Memᴰ·head refl)
@@ -75,73 +75,77 @@ module _ (d m : List ℕ) (tiles : BinsTile d 0) (mapped : Mapped d m) (hive : H
   reached (at-after k i) f = a-child k (follows-in i) f
 
   -- the key's cell and record
-  record-tells : {n : ℕ} {c : Child} {l : Arrival} → Place n c l → Every (OfTree d hive) (keyFault Map d m (c .at))
-  record-tells at-start f e = of-root (key-unfit Map d m ruled (hive .root) f e)
-  record-tells {c = c} (at-first k i) f e = of-lists k (one-of (its-child i) (key-unfit Map d m ruled (c .at) f e))
-  record-tells {c = c} (at-after k i) f e = of-lists k (one-of (its-child (follows-in i)) (key-unfit Map d m ruled (c .at) f e))
+  record-tells : {lv : ℕ} {c : Child} {l : Arrival} → Place lv c l → (n : ℕ) → lv + n ≡ 513 → Every (OfTree d hive (holder l)) (keyFault Map d m (c .at))
+  record-tells at-start n p f e = of-root (key-unfit Map d m ruled (hive .root) f e)
+  record-tells {c = c} (at-first k i) n p f e = of-lists k (omega arith) (one-of (its-child i) (key-unfit Map d m ruled (c .at) f e))
+  record-tells {c = c} (at-after k i) n p f e = of-lists k (omega arith) (one-of (its-child (follows-in i)) (key-unfit Map d m ruled (c .at) f e))
 
   -- parent or root listed, order, hash
   parent-tells : {n : ℕ} {k : Offset} (c : Child) → Reached d (hive .root) n k → List·Memᴰ c (children d k) → Fit Map d a-key (c .at)
-      → Every (OfTree d hive) (parentFault (hive .root) (keyOf d (c .at)) (c .at) k)
+      → Every (OfTree d hive (c .at)) (parentFault (hive .root) (keyOf d (c .at)) (c .at) k)
   unfolding parentFault
   parent-tells {k = k} c r i g =
-      every-next (OfTree d hive) (unless (eqb (keyOf d (c .at) .parent .0) (k .0)) (flaw named.Parent (c .at))) _
-      (every-unless (OfTree d hive) (eqb (keyOf d (c .at) .parent .0) (k .0)) _ (λ e. other-parent r i g (eqb-false _ _ e)))
-      (λ s. every-unless (OfTree d hive) (not (eqb (c .at .0) (hive .root .0))) _ (λ e. root-listed r i g (same (eqb (c .at .0) (hive .root .0)) refl e)))
+      every-next (OfTree d hive (c .at)) (unless (eqb (keyOf d (c .at) .parent .0) (k .0)) (flaw named.Parent (c .at))) _
+      (every-unless (OfTree d hive (c .at)) (eqb (keyOf d (c .at) .parent .0) (k .0)) _ (λ e. other-parent r i g (eqb-false _ _ e)))
+      (λ s. every-unless (OfTree d hive (c .at)) (not (eqb (c .at .0) (hive .root .0))) _ (λ e. root-listed r i g (same (eqb (c .at .0) (hive .root .0)) refl e)))
     where
       same : (t : Bool) → eqb (c .at .0) (hive .root .0) ≡ t → not t ≡ false → c .at .0 ≡ hive .root .0
       same true p q = eqb-true _ _ p
       same false p q = absurd (let z : _≡_ {A = ℕ} 0 1 = cc in omega arith)
 
   place-tells : {n : ℕ} {c : Child} {l : Arrival} → Place n c l → Fit Map d a-key (c .at)
-      → Every (OfTree d hive) (placeFault d (hive .root) (keyOf d (c .at)) (c .at) l)
+      → Every (OfTree d hive (c .at)) (placeFault d (hive .root) (keyOf d (c .at)) (c .at) l)
   unfolding placeFault orderFault
-  place-tells at-start g = every-sound (OfTree d hive)
+  place-tells at-start g = every-sound (OfTree d hive (hive .root))
   place-tells {c = c} (at-first r i) g = parent-tells c r i g
   place-tells {c = c} (at-after {k = k} {b = b} r i) g =
-      every-next (OfTree d hive) (parentFault (hive .root) (keyOf d (c .at)) (c .at) k) _ (parent-tells c r (follows-in i) g)
-      (λ s. every-unless (OfTree d hive) (isBefore (compare (nameAt d (b .at)) (nameAt d (c .at)))) _ (λ e. no-order r i g (not-before _ e)))
+      every-next (OfTree d hive (c .at)) (parentFault (hive .root) (keyOf d (c .at)) (c .at) k) _ (parent-tells c r (follows-in i) g)
+      (λ s. every-unless (OfTree d hive (c .at)) (isBefore (compare (nameAt d (b .at)) (nameAt d (c .at)))) _ (λ e. no-order r i g (not-before _ e)))
 
-  hash-tells : {n : ℕ} {c : Child} {l : Arrival} → Place n c l → Fit Map d a-key (c .at) → Every (OfTree d hive) (hashFault d (keyOf d (c .at)) c)
+  hash-tells : {n : ℕ} {c : Child} {l : Arrival} → Place n c l → Fit Map d a-key (c .at) → Every (OfTree d hive (c .at)) (hashFault d (keyOf d (c .at)) c)
   unfolding hashFault
-  hash-tells at-start g = every-sound (OfTree d hive)
+  hash-tells at-start g = every-sound (OfTree d hive (hive .root))
   hash-tells {c = c} (at-first r i) g =
-      every-unless (OfTree d hive) (not (c .hashed) || eqb (c .hash) (hashOf (nameAt d (c .at)))) _
+      every-unless (OfTree d hive (c .at)) (not (c .hashed) || eqb (c .hash) (hashOf (nameAt d (c .at)))) _
       (λ e. let h = hashes (c .hashed) (eqb (c .hash) (hashOf (nameAt d (c .at)))) e in other-hash r i g (h .0) (eqb-false _ _ (h .1)))
   hash-tells {c = c} (at-after r i) g =
-      every-unless (OfTree d hive) (not (c .hashed) || eqb (c .hash) (hashOf (nameAt d (c .at)))) _
+      every-unless (OfTree d hive (c .at)) (not (c .hashed) || eqb (c .hash) (hashOf (nameAt d (c .at)))) _
       (λ e. let h = hashes (c .hashed) (eqb (c .hash) (hashOf (nameAt d (c .at)))) e in other-hash r (follows-in i) g (h .0) (eqb-false _ _ (h .1)))
 
   -- the level, the values, the lists and the total
   module _ {lv : ℕ} {k : Offset} (r : Reached d (hive .root) lv k) where
-    level-tells : (n : ℕ) → lv + n ≡ 513 → Every (OfTree d hive) (levelFault n k)
+    level-tells : (n : ℕ) → lv + n ≡ 513 → Every (OfTree d hive k) (levelFault n k)
     unfolding levelFault
-    level-tells zero e = every-flaw (OfTree d hive) (too-deep r (omega arith))
-    level-tells (suc n) e = every-sound (OfTree d hive)
+    level-tells zero e = every-flaw (OfTree d hive k) (too-deep r (omega arith))
+    level-tells (suc n) e = every-sound (OfTree d hive k)
 
-    values-tell : Every (OfTree d hive) (valuesFault Map d m (hive .minor) (keyOf d k))
+    level-left : (n : ℕ) → lv + n ≡ 513 → levelFault n k ≡ Sound → lv ≤ 512
+    level-left zero e s = absurd (level-zero d m hive (record { at = k; hashed = false; hash = 0 }) s)
+    level-left (suc n) e s = omega arith
+
+    values-tell : lv ≤ 512 → Every (OfTree d hive k) (valuesFault Map d m (hive .minor) (keyOf d k))
     unfolding valuesFault wholeValueFault
-    values-tell =
-        every-next (OfTree d hive) (valueListFault Map d m (keyOf d k)) _ (λ f e. of-values r (value-list-unfit Map d m ruled k f e))
-        (λ s. every-over (OfTree d hive) (wholeValueFault Map d m (hive .minor)) (valuesOf d (keyOf d k))
-        (λ v i. every-next (OfTree d hive) (valueFault Map d m v) (dataFault Map d m (dataIn d (hive .minor) v))
-        (λ f e. of-values r (one-of (value-named Map d m ruled k v s i) (value-unfit Map d m ruled v f e)))
-        (λ t f e. of-data r i (value-fit Map d m ruled v t) (data-unfit Map d m ruled (dataIn d (hive .minor) v) f e))))
+    values-tell b =
+        every-next (OfTree d hive k) (valueListFault Map d m (keyOf d k)) _ (λ f e. of-values r b (value-list-unfit Map d m ruled k f e))
+        (λ s. every-over (OfTree d hive k) (wholeValueFault Map d m (hive .minor)) (valuesOf d (keyOf d k))
+        (λ v i. every-next (OfTree d hive k) (valueFault Map d m v) (dataFault Map d m (dataIn d (hive .minor) v))
+        (λ f e. of-values r b (one-of (value-named Map d m ruled k v s i) (value-unfit Map d m ruled v f e)))
+        (λ t f e. of-data r b i (value-fit Map d m ruled v t) (data-unfit Map d m ruled (dataIn d (hive .minor) v) f e))))
 
-    rest-tells : (n : ℕ) → lv + n ≡ 513 → Every (OfTree d hive) (restFault d m (hive .minor) n (keyOf d k) k)
+    rest-tells : (n : ℕ) → lv + n ≡ 513 → Every (OfTree d hive k) (restFault d m (hive .minor) n (keyOf d k) k)
     unfolding restFault totalFault
     rest-tells n e =
-        every-next (OfTree d hive) (levelFault n k) _ (level-tells n e)
-        (λ a. every-next (OfTree d hive) (valuesFault Map d m (hive .minor) (keyOf d k)) _ values-tell
-        (λ b. every-next (OfTree d hive) (listsFault Map d m (keyOf d k)) _ (λ f p. of-lists r (lists-unfit Map d m ruled k f p))
-        (λ c. every-unless (OfTree d hive) (eqb (length (children d k)) (keyOf d k .subkeys)) _ (λ p. other-total r (eqb-false _ _ p)))))
+        every-next (OfTree d hive k) (levelFault n k) _ (level-tells n e)
+        (λ a. every-next (OfTree d hive k) (valuesFault Map d m (hive .minor) (keyOf d k)) _ (values-tell (level-left n e a))
+        (λ b. every-next (OfTree d hive k) (listsFault Map d m (keyOf d k)) _ (λ f p. of-lists r (level-left n e a) (lists-unfit Map d m ruled k f p))
+        (λ c. every-unless (OfTree d hive k) (eqb (length (children d k)) (keyOf d k .subkeys)) _ (λ p. other-total r (eqb-false _ _ p)))))
 
   own-tells : {lv : ℕ} {c : Child} {l : Arrival} → Place lv c l → Fit Map d a-key (c .at) → (n : ℕ) → lv + n ≡ 513
-      → Every (OfTree d hive) (ownFault d m hive n (keyOf d (c .at)) c l)
+      → Every (OfTree d hive (c .at)) (ownFault d m hive n (keyOf d (c .at)) c l)
   unfolding ownFault
   own-tells {c = c} {l = l} p g n e =
-      every-next (OfTree d hive) (placeFault d (hive .root) (keyOf d (c .at)) (c .at) l) _ (place-tells p g)
-      (λ s. every-next (OfTree d hive) (hashFault d (keyOf d (c .at)) c) _ (hash-tells p g) (λ t. rest-tells (reached p g) n e))
+      every-next (OfTree d hive (c .at)) (placeFault d (hive .root) (keyOf d (c .at)) (c .at) l) _ (place-tells p g)
+      (λ s. every-next (OfTree d hive (c .at)) (hashFault d (keyOf d (c .at)) c) _ (hash-tells p g) (λ t. rest-tells (reached p g) n e))
 
   -- a charge, as a flaw
   abbrev Charges : Charge → Type 0
@@ -152,15 +156,16 @@ module _ (d m : List ℕ) (tiles : BinsTile d 0) (mapped : Mapped d m) (hive : H
   after-charges Free b p q r e = q refl r e
   after-charges (Of g) b p q r e = p r e
 
-  flaw-charges : (v : Verdict) → Every (OfTree d hive) v → Charges (chargeOf v)
-  flaw-charges Sound p r e = absurd (let z : _≡_ {A = ℕ} 0 1 = cc in omega arith)
-  flaw-charges (Flawed f) p r e = (f, let z : refusalOf f ≡ r = cc in sym z, p f refl)
+  flaw-charges : (key : Offset) (v : Verdict) → Every (OfTree d hive key) v → Charges (chargeOf key v)
+  flaw-charges key Sound p r e = absurd (let z : _≡_ {A = ℕ} 0 1 = cc in omega arith)
+  flaw-charges key (Flawed f) p r e = (key, f, let z : refusalOf key f ≡ r = cc in sym z, p f refl)
 
   key-charges : {lv : ℕ} {c : Child} {l : Arrival} → Place lv c l → (n : ℕ) → lv + n ≡ 513 → Charges (keyCharge d m hive n c l)
   unfolding keyCharge
   key-charges {c = c} {l = l} p n e =
-      after-charges (chargeOf (keyFault Map d m (c .at))) _ (flaw-charges (keyFault Map d m (c .at)) (record-tells p))
-      (λ s. flaw-charges (ownFault d m hive n (keyOf d (c .at)) c l) (own-tells p (key-fit Map d m ruled (c .at) (clear-of _ s)) n e))
+      after-charges (chargeOf (holder l) (keyFault Map d m (c .at))) _ (flaw-charges (holder l) (keyFault Map d m (c .at)) (record-tells p n e))
+      (λ s. flaw-charges (c .at) (ownFault d m hive n (keyOf d (c .at)) c l)
+      (own-tells p (key-fit Map d m ruled (c .at) (clear-of (holder l) _ s)) n e))
 
   -- what is left of a key's children, and where the first of them is listed
   record Left (lv : ℕ) (k : Offset) (l : Arrival) (cs : List Child) : Type 0 where
@@ -189,18 +194,18 @@ module _ (d m : List ℕ) (tiles : BinsTile d 0) (mapped : Mapped d m) (hive : H
 
 -- its number is one of 11 to 15
 module _ (d : List ℕ) (hive : Hive) where
-  unfit-number : {w : Role} {o : Offset} {f : Flaw} → Unfit Map d w o f → 11 ≤ numberOf (f .fault)
-  unfit-number (no-cell p) = omega arith
-  unfit-number (no-record p q) = omega arith
+  pub unfit-number : {w : Role} {o : Offset} {f : Flaw} → Unfit Map d w o f → (11 ≤ numberOf (f .fault)) × (numberOf (f .fault) ≤ 12)
+  unfit-number (no-cell p) = (omega arith, omega arith)
+  unfit-number (no-record p q) = (omega arith, omega arith)
 
-  among-number : {R : Role → Offset → Type 0} {f : Flaw} → Among Map d R f → 11 ≤ numberOf (f .fault)
+  pub among-number : {R : Role → Offset → Type 0} {f : Flaw} → Among Map d R f → (11 ≤ numberOf (f .fault)) × (numberOf (f .fault) ≤ 12)
   among-number (one-of p u) = unfit-number u
 
-  pub tree-number : {f : Flaw} → OfTree d hive f → 11 ≤ numberOf (f .fault)
-  tree-number (of-root u) = unfit-number u
-  tree-number (of-lists r a) = among-number a
-  tree-number (of-values r a) = among-number a
-  tree-number (of-data r i g a) = among-number a
+  pub tree-number : {k : Offset} {f : Flaw} → OfTree d hive k f → 11 ≤ numberOf (f .fault)
+  tree-number (of-root u) = unfit-number u .0
+  tree-number (of-lists r p a) = among-number a .0
+  tree-number (of-values r p a) = among-number a .0
+  tree-number (of-data r p i g a) = among-number a .0
   tree-number (no-order r i g p) = omega arith
   tree-number (other-hash r i g p q) = omega arith
   tree-number (other-parent r i g p) = omega arith
@@ -228,5 +233,5 @@ module _ (h m : List ℕ) where
   check-tells {r} e = by (surveyAnswer h (length m)) refl e
     where
       by : (s : Surveyed) → surveyAnswer h (length m) ≡ s → onTiled h m s ≡ Refused r → Because (Told h (length m)) r
-      by (Untiled f) p q = (f, let z : refusalOf f ≡ r = cc in sym z, of-survey (survey-refuses h (length m) p))
-      by (Tiled t) p q = let x = walk-tells p q in (x .0, x .1, of-tree (surveyed h m t p .1 .tiles) (x .2))
+      by (Untiled f) p q = (noKey, f, let z : refusalOf noKey f ≡ r = cc in sym z, of-survey (survey-refuses h (length m) p))
+      by (Tiled t) p q = let x = walk-tells p q in (x .0, x .1, x .2, of-tree (surveyed h m t p .1 .tiles) (x .3))

@@ -9,7 +9,7 @@ use Rattle.fields.specs.declared.Offset.{Offset}
 use Rattle.fields.specs.declared.Flaw.{Flaw}
 use Rattle.fields.specs.declared.Verdict.the-variants.{Sound, Flawed}
 use Rattle.fields.specs.declared.Fault.the-variants.{Order, Parent, Level}
-use Rattle.fields.specs.Faults.{flaw, unless, _next_}
+use Rattle.fields.specs.Faults.{flaw, unless, _next_, noKey}
 use Rattle.fields.proofs.Firsts.{on, stop, holds, fails}
 use Rattle.cells.specs.declared.Rule.the-variants.{Map}
 use Rattle.names.specs.declared.Order.{Order as Ordering}
@@ -23,7 +23,7 @@ use Rattle.values.specs.Lists.{valuesFault}
 use Rattle.tree.specs.declared.Hive.{Hive}
 use Rattle.tree.specs.declared.Arrival.{Arrival}
 use Rattle.tree.specs.declared.Arrival.the-variants.{Start, First, After}
-use Rattle.tree.specs.Tree.{nameAt, isBefore, parentFault, orderFault, placeFault, hashFault, levelFault, totalFault, restFault, ownFault}
+use Rattle.tree.specs.Tree.{nameAt, isBefore, parentFault, orderFault, placeFault, hashFault, levelFault, totalFault, restFault, ownFault, holder}
 use Rattle.tree.specs.Steps.{ArrivalFits, Fits, subkeysFault}
 
 module _ (root : Offset) (k : Key) (at p : Offset) where
@@ -60,6 +60,9 @@ module _ (d : List ℕ) (root : Offset) (k : Key) (at : Offset) (l : Arrival) wh
   pub place-on : {p b : Offset} → l ≡ After p b → parentFault root k at p ≡ Sound → placeFault d root k at l ≡ orderFault d b k at
   unfolding placeFault
   place-on e q = rw e (on _ _ q)
+
+pub holder-start : (l : Arrival) → l ≡ Start → holder l ≡ noKey
+holder-start l e = rw e
 
 pub sibling-fits : (d : List ℕ) (l : Arrival) {p b : Offset} → ArrivalFits d l → l ≡ After p b → Fits d b
 sibling-fits d l f e = rw e at f

@@ -25,7 +25,7 @@ use Rattle.tree.specs.declared.Hive.{Hive}
 use Rattle.tree.specs.declared.Arrival.{Arrival}
 use Rattle.tree.specs.declared.Arrival.the-variants.{First, After}
 use Rattle.tree.specs.declared.Walk.the-variants.{Counted, Refused}
-use Rattle.tree.specs.Tree.{Charge, Free, Of, _after_, ownFault, keyCharge, listCharge, treeCharge, joined, keysIn, tally, tallied, walked, keyAnswer, listAnswer}
+use Rattle.tree.specs.Tree.{Charge, Free, Of, _after_, holder, ownFault, keyCharge, listCharge, treeCharge, joined, keysIn, tally, tallied, walked, keyAnswer, listAnswer}
 use Rattle.tree.specs.Steps.{Fits, lastOf}
 use Rattle.tree.proofs.Charges.{both-free, after-assoc, own-parts, level-zero, key-parts, key-free}
 
@@ -75,14 +75,15 @@ charge-append each key l (c ∷ cs) es =
 module _ (d m : List ℕ) (hive : Hive) where
   -- ---- a key
 
-  pub key-record : (n : ℕ) (c : Child) (l : Arrival) (t : Count) {f : Flaw} {r : Refusal} → keyFault Map d m (c .at) ≡ Flawed f → r ≡ refusalOf f
+  pub key-record : (n : ℕ) (c : Child) (l : Arrival) (t : Count) {f : Flaw} {k : Offset} {r : Refusal} → keyFault Map d m (c .at) ≡ Flawed f → k ≡ holder l
+      → r ≡ refusalOf k f
       → keyAnswer d m hive n c l t ≡ Refused r
   unfolding keyAnswer treeCharge keyCharge _after_
-  key-record zero c l t e q = rw (e, q)
-  key-record (suc n) c l t e q = rw (e, q)
+  key-record zero c l t e p q = rw (e, q, p)
+  key-record (suc n) c l t e p q = rw (e, q, p)
 
   pub key-own : (n : ℕ) (c : Child) (l : Arrival) (t : Count) (k : Key) {f : Flaw} {r : Refusal} → k ≡ keyOf d (c .at)
-      → keyFault Map d m (c .at) ≡ Sound → ownFault d m hive n k c l ≡ Flawed f → r ≡ refusalOf f → keyAnswer d m hive n c l t ≡ Refused r
+      → keyFault Map d m (c .at) ≡ Sound → ownFault d m hive n k c l ≡ Flawed f → r ≡ refusalOf (c .at) f → keyAnswer d m hive n c l t ≡ Refused r
   unfolding keyAnswer treeCharge keyCharge _after_
   key-own zero c l t k i e p q = let s = rw i at p in rw (e, s, q)
   key-own (suc n) c l t k i e p q = let s = rw i at p in rw (e, s, q)

@@ -11,7 +11,7 @@ use Rattle.fields.specs.declared.Refusal.{Refusal}
 use Rattle.fields.specs.declared.Verdict.{Verdict}
 use Rattle.fields.specs.declared.Verdict.the-variants.{Sound, Flawed}
 use Rattle.fields.specs.declared.Fault.the-variants.{Order, Parent, Level}
-use Rattle.fields.specs.Faults.{flaw, unless, _next_, refusalOf}
+use Rattle.fields.specs.Faults.{flaw, unless, _next_, noKey, refusalOf}
 use Rattle.base.specs.Block.{sector, minorOf, rootOf, binsData}
 use Rattle.cells.specs.declared.Rule.the-variants.{Map}
 use Rattle.cells.specs.declared.Tally.{Tally}
@@ -42,10 +42,10 @@ pub data Charge : Type 0 where
   Free : Charge
   Of : Refusal → Charge
 
--- a flaw as a refusal: each key's tests are charged in two groups, its own record and the rest
-abbrev pub chargeOf : Verdict → Charge
-chargeOf Sound = Free
-chargeOf (Flawed f) = Of (refusalOf f)
+-- a flaw as a refusal, found in the examination of a key
+abbrev pub chargeOf : Offset → Verdict → Charge
+chargeOf key Sound = Free
+chargeOf key (Flawed f) = Of (refusalOf key f)
 
 -- a charge, and another where there is none
 infixr 60 _after_
@@ -106,8 +106,16 @@ ownFault d m hive n k c l =
     next hashFault d k c
     next restFault d m (hive .minor) n k (c .at)
 
+-- the key that lists a key: at the start there is none
+abbrev pub holder : Arrival → Offset
+holder Start = noKey
+holder (First p) = p
+holder (After p b) = p
+
+-- each key's tests are charged in two groups: its own cell and record to the key that lists it, for it is no key yet, and the rest to itself
 unfoldable pub keyCharge : List ℕ → List ℕ → Hive → ℕ → Child → Arrival → Charge
-keyCharge d m hive n c l = chargeOf (keyFault Map d m (c .at)) after chargeOf (ownFault d m hive n (keyOf d (c .at)) c l)
+keyCharge d m hive n c l =
+    chargeOf (holder l) (keyFault Map d m (c .at)) after chargeOf (c .at) (ownFault d m hive n (keyOf d (c .at)) c l)
 
 -- "A key is checked by way of its lists, and a list by way of its keys."
 unfoldable pub listCharge : (Child → Arrival → Charge) → Offset → Arrival → List Child → Charge
@@ -162,7 +170,7 @@ answer Free r = Accepted r
 answer (Of f) r = Refused f
 
 abbrev pub onTiled : List ℕ → List ℕ → Surveyed → Checked
-onTiled h m (Untiled f) = Refused (refusalOf f)
+onTiled h m (Untiled f) = Refused (refusalOf noKey f)
 onTiled h m (Tiled t) =
     answer (treeCharge (binsData h) (mapLeft h m) (hiveOf h) levels (rootChild (hiveOf h)) Start) (reportOf h t)
 

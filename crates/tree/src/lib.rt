@@ -17,7 +17,7 @@ ghost use Rattle.cells.specs.Named.{dataAt};
 ghost use Rattle.cells.specs.declared.Rule.the-variants.{Map};
 ghost use Rattle.fields.specs.declared.Verdict.the-variants.{Sound};
 ghost use Rattle.records.specs.Lists.{leafChildren, leafFault, childrenBelow, listsFault};
-ghost use Rattle.tree.specs.Tree.{parentFault, orderFault, placeFault, hashFault, restFault, ownFault, tally as tallyOf, keyAnswer, listAnswer, checkAnswer};
+ghost use Rattle.tree.specs.Tree.{parentFault, orderFault, placeFault, hashFault, restFault, ownFault, holder as holderOf, tally as tallyOf, keyAnswer, listAnswer, checkAnswer};
 ghost use Rattle.tree.specs.Steps.{NameLies, Fits, ArrivalFits, subkeysFault, lastOf, Ready, walkAnswer};
 
 // "The check reports bins, keys reached, values (one for each value list element of those keys), used bytes and free bytes"
@@ -190,6 +190,17 @@ fn last_of(bins: &[u8], map: &[u8], o: Offset) -> Offset
     c.at
 }
 
+// The key on whose behalf a key's own cell and record are tested: the one that lists it. At the start there is none.
+fn holder(l: Arrival) -> Offset
+    ensures { λ r. ⌜ r ≡ holderOf l ⌝ }
+{
+    match l {
+        Arrival::Start => Offset(fields::NO_KEY),
+        Arrival::First(p) => p,
+        Arrival::After(p, _) => p,
+    }
+}
+
 // "A key is checked by way of its lists, and a list by way of its keys." The levels left fall with each key; lists and leaves are walked in loops.
 fn check_key(
     bins: &[u8],
@@ -205,9 +216,9 @@ fn check_key(
 {
     let at = c.at;
     match records::key_at(bins, map, Rule::Map, at) {
-        Keyed::Flawed(f) => Walk::Refused(fields::refused(f)),
+        Keyed::Flawed(f) => Walk::Refused(fields::refused(holder(l), f)),
         Keyed::Whole(k) => match own_flaw(bins, map, hive, levels, k, c, l) {
-            Verdict::Flawed(f) => Walk::Refused(fields::refused(f)),
+            Verdict::Flawed(f) => Walk::Refused(fields::refused(at, f)),
             Verdict::Sound => {
                 let u = tally(t, k);
                 check_list(bins, map, hive, at, k, levels - 1, u)
@@ -326,7 +337,7 @@ pub fn check(hive: &[u8], map: &mut [u8]) -> Checked
     ensures { λ _. ⌜ now (map .exit) ≡ mapLeft (now (hive .entry)) (now (map .entry)) ⌝ }
 {
     match cells::survey(hive, map) {
-        Surveyed::Refused(f) => Checked::Refused(fields::refused(f)),
+        Surveyed::Refused(f) => Checked::Refused(fields::refused(Offset(fields::NO_KEY), f)),
         Surveyed::Tiled(t) => walk_tree(hive, map, t),
     }
 }

@@ -1,4 +1,3 @@
-use Rattle.hive_c.specs.Flat.{noKey}
 use Prim.Native.Nat.{ℕ}
 use mathlib.Core.Path.{ap}
 use borrow.Author.Needs.{needs}
@@ -9,7 +8,7 @@ number-requires : tie.Need-number-requires
 number-requires c κs = search needs
 
 returns : tie.Need-returns
-returns c = ap (λ (n : ℕ). record { number = n; place = c .before .args .f .place .0; key = noKey; value = 0 }) (c .number .ensures)
+returns c = ap (λ (n : ℕ). record { number = n; place = c .before .args .f .place .0; key = c .before .args .f .key .0; value = 0 }) (c .number .ensures)
 
 pub refused-spec : {M : Type 1} → statement M
 refused-spec = tie.close (tie.spec number-requires returns)

@@ -24,10 +24,10 @@ entry-of-requires : tie.Need-entry-of-requires
 entry-of-requires c κs = key-name _ _ (sym (c .before .before .before .before .key-at .ensures) ∙ c .before .before .k .given .1)
 
 returns : tie.Need-returns
-returns c = ap Refused (c .refused .ensures) ∙ sym (key-bad _ _ (sym (c .before .before .before .before .key-at .ensures) ∙ c .before .before .f .given .1))
+returns c = ap Refused (c .refused .ensures) ∙ sym (key-bad _ _ _ (sym (c .before .before .before .before .key-at .ensures) ∙ c .before .before .f .given .1))
 
 returns-2 : tie.Need-returns-2
-returns-2 c = ap At (c .entry-of .ensures) ∙ sym (key-is _ _ (sym (c .before .before .before .before .before .key-at .ensures) ∙ c .before .before .before .k .given .1))
+returns-2 c = ap At (c .entry-of .ensures) ∙ sym (key-is _ _ _ (sym (c .before .before .before .before .before .key-at .ensures) ∙ c .before .before .before .k .given .1))
 
 pub key-entry-spec : {M : Type 1} → statement M
 key-entry-spec =

@@ -1,12 +1,15 @@
-use Rattle.listing.proofs.Members.{subkey-bad, subkey-none, subkey-is}
+use Rattle.listing.proofs.Members.{subkey-bad, subkey-on}
 use Rattle.listing.specs.declared.Member.the-variants.{Refused}
 use mathlib.Core.Path.{sym, ap, _∙_}
 use borrow.Author.Needs.{needs}
 use Rattle.listing.proofs.subkey_in.Statement.{statement}
 use Rattle.listing.proofs.subkey_in.Tie as tie
 
-child-look-requires : tie.Need-child-look-requires
-child-look-requires c κs = search needs
+slice-aggregate-key-at : tie.Need-slice-aggregate-key-at
+slice-aggregate-key-at c = search needs
+
+key-at-requires : tie.Need-key-at-requires
+key-at-requires c κs = search needs
 
 enum-known-f : tie.Need-enum-known-f
 enum-known-f c = search needs
@@ -14,34 +17,27 @@ enum-known-f c = search needs
 refused-requires : tie.Need-refused-requires
 refused-requires c κs = search needs
 
-enum-told : tie.Need-enum-told
-enum-told c = search needs
+enum-known-k : tie.Need-enum-known-k
+enum-known-k c = search needs
 
-enum-known-c : tie.Need-enum-known-c
-enum-known-c c = search needs
-
-key-entry-requires : tie.Need-key-entry-requires
-key-entry-requires c κs = search needs
+subkey-below-requires : tie.Need-subkey-below-requires
+subkey-below-requires c κs = search needs
 
 returns : tie.Need-returns
-returns c = ap Refused (c .refused .ensures) ∙ sym (subkey-bad _ _ _ (sym (c .before .before .before .before .child-look .ensures) ∙ c .before .before .f .given .1))
+returns c = ap Refused (c .refused .ensures) ∙ sym (subkey-bad _ _ _ (sym (c .before .before .before .before .key-at .ensures) ∙ c .before .before .f .given .1))
 
 returns-2 : tie.Need-returns-2
-returns-2 c = sym (subkey-none _ _ _ (sym (c .before .before .child-look .ensures) ∙ c .enum-told .given .1))
-
-returns-3 : tie.Need-returns-3
-returns-3 c = c .key-entry .ensures ∙ sym (subkey-is _ _ _ (sym (c .before .before .before .before .child-look .ensures) ∙ c .before .before .c .given .1))
+returns-2 c = c .subkey-below .ensures ∙ sym (subkey-on _ _ _ (sym (c .before .before .before .before .key-at .ensures) ∙ c .before .before .k .given .1))
 
 pub subkey-in-spec : {M : Type 1} → statement M
 subkey-in-spec =
     tie.close
     (tie.spec
-    child-look-requires
+    slice-aggregate-key-at
+    key-at-requires
     enum-known-f
     refused-requires
-    enum-told
-    enum-known-c
-    key-entry-requires
+    enum-known-k
+    subkey-below-requires
     returns
-    returns-2
-    returns-3)
+    returns-2)

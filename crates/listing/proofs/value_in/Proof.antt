@@ -1,12 +1,15 @@
-use Rattle.listing.proofs.Members.{in-bad, in-none, in-is}
+use Rattle.listing.proofs.Members.{in-bad, in-on}
 use Rattle.listing.specs.declared.Member.the-variants.{Refused}
 use mathlib.Core.Path.{sym, ap, _∙_}
 use borrow.Author.Needs.{needs}
 use Rattle.listing.proofs.value_in.Statement.{statement}
 use Rattle.listing.proofs.value_in.Tie as tie
 
-entry-look-requires : tie.Need-entry-look-requires
-entry-look-requires c κs = search needs
+slice-aggregate-key-at : tie.Need-slice-aggregate-key-at
+slice-aggregate-key-at c = search needs
+
+key-at-requires : tie.Need-key-at-requires
+key-at-requires c κs = search needs
 
 enum-known-f : tie.Need-enum-known-f
 enum-known-f c = search needs
@@ -14,34 +17,27 @@ enum-known-f c = search needs
 refused-requires : tie.Need-refused-requires
 refused-requires c κs = search needs
 
-enum-told : tie.Need-enum-told
-enum-told c = search needs
+enum-known-k : tie.Need-enum-known-k
+enum-known-k c = search needs
 
-enum-known-v : tie.Need-enum-known-v
-enum-known-v c = search needs
-
-value-entry-requires : tie.Need-value-entry-requires
-value-entry-requires c κs = search needs
+value-below-requires : tie.Need-value-below-requires
+value-below-requires c κs = search needs
 
 returns : tie.Need-returns
-returns c = ap Refused (c .refused .ensures) ∙ sym (in-bad _ _ _ _ (sym (c .before .before .before .before .entry-look .ensures) ∙ c .before .before .f .given .1))
+returns c = ap Refused (c .refused .ensures) ∙ sym (in-bad _ _ _ _ (sym (c .before .before .before .before .key-at .ensures) ∙ c .before .before .f .given .1))
 
 returns-2 : tie.Need-returns-2
-returns-2 c = sym (in-none _ _ _ _ (sym (c .before .before .entry-look .ensures) ∙ c .enum-told .given .1))
-
-returns-3 : tie.Need-returns-3
-returns-3 c = c .value-entry .ensures ∙ sym (in-is _ _ _ _ (sym (c .before .before .before .before .entry-look .ensures) ∙ c .before .before .v .given .1))
+returns-2 c = c .value-below .ensures ∙ sym (in-on _ _ _ _ (sym (c .before .before .before .before .key-at .ensures) ∙ c .before .before .k .given .1))
 
 pub value-in-spec : {M : Type 1} → statement M
 value-in-spec =
     tie.close
     (tie.spec
-    entry-look-requires
+    slice-aggregate-key-at
+    key-at-requires
     enum-known-f
     refused-requires
-    enum-told
-    enum-known-v
-    value-entry-requires
+    enum-known-k
+    value-below-requires
     returns
-    returns-2
-    returns-3)
+    returns-2)

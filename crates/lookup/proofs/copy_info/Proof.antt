@@ -12,7 +12,7 @@ refused-requires c κs = search needs
 
 returns : tie.Need-returns
 returns c = let s = c .before .before .before .before in let out = now (s .args .out) in
-    (ap Refused (c .refused .ensures) ∙ sym (told-short out (s .args .i) (c .before .if1 .taken)), sym (short-stays out (s .args .i) (c .before .if1 .taken) _))
+    (ap Refused (c .refused .ensures) ∙ sym (told-short (s .args .key) out (s .args .i) (c .before .if1 .taken)), sym (short-stays (s .args .key) out (s .args .i) (c .before .if1 .taken) _))
 
 bins-of-requires : tie.Need-bins-of-requires
 bins-of-requires c κs = search needs
@@ -26,7 +26,7 @@ same-length c = search needs
 
 returns-2 : tie.Need-returns-2
 returns-2 c = let s = c .before .before .before .before .before .before .before .before in let out = now (s .args .out) in let p = c .before .before .before .before .before .if1 .left in
-    (sym (told-done out (s .args .i) p), c .before .before .copy-data .ensures ∙ rw (c .before .before .before .before .bins-of .ensures, ← s .pre .1 .1) (sym (told-written out (s .args .i) p _)))
+    (sym (told-done (s .args .key) out (s .args .i) p), c .before .before .copy-data .ensures ∙ rw (c .before .before .before .before .bins-of .ensures, ← s .pre .1 .1) (sym (told-written (s .args .key) out (s .args .i) p _)))
 
 pub copy-info-spec : {M : Type 1} → statement M
 copy-info-spec =

@@ -1,8 +1,9 @@
 use Rattle.lookup.proofs.Value_searches.{value-faulty, value-keyless, value-below}
+use Rattle.lookup.specs.declared.Spot.the-variants.{Faulty}
+use Rattle.lookup.specs.Answers.{inKey}
 use Rattle.paths.proofs.Opens.{look-facts}
 use Rattle.records.proofs.LawsKey.{key-room}
-use Prim.Native.Nat.{_-_}
-use mathlib.Core.Path.{sym, _∙_}
+use mathlib.Core.Path.{sym, ap, _∙_}
 use borrow.Author.Needs.{needs}
 use Rattle.lookup.proofs.value_look.Statement.{statement}
 use Rattle.lookup.proofs.value_look.Tie as tie
@@ -10,11 +11,14 @@ use Rattle.lookup.proofs.value_look.Tie as tie
 key-look-requires : tie.Need-key-look-requires
 key-look-requires c κs = search needs
 
-enum-known-f : tie.Need-enum-known-f
-enum-known-f c = search needs
+enum-known-r : tie.Need-enum-known-r
+enum-known-r c = search needs
 
-enum-told : tie.Need-enum-told
-enum-told c = search needs
+enum-known-key : tie.Need-enum-known-key
+enum-known-key c = search needs
+
+refused-requires : tie.Need-refused-requires
+refused-requires c κs = search needs
 
 enum-known-o : tie.Need-enum-known-o
 enum-known-o c = search needs
@@ -31,27 +35,32 @@ minor-of-requires c κs = look-facts _ _ (sym (c .before .before .before .before
 lookup-value-requires : tie.Need-lookup-value-requires
 lookup-value-requires c κs = search needs
 
+in-key-requires : tie.Need-in-key-requires
+in-key-requires c κs = search needs
+
 returns : tie.Need-returns
-returns c = sym (value-faulty _ _ _ (sym (c .before .before .before .key-look .ensures) ∙ c .before .f .given .1))
+returns c = sym (value-faulty _ _ _ (sym (c .before .before .before .key-look .ensures) ∙ c .before .r .given .1))
 
 returns-2 : tie.Need-returns-2
-returns-2 c = sym (value-keyless _ _ _ (sym (c .before .before .key-look .ensures) ∙ c .enum-told .given .1))
+returns-2 c = ap Faulty (c .refused .ensures) ∙ sym (value-keyless _ _ _ (sym (c .before .before .before .before .key-look .ensures) ∙ c .before .before .key .given .1))
 
 returns-3 : tie.Need-returns-3
-returns-3 c = c .lookup-value .ensures ∙ rw (c .before .before .key-fields .ensures, c .before .before .before .bins-of .ensures, c .before .minor-of .ensures) (sym (value-below _ _ _ (sym (c .before .before .before .before .before .before .before .key-look .ensures) ∙ c .before .before .before .before .before .o .given .1)))
+returns-3 c = c .in-key .ensures ∙ ap (inKey _) (c .before .lookup-value .ensures) ∙ rw (c .before .before .before .key-fields .ensures, c .before .before .before .before .bins-of .ensures, c .before .before .minor-of .ensures) (sym (value-below _ _ _ (sym (c .before .before .before .before .before .before .before .before .key-look .ensures) ∙ c .before .before .before .before .before .before .o .given .1)))
 
 pub value-look-spec : {M : Type 1} → statement M
 value-look-spec =
     tie.close
     (tie.spec
     key-look-requires
-    enum-known-f
-    enum-told
+    enum-known-r
+    enum-known-key
+    refused-requires
     enum-known-o
     bins-of-requires
     key-fields-requires
     minor-of-requires
     lookup-value-requires
+    in-key-requires
     returns
     returns-2
     returns-3)

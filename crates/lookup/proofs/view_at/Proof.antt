@@ -37,13 +37,13 @@ info-where-requires : tie.Need-info-where-requires
 info-where-requires c κs = search needs
 
 returns : tie.Need-returns
-returns c = ap Refused (c .refused .ensures) ∙ sym (view-bad _ _ _ (sym (c .before .before .before .before .value-at .ensures) ∙ c .before .before .f .given .1))
+returns c = ap Refused (c .refused .ensures) ∙ sym (view-bad _ _ _ _ (sym (c .before .before .before .before .value-at .ensures) ∙ c .before .before .f .given .1))
 
 returns-2 : tie.Need-returns-2
-returns-2 c = ap Refused (c .refused2 .ensures) ∙ sym (view-segmented _ _ _ (sym (c .before .before .before .before .before .before .before .before .value-at .ensures) ∙ c .before .before .before .before .before .before .x .given .1) (sym (c .before .before .before .before .view-flaw .ensures) ∙ c .before .before .f2 .given .1))
+returns-2 c = ap Refused (c .refused2 .ensures) ∙ sym (view-segmented _ _ _ _ (sym (c .before .before .before .before .before .before .before .before .value-at .ensures) ∙ c .before .before .before .before .before .before .x .given .1) (sym (c .before .before .before .before .view-flaw .ensures) ∙ c .before .before .f2 .given .1))
 
 returns-3 : tie.Need-returns-3
-returns-3 c = c .info-where .ensures ∙ sym (view-on _ _ _ (sym (c .before .before .before .before .before .before .before .value-at .ensures) ∙ c .before .before .before .before .before .x .given .1) (sym (c .before .before .before .view-flaw .ensures) ∙ c .before .enum-told .given .1))
+returns-3 c = c .info-where .ensures ∙ sym (view-on _ _ _ _ (sym (c .before .before .before .before .before .before .before .value-at .ensures) ∙ c .before .before .before .before .before .x .given .1) (sym (c .before .before .before .view-flaw .ensures) ∙ c .before .enum-told .given .1))
 
 pub view-at-spec : {M : Type 1} → statement M
 view-at-spec =

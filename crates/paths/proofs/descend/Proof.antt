@@ -3,7 +3,8 @@ use Rattle.paths.proofs.Parts.{end-within}
 use Rattle.records.proofs.LawsKey.{key-room}
 use lib.ListN.{length}
 use Prim.Native.Nat.{_-_}
-use mathlib.Core.Path.{sym}
+use Rattle.paths.specs.declared.Way.the-variants.{Faulty}
+use mathlib.Core.Path.{sym, ap, _∙_}
 use borrow.Author.Needs.{needs}
 use Rattle.paths.proofs.descend.Statement.{statement}
 use Rattle.paths.proofs.descend.Tie as tie
@@ -47,8 +48,11 @@ returns c = let l = c .before .before .before .before .before .before .before .l
 enum-known-f : tie.Need-enum-known-f Inv-loop μ-loop
 enum-known-f c = search needs
 
+refused-requires : tie.Need-refused-requires Inv-loop μ-loop
+refused-requires c κs = search needs
+
 returns-2 : tie.Need-returns-2 Inv-loop μ-loop
-returns-2 c = let l = c .before .before .before .before .before .before .before .before .loop in sym (descended-faulty _ _ _ _ _ (l .inv) _ (c .before .before .before .before .before .before .before .loop-test .taken) (c .before .before .before .before .before .before .part-end .ensures) _ (c .before .before .before .before .before .key-fields .ensures) _ (c .before .before .before .search-below .ensures) (c .before .f .given .1))
+returns-2 c = let l = c .before .before .before .before .before .before .before .before .before .loop in ap Faulty (c .refused .ensures) ∙ sym (descended-faulty _ _ _ _ _ (l .inv) _ (c .before .before .before .before .before .before .before .before .loop-test .taken) (c .before .before .before .before .before .before .before .part-end .ensures) _ (c .before .before .before .before .before .before .key-fields .ensures) _ (c .before .before .before .before .search-below .ensures) (c .before .before .f .given .1))
 
 enum-known-o : tie.Need-enum-known-o Inv-loop μ-loop
 enum-known-o c = search needs
@@ -88,6 +92,7 @@ descend-spec =
     enum-told
     returns
     enum-known-f
+    refused-requires
     returns-2
     enum-known-o
     add-start

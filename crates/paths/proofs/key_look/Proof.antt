@@ -1,6 +1,7 @@
 use Rattle.paths.proofs.Opens.{open-facts, look-stop, look-on}
 use Prim.Native.Nat.{_-_}
-use mathlib.Core.Path.{sym, _∙_}
+use Rattle.paths.specs.declared.Way.the-variants.{Faulty}
+use mathlib.Core.Path.{sym, ap, _∙_}
 use borrow.Author.Needs.{needs}
 use Rattle.paths.proofs.key_look.Statement.{statement}
 use Rattle.paths.proofs.key_look.Tie as tie
@@ -10,6 +11,9 @@ open-flaw-requires c κs = search needs
 
 enum-known-f : tie.Need-enum-known-f
 enum-known-f c = search needs
+
+refused-requires : tie.Need-refused-requires
+refused-requires c κs = search needs
 
 enum-told : tie.Need-enum-told
 enum-told c = search needs
@@ -24,7 +28,7 @@ lookup-key-requires : tie.Need-lookup-key-requires
 lookup-key-requires c κs = open-facts _ _ (sym (c .before .before .before .before .open-flaw .ensures) ∙ c .before .before .enum-told .given .1) .1
 
 returns : tie.Need-returns
-returns c = sym (look-stop _ _ (sym (c .before .before .before .open-flaw .ensures) ∙ c .before .f .given .1))
+returns c = ap Faulty (c .refused .ensures) ∙ sym (look-stop _ _ (sym (c .before .before .before .before .open-flaw .ensures) ∙ c .before .before .f .given .1))
 
 returns-2 : tie.Need-returns-2
 returns-2 c = c .lookup-key .ensures ∙ rw (c .before .before .bins-of .ensures, c .before .root-of .ensures) (sym (look-on _ _ (sym (c .before .before .before .before .before .open-flaw .ensures) ∙ c .before .before .before .enum-told .given .1)))
@@ -35,6 +39,7 @@ key-look-spec =
     (tie.spec
     open-flaw-requires
     enum-known-f
+    refused-requires
     enum-told
     bins-of-requires
     root-of-requires

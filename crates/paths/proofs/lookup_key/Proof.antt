@@ -1,6 +1,7 @@
 use mathlib.Core.List.{[]}
 use Rattle.paths.proofs.Descents.{root-bad, root-tested, root-is}
-use mathlib.Core.Path.{sym, _∙_}
+use Rattle.paths.specs.declared.Way.the-variants.{Faulty}
+use mathlib.Core.Path.{sym, ap, _∙_}
 use borrow.Author.Needs.{needs}
 use Rattle.paths.proofs.lookup_key.Statement.{statement}
 use Rattle.paths.proofs.lookup_key.Tie as tie
@@ -14,6 +15,9 @@ key-at-requires c κs = search needs
 enum-known-f : tie.Need-enum-known-f
 enum-known-f c = search needs
 
+refused-requires : tie.Need-refused-requires
+refused-requires c κs = search needs
+
 enum-told : tie.Need-enum-told
 enum-told c = search needs
 
@@ -21,7 +25,7 @@ descend-requires : tie.Need-descend-requires
 descend-requires c κs = (c .before .before .before .before .before .before .pre, root-tested _ _ [] (sym (c .before .before .key-at .ensures) ∙ c .enum-told .given .1))
 
 returns : tie.Need-returns
-returns c = sym (root-bad _ _ _ (sym (c .before .before .before .key-at .ensures) ∙ c .before .f .given .1))
+returns c = ap Faulty (c .refused .ensures) ∙ sym (root-bad _ _ _ (sym (c .before .before .before .before .key-at .ensures) ∙ c .before .before .f .given .1))
 
 returns-2 : tie.Need-returns-2
 returns-2 c = c .descend .ensures ∙ sym (root-is _ _ _ (sym (c .before .before .before .key-at .ensures) ∙ c .before .enum-told .given .1))
@@ -33,6 +37,7 @@ lookup-key-spec =
     slice-aggregate-key-at
     key-at-requires
     enum-known-f
+    refused-requires
     enum-told
     descend-requires
     returns

@@ -3,7 +3,7 @@ use Rattle.recovery.specs.declared.Stepped.the-variants.{Done, Refused}
 use Rattle.logs.proofs.Laws.{head-of, bins-sized, logged-below, logged-is, logged-fits}
 use Rattle.logs.specs.Logs.{isLogged}
 use Rattle.sectors.specs.Sector.{sectorAt, stored, pagePlace}
-use Rattle.fields.specs.Faults.{flaw, nowhere, refusalOf}
+use Rattle.fields.specs.Faults.{flaw, nowhere, noKey, refusalOf}
 use Rattle.fields.specs.declared.Fault.the-variants.{NotDirty}
 use borrow.Author.Tests.{not-true, not-false}
 use native.Mathlib.Omega.{arith}
@@ -26,7 +26,7 @@ refuse-requires c κs = search needs
 returns : tie.Need-returns
 returns c = (
   ap Refused (c .refuse .ensures)
-      ∙ sym (ap (λ (b : Bool). cond b Done (Refused (refusalOf (flaw NotDirty nowhere)))) (sym (c .before .before .is-logged .ensures) ∙ not-true _ (c .before .if1 .taken))),
+      ∙ sym (ap (λ (b : Bool). cond b Done (Refused (refusalOf noKey (flaw NotDirty nowhere)))) (sym (c .before .before .is-logged .ensures) ∙ not-true _ (c .before .if1 .taken))),
   refl,
 )
 
@@ -58,7 +58,7 @@ returns-2 c =
     let s = c .before .before .before .before .before .before .before .before .before .before in
     let h = s .args .hive .now in
     let l = s .args .log .now in (
-      sym (ap (λ (b : Bool). cond b Done (Refused (refusalOf (flaw NotDirty nowhere)))) (marked (c .before .before .before .before .before .before))),
+      sym (ap (λ (b : Bool). cond b Done (Refused (refusalOf noKey (flaw NotDirty nowhere)))) (marked (c .before .before .before .before .before .before))),
       c .before .before .store .ensures ∙ ap₂ (λ (a b : ℕ). stored h a (sectorAt l b)) (c .before .before .before .before .before .page-place .ensures) (c .before .before .before .before .logged-place .ensures)
           ∙ ap (stored h (pagePlace (s .args .n))) (sym (logged-is l (s .args .n))),
     )

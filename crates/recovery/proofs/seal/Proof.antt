@@ -1,6 +1,6 @@
 use Rattle.recovery.proofs.Ways.{passed}
 use Rattle.recovery.specs.declared.Stepped.the-variants.{Done, Refused}
-use Rattle.fields.specs.Faults.{flaw, nowhere, refusalOf}
+use Rattle.fields.specs.Faults.{flaw, nowhere, noKey, refusalOf}
 use Rattle.fields.specs.declared.Fault.the-variants.{NotIn}
 use borrow.Author.Tests.{not-true, not-false}
 use native.Mathlib.Omega.{arith}
@@ -22,7 +22,7 @@ same-length c = search needs
 returns : tie.Need-returns
 returns c = (
   ap Refused (c .refuse .ensures)
-      ∙ sym (ap (λ (b : Bool). cond b Done (Refused (refusalOf (flaw NotIn nowhere)))) (sym (c .before .before .all-in .ensures) ∙ not-true _ (c .before .if1 .taken))),
+      ∙ sym (ap (λ (b : Bool). cond b Done (Refused (refusalOf noKey (flaw NotIn nowhere)))) (sym (c .before .before .all-in .ensures) ∙ not-true _ (c .before .if1 .taken))),
   refl,
 )
 
@@ -37,7 +37,7 @@ same-length-2 c = search needs
 
 returns-2 : tie.Need-returns-2
 returns-2 c = (
-  sym (ap (λ (b : Bool). cond b Done (Refused (refusalOf (flaw NotIn nowhere)))) (sym (c .before .before .before .before .before .all-in .ensures) ∙ not-false _ (c .before .before .before .before .if1 .left))),
+  sym (ap (λ (b : Bool). cond b Done (Refused (refusalOf noKey (flaw NotIn nowhere)))) (sym (c .before .before .before .before .before .all-in .ensures) ∙ not-false _ (c .before .before .before .before .if1 .left))),
   c .before .before .store-closing .ensures,
 )
 

@@ -39,6 +39,7 @@ use Rattle.records.proofs.key_at.Reads as key-at
 use Rattle.records.proofs.leaf_fields.Reads as leaf-fields
 use Rattle.records.proofs.leaf_offset.Reads as leaf-offset
 use Rattle.records.proofs.leaves_fields.Reads as leaves-fields
+use Rattle.tree.proofs.holder.Reads as holder
 use Rattle.tree.proofs.last_of.Reads as last-of
 use Rattle.tree.proofs.own_flaw.Reads as own-flaw
 use Rattle.tree.proofs.tally.Reads as tally
@@ -92,7 +93,7 @@ module _ (t : ℕ) where
   list-below = and 2 list-kinds.ps (falls 2 list-kinds.ps _<_ μ-list t) list.Pre
 
   abbrev K : key-lts.Claims
-  K = (key-at.Asked, key-at.Learnt, refused.Asked, refused.Learnt, own-flaw.Asked, own-flaw.Learnt, tally.Asked, tally.Learnt, list-below, list.Post)
+  K = (key-at.Asked, key-at.Learnt, holder.Asked, holder.Learnt, refused.Asked, refused.Learnt, own-flaw.Asked, own-flaw.Learnt, tally.Asked, tally.Learnt, list-below, list.Post)
 
   abbrev F : leaf-lts.Claims
   F = (leaf-fields.Asked, leaf-fields.Learnt, child-of.Asked, child-of.Learnt, key-below, key.Post)
@@ -106,6 +107,9 @@ module _ (t : ℕ) where
 
   k-flawed : key-lts.Need-enum-known-f K key-asks key.Post
   k-flawed c = search needs
+
+  k-holder : key-lts.Need-holder-requires K key-asks key.Post
+  k-holder c κs = search needs
 
   k-refused : key-lts.Need-refused-requires K key-asks key.Post
   k-refused c κs = search needs
@@ -142,8 +146,8 @@ module _ (t : ℕ) where
 
   k-returns : key-lts.Need-returns K key-asks key.Post
   k-returns c =
-      let a = c .before .before .before .before .before .before .before .before .args in
-      sym (key-record _ _ _ _ _ _ _ (keyed-flawed (keyFault Map (now (a .bins)) (now (a .map)) (a .c .at)) (keyOf (now (a .bins)) (a .c .at)) (sym (c .before .before .before .before .key-at .ensures) ∙ c .before .before .f .given .1)) (c .refused .ensures))
+      let a = c .before .before .before .before .before .before .before .before .before .args in
+      sym (key-record _ _ _ _ _ _ _ (keyed-flawed (keyFault Map (now (a .bins)) (now (a .map)) (a .c .at)) (keyOf (now (a .bins)) (a .c .at)) (sym (c .before .before .before .before .before .key-at .ensures) ∙ c .before .before .before .f .given .1)) (c .before .holder .ensures) (c .refused .ensures))
 
   k-returns-2 : key-lts.Need-returns-2 K key-asks key.Post
   k-returns-2 c =
@@ -289,6 +293,6 @@ module _ (t : ℕ) where
 pub +check-key+check-leaf+check-list-spec : {M : Type 1} → statement M
 +check-key+check-leaf+check-list-spec =
     close μ-key μ-leaf μ-list
-    (λ t. key-lts.spec (K t) (key-asks t) key.Post (k-key-at t) (k-flawed t) (k-refused t) (k-whole t) (k-own t) (k-flawed-2 t) (k-refused-2 t) (k-sound t) (k-tally t) (k-sub t) (k-list t) (k-returns t) (k-returns-2 t) (k-returns-3 t))
+    (λ t. key-lts.spec (K t) (key-asks t) key.Post (k-key-at t) (k-flawed t) (k-holder t) (k-refused t) (k-whole t) (k-own t) (k-flawed-2 t) (k-refused-2 t) (k-sound t) (k-tally t) (k-sub t) (k-list t) (k-returns t) (k-returns-2 t) (k-returns-3 t))
     (λ t. leaf-lts.spec (F t) (leaf-asks t) leaf.Post Inv-leaf μ-leaf-loop (f-fields t) (f-holds t) (f-child t) (f-key t) (f-refused t) (f-returns t) (f-counted t) (f-add t) (f-less t) (f-again t) (f-returns-2 t))
     (λ t. list-lts.spec (L t) (list-asks t) list.Post Inv-list μ-list-loop (l-returns t) (l-fields t) (l-holds t) (l-offset t) (l-leaf t) (l-refused t) (l-returns-2 t) (l-counted t) (l-last t) (l-add t) (l-less t) (l-again t) (l-returns-3 t))

@@ -1,0 +1,131 @@
+-- Which key a refusal of the check names: none before the first key is accepted, then one that the walk has reached.
+use Prim.Native.Nat.{ℕ, suc, _+_, _-_, _%_, _≤_}
+use native.Mathlib.Omega.{arith}
+use mathlib.Core.Path.{_≡_, refl, sym, subst}
+use mathlib.Core.Logic.{⊎-elim}
+use mathlib.Core.List.{List, [], _∷_, List·Memᴰ, List·Memᴰ·head, List·Memᴰ·tail, List·Memᴰ·cases-cons, List·Memᴰ·not-nil, Memᴰ·append-left, Memᴰ·append-right}
+use lib.ListN.{length}
+use Rattle.fields.specs.declared.Flaw.{Flaw}
+use Rattle.fields.specs.declared.Offset.{Offset}
+use Rattle.fields.specs.declared.Refusal.{Refusal}
+use Rattle.fields.specs.Faults.{numberOf, noKey, refusalOf}
+use Rattle.fields.proofs.Bools.{never}
+use Rattle.base.specs.Block.{binsData}
+use Rattle.base.proofs.Refusals.{base-number}
+use Rattle.cells.specs.declared.Rule.the-variants.{Map}
+use Rattle.cells.specs.Tiled.{InUse}
+use Rattle.cells.specs.Refused.{OfSurvey, of-base, map-small, of-bins}
+use Rattle.cells.proofs.Refusals.{bins-number}
+use Rattle.cells.proofs.Tiles.{wholly-inside}
+use Rattle.records.specs.declared.Child.{Child}
+use Rattle.records.specs.Lists.{children}
+use Rattle.values.specs.Refused.{Role, a-key, Fit, Unfit, no-cell, no-record}
+use Rattle.tree.specs.declared.Checked.the-variants.{Refused}
+use Rattle.tree.specs.Tree.{joined, keysIn, hiveOf, checkAnswer}
+use Rattle.tree.specs.Told.{Reached, the-root, a-child, OfTree, of-root, of-lists, of-values, of-data, no-order, other-hash, other-parent, root-listed, other-total, too-deep, Told, of-survey, of-tree, Examined}
+use Rattle.tree.proofs.Tells.{unfit-number, among-number, check-tells}
+
+fit-not : {d : List ℕ} {w : Role} {o : Offset} {f : Flaw} → Unfit Map d w o f → Fit Map d w o → ⊥
+fit-not (no-cell p) g = p (g .used)
+fit-not (no-record p q) g = never _ (g .passing) q
+
+-- no cell starts there: an offset of a cell is a multiple of 8
+no-cell-there : (d : List ℕ) → InUse d noKey → ⊥
+no-cell-there d u = let p : 4294967295 % 8 ≡ 0 = wholly-inside d noKey u .inside .eights in omega arith
+
+joined-in : (f : Offset → List Offset) (cs : List Child) {c : Child} {x : Offset} → List·Memᴰ c cs → List·Memᴰ x (f (c .at)) → List·Memᴰ x (joined f cs)
+unfolding joined
+joined-in f [] i j = absurd (List·Memᴰ·not-nil i)
+joined-in f (b ∷ cs) {c} {x} i j =
+    ⊎-elim
+    (λ (e : c ≡ b). Memᴰ·append-left (joined f cs) (subst (λ (y : Child). List·Memᴰ x (f (y .at))) e j))
+    (λ k. Memᴰ·append-right (f (b .at)) (joined-in f cs k j))
+    (List·Memᴰ·cases-cons i)
+
+-- a key that is reached is one in use, so is the root, and it is listed
+module _ (d : List ℕ) (root : Offset) where
+  reached-fit : {n : ℕ} {k : Offset} → Reached d root n k → Fit Map d a-key k
+  reached-fit (the-root f) = f
+  reached-fit (a-child r i f) = f
+
+  root-fit : {n : ℕ} {k : Offset} → Reached d root n k → Fit Map d a-key root
+  root-fit (the-root f) = f
+  root-fit (a-child r i f) = root-fit r
+
+  -- what is listed below it is listed below the root
+  below-root : {n : ℕ} {k : Offset} → Reached d root n k → (j : ℕ) (x : Offset) → List·Memᴰ x (keysIn d j k) → List·Memᴰ x (keysIn d (n + j) root)
+  unfolding keysIn
+  below-root (the-root f) j x i = let e : j ≡ 0 + j = omega arith in subst (λ (t : ℕ). List·Memᴰ x (keysIn d t root)) e i
+  below-root (a-child {n} {k} {c} r m f) j x i =
+      let e : n + suc j ≡ suc n + j = omega arith in
+      subst (λ (t : ℕ). List·Memᴰ x (keysIn d t root)) e (below-root r (suc j) x (List·Memᴰ·tail (joined-in (keysIn d j) (children d k) m i)))
+
+  reached-in : {n : ℕ} {k : Offset} → Reached d root n k → n ≤ 512 → List·Memᴰ k (keysIn d 513 root)
+  unfolding keysIn
+  reached-in {n} {k} r p =
+      let e : n + suc (512 - n) ≡ 513 = omega arith in
+      subst (λ (t : ℕ). List·Memᴰ k (keysIn d t root)) e (below-root r (suc (512 - n)) k (List·Memᴰ·head refl))
+
+module _ (h : List ℕ) where
+  by-root : {f : Flaw} → Unfit Map (binsData h) a-key (hiveOf h .root) f → Examined h (refusalOf noKey f)
+  by-root u =
+      let n = unfit-number (binsData h) (hiveOf h) u in
+      record {
+        early = λ p. refl;
+        rootless = λ p q. (λ e g. fit-not u g, λ e. refl);
+        reached = λ p q g. absurd (fit-not u g);
+        placed = λ p. absurd (omega arith);
+      }
+
+  by-key : {n : ℕ} {k : Offset} {f : Flaw} → Reached (binsData h) (hiveOf h .root) n k → n ≤ 512 → (11 ≤ numberOf (f .fault)) × (numberOf (f .fault) ≤ 12)
+      → Examined h (refusalOf k f)
+  by-key r l n =
+      record {
+        early = λ p. absurd (omega (arith, n .0));
+        rootless = λ p q. (
+          λ e. absurd (no-cell-there (binsData h) (subst (λ (o : Offset). InUse (binsData h) o) e (reached-fit (binsData h) (hiveOf h .root) r .used))),
+          λ g. absurd (g (root-fit (binsData h) (hiveOf h .root) r)),
+        );
+        reached = λ p q g. (reached-fit (binsData h) (hiveOf h .root) r, reached-in (binsData h) (hiveOf h .root) r l);
+        placed = λ p. absurd (omega (arith, n .1));
+      }
+
+  by-place : {f : Flaw} → 13 ≤ numberOf (f .fault) → Examined h (refusalOf (f .place) f)
+  by-place n =
+      record {
+        early = λ p. absurd (omega arith);
+        rootless = λ p q. absurd (omega arith);
+        reached = λ p q g. absurd (omega arith);
+        placed = λ p. refl;
+      }
+
+  by-tree : {k : Offset} {f : Flaw} → OfTree (binsData h) (hiveOf h) k f → Examined h (refusalOf k f)
+  by-tree (of-root u) = by-root u
+  by-tree (of-lists r p a) = by-key r p (among-number (binsData h) (hiveOf h) a)
+  by-tree (of-values r p a) = by-key r p (among-number (binsData h) (hiveOf h) a)
+  by-tree (of-data r p i g a) = by-key r p (among-number (binsData h) (hiveOf h) a)
+  by-tree (no-order r i g p) = by-place (omega arith)
+  by-tree (other-hash r i g p q) = by-place (omega arith)
+  by-tree (other-parent r i g p) = by-place (omega arith)
+  by-tree (root-listed r i g p) = by-place (omega arith)
+  by-tree (other-total r p) = by-place (omega arith)
+  by-tree (too-deep r p) = by-place (omega arith)
+
+  survey-number : (room : ℕ) {f : Flaw} → OfSurvey h room f → numberOf (f .fault) ≤ 10
+  survey-number room (of-base b) = let n = base-number h b in omega arith
+  survey-number room (map-small p) = omega arith
+  survey-number room (of-bins b) = bins-number (binsData h) b .1
+
+  by-told : (room : ℕ) {k : Offset} {f : Flaw} → Told h room k f → Examined h (refusalOf k f)
+  by-told room (of-survey s) =
+      let n = survey-number room s in
+      record {
+        early = λ p. refl;
+        rootless = λ p q. absurd (omega arith);
+        reached = λ p q g. absurd (omega arith);
+        placed = λ p. absurd (omega arith);
+      }
+  by-told room (of-tree b t) = by-tree t
+
+  pub check-examines : (m : List ℕ) {r : Refusal} → checkAnswer h m ≡ Refused r → Examined h r
+  check-examines m e = let w = check-tells h m e in subst (λ (x : Refusal). Examined h x) (sym (w .2)) (by-told (length m) (w .3))

@@ -1,0 +1,114 @@
+/* orders <STREAM: the frames of the test program answered by the C face. A refusal's line says the key under examination too, and lines that start
+   with a space say what the other calls answer. tools/compare --keys compares them with the model. */
+#include <stdio.h>
+#include <string.h>
+#include <unistd.h>
+
+#include "../../include/kiweamotu.h"
+
+enum { LONGEST = 20480, HIVE = 1, LOG = 2, PATH = 3, MEMBERS = 4, ROOM = 3 };
+static uint8_t hive[LONGEST], payload[LONGEST];
+static size_t hive_length;
+
+/* Up to n bytes of the input: fewer where it ends. */
+static size_t take(uint8_t *to, size_t n)
+{
+    size_t got = 0;
+    for (ssize_t k; got < n && (k = read(0, to + got, n - got)) > 0;)
+        got += (size_t)k;
+    return got;
+}
+
+static void say(const char *before, HiveAnswer a)
+{
+    if (a.number == 0)
+        printf("%skey at %u\n", before, a.value);
+    else if (a.key == HIVE_NO_KEY)
+        printf("%srefused %u at %u in none\n", before, a.number, a.place);
+    else
+        printf("%srefused %u at %u in %u\n", before, a.number, a.place, a.key);
+}
+
+static void members(const char *kind, HiveMember (*nth)(const uint8_t *, size_t, uint32_t, size_t), uint32_t key)
+{
+    for (size_t n = 0; n < MEMBERS; n++) {
+        HiveMember m = nth(hive, hive_length, key, n);
+        if (m.state == HIVE_NO_MORE)
+            return;
+        say(kind, m.answer);
+        if (m.state == HIVE_REFUSED)
+            return;
+    }
+}
+
+static void on_hive(size_t length)
+{
+    static uint8_t map[LONGEST / 64];
+    memcpy(hive, payload, length);
+    hive_length = length;
+    HiveReport r = hive_check(hive, length, map, sizeof map);
+    if (r.answer.number != 0)
+        say("", r.answer);
+    else
+        printf("accepted bins %llu keys %llu values %llu used %llu free %llu\n", (unsigned long long)r.bins, (unsigned long long)r.keys,
+               (unsigned long long)r.values, (unsigned long long)r.used, (unsigned long long)r.free);
+    uint32_t root = length < 40 ? 0 : hive[36] | hive[37] << 8 | hive[38] << 16 | (uint32_t)hive[39] << 24;
+    members(" subkey: ", hive_nth_subkey, root);
+    members(" value: ", hive_nth_value, root);
+    say(" root: ", hive_key_at(hive, length, root).answer);
+}
+
+static void on_log(size_t length)
+{
+    HiveRecovery s = hive_recover_start(hive, hive_length, payload, length);
+    if (s.state == HIVE_REFUSED)
+        say("", s.answer);
+    else if (s.state == HIVE_CLEAN)
+        puts("clean");
+    else {
+        hive_recover_all(hive, hive_length, payload, length);
+        hive_recover_close(hive, hive_length, payload, length);
+        printf("repaired %llu\n", (unsigned long long)s.pages);
+    }
+}
+
+/* The value named v of that key, in full, in place, and copied to a few bytes. */
+static void on_path(size_t length)
+{
+    static uint16_t units[LONGEST / 2];
+    static const uint16_t name[] = {'v'};
+    size_t n = length / 2;
+    memcpy(units, payload, length);
+    uint8_t out[ROOM];
+    say("", hive_find_key(hive, hive_length, units, n));
+    HiveAnswer info = hive_value_info(hive, hive_length, units, n, name, 1).answer;
+    HiveAnswer view = hive_value_view(hive, hive_length, units, n, name, 1).answer;
+    HiveAnswer copy = hive_value_copy(hive, hive_length, units, n, name, 1, out, ROOM).answer;
+    say(" info: ", info);
+    say(" view: ", view);
+    say(" copy: ", copy);
+}
+
+int main(void)
+{
+    uint8_t head[6];
+    size_t got;
+    puts("hive");
+    for (int lent = 0; (got = take(head, 6)) > 0;) {
+        uint32_t length = head[0] | head[1] << 8 | head[2] << 16 | (uint32_t)head[3] << 24, kind = head[4] | (uint32_t)head[5] << 8;
+        if (got < 6 || length > LONGEST || kind < HIVE || kind > PATH || (kind == PATH && length % 2 != 0) || take(payload, length) < length) {
+            puts("bad frame");
+            return 0;
+        }
+        lent = lent || kind == HIVE;
+        if (kind == HIVE)
+            on_hive(length);
+        else if (!lent)
+            puts("no hive");
+        else if (kind == LOG)
+            on_log(length);
+        else
+            on_path(length);
+    }
+    return 0;
+}
