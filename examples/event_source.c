@@ -1,6 +1,7 @@
 /* event_source HIVE NAME [LOG]: prints the file that holds the messages of an event source, from a SYSTEM hive and, if it was taken from a running
- * machine, its log. NAME is UTF-8. Build it with any C compiler:
- *     cc -o event_source examples/event_source.c target/staticlib/libhive_c.a
+ * machine, its log. NAME is UTF-8. Build it with any C compiler, from a release or from the repository:
+ *     cc -o event_source examples/event_source.c $(pkg-config --cflags --libs kiweamotu)
+ *     cc -o event_source -I include examples/event_source.c target/staticlib/libhive_c.a
  */
 #include <fcntl.h>
 #include <stdio.h>
@@ -8,7 +9,7 @@
 #include <string.h>
 #include <unistd.h>
 
-#include "../include/kiweamotu.h"
+#include <kiweamotu.h>
 
 typedef struct {
     uint8_t *at;

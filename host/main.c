@@ -82,6 +82,10 @@ static int answer(int count, char **words)
         fputs(HELP, stdout);
         return GOOD;
     }
+    if (strcmp(words[0], "--version") == 0) {
+        puts("hive " KIWEAMOTU_VERSION);
+        return GOOD;
+    }
     int status = read_order(count, words, &o, &verb);
     if (status != GOOD)
         return status;

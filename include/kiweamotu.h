@@ -34,6 +34,9 @@ extern "C" {
 
 HIVE_ASSERT(sizeof(size_t) == 8); /* x86-64 only */
 
+/* The version of the release. That of the interface is hive_abi(). */
+#define KIWEAMOTU_VERSION "0.9.0"
+
 /* The refusals. */
 enum HiveFault {
     HIVE_FAULT_HIVE_SHORT = 1, /* hive under 4096 bytes */

@@ -1,5 +1,5 @@
-# Prints the C header of what a crate exports: awk -f tools/header.awk crates/fields/src/lib.rt crates/hive_c/src/lib.rt >include/kiweamotu.h
-# Of the first file the faults are read, and their numbers. Of the second, comments at the top of the file, above a block of constants, above a
+# Prints the C header of what a crate exports: awk -f tools/header.awk VERSION crates/fields/src/lib.rt crates/hive_c/src/lib.rt >include/kiweamotu.h
+# The first file is the version. Of the second the faults are read, and their numbers. Of the third, comments at the top of the file, above a block of constants, above a
 # #[repr(C)] struct and above a #[no_mangle] function become C comments. The layout that the C rules give each struct is asserted.
 function trim(s) { gsub(/^[ \t]+|[ \t]+$/, "", s); return s }
 function number(t) {
@@ -69,15 +69,18 @@ function constant(s,   name, n) {
     if (!block) { print ""; comment(); print "enum {" }
     block = 1; printf "    HIVE_%s = %s,\n", name, n
 }
-FNR == NR && /^    \/\/ [0-9]+: / { said = $0; sub(/^[^:]*: /, "", said) }
-FNR == NR && /^    [A-Za-z]+,$/ && said != "" { x = $1; sub(/,/, "", x); meaning[x] = said; said = "" }
-FNR == NR && /^ *Fault::[A-Za-z]+ => [0-9]+,$/ { x = $1; sub(/^Fault::/, "", x); fault[$3 + 0] = x; if ($3 + 0 > fault_count) fault_count = $3 + 0 }
-FNR == NR { next }
+FNR == 1 { part++ }
+part == 1 { version = $1; next }
+part == 2 && /^    \/\/ [0-9]+: / { said = $0; sub(/^[^:]*: /, "", said) }
+part == 2 && /^    [A-Za-z]+,$/ && said != "" { x = $1; sub(/,/, "", x); meaning[x] = said; said = "" }
+part == 2 && /^ *Fault::[A-Za-z]+ => [0-9]+,$/ { x = $1; sub(/^Fault::/, "", x); fault[$3 + 0] = x; if ($3 + 0 > fault_count) fault_count = $3 + 0 }
+part == 2 { next }
 /^\/\// { x = $0; sub(/^\/\/ ?/, "", x); text[++lines] = x; next }
 !begun {
     begun = 1; comment(); lines = 0
     print "#ifndef KIWEAMOTU_H\n#define KIWEAMOTU_H\n\n#include <stddef.h>\n#include <stdint.h>\n\n#ifdef __cplusplus\n#define HIVE_ASSERT(x) static_assert(x, #x)\nextern \"C\" {\n#else\n#define HIVE_ASSERT(x) _Static_assert(x, #x)\n#endif\n"
     print "HIVE_ASSERT(sizeof(size_t) == 8); /* x86-64 only */"
+    printf "\n/* The version of the release. That of the interface is hive_abi(). */\n#define KIWEAMOTU_VERSION \"%s\"\n", version
     faults()
 }
 /^const / { constant($0) }

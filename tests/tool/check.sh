@@ -57,5 +57,6 @@ try 'usage: a file that looks like an option' 2 '' 'hive: -x: No such file' hive
 try 'usage: it is one line' 2 '' 'see: hive --help' hive chekc
 right 'usage: one line' [ "$(wc -l <stderr)" -eq 1 ]
 try 'usage: --help' 0 "$(cat "$top/host/help.txt")" '' hive --help
+try 'usage: --version' 0 "hive $(cat "$top/VERSION")" '' hive --version
 full() { hive "$@" >/dev/full; }
 try 'an answer that cannot be written' 2 '' 'cannot write the answer' full check sample

@@ -2,7 +2,7 @@
 
 # A copy that is not built, a prover that only notes that it was called, and a folder with no prover.
 mkdir tree prover bare
-cp -r "$top/hive" "$top/host" "$top/crates.txt" tree
+cp -r "$top/hive" "$top/host" "$top/crates.txt" "$top/VERSION" tree
 mkdir tree/crates
 cat >prover/rt <<'END'
 #!/bin/sh
@@ -23,6 +23,7 @@ try 'script: --help' 0 "$(cat "$top/host/help.txt")" '' unproved --help
 try 'script: no file' 2 '' 'hive: nothing: No such file' unproved check nothing
 try 'script: no file behind options' 2 '' 'hive: nothing: No such file' unproved value --log log nothing a b
 try 'script: no verb' 2 '' '"chekc" is none of check' unproved chekc minimal
+try 'script: --version' 0 "hive $(cat "$top/VERSION")" '' unproved --version
 right 'script: nothing was proved for that' [ ! -e prover/called ]
 try 'script: --help without the kit' 0 "$(cat "$top/host/help.txt")" '' bare --help
 try 'script: without the kit' 2 '' 'a release of hive needs none of it' bare check minimal

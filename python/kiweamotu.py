@@ -1,0 +1,677 @@
+"""Checks, reads and repairs Windows registry hives (regf files) by the proved library of Kiweamotu.
+
+>>> hive = Hive("sample")
+>>> hive.check().keys
+16
+>>> [key.name for key in hive.subkeys]
+['a', 'b', 'ControlSet001', 'd']
+>>> hive.value(r"ControlSet001\\Services\\EventLog\\Application\\Print", "TypesSupported").decoded
+7
+
+What the library refuses raises Refused, with its number, place, key and words; what the system refuses raises OSError.
+
+A name is a str: each of its characters is one of the hive's, and half of a pair stands alone as itself. So every name of every
+hive can be given back. A path is names joined by backslashes, and "" is the root. No key's name holds a backslash.
+
+The hive lies in memory: a file is read whole, and bytes, a bytearray, a memoryview or an mmap are lent as they are, without a copy.
+Nobody may change that memory while a call runs. This file needs CPython 3.8 or later on x86-64 Linux, its standard library alone,
+and libkiweamotu.so.N, which is looked for in $KIWEAMOTU_LIBRARY (the file itself), beside this file, in ../lib, and by the system.
+"""
+from __future__ import annotations
+
+import contextlib
+import ctypes
+import datetime
+import fcntl
+import os
+import stat
+from ctypes import c_size_t, c_uint32, c_uint64, c_void_p
+from typing import Any, Callable, Iterator, List, NamedTuple, Optional, Tuple, Union
+
+__all__ = ["Hive", "Key", "Value", "Report", "Repair", "Refused", "Unsound", "repair"]
+
+SECTOR = 512
+INTERFACES = (2, 1)  # those that this file knows: their structs and calls are the same, and in 1 no refusal names a key
+REFUSED, NO_MORE, THERE = 0, 1, 2
+CLEAN, DONE = 1, 2
+SEGMENTS = 3
+NO_KEY = 0xFFFFFFFF
+LEVELS = 512
+
+# What a refusal's number means. PLACED are those whose place is an offset.
+WORDS = {
+    1: "the hive has fewer than 4096 bytes",
+    2: 'the hive does not start with "regf"',
+    3: "the checksum of the base block is wrong",
+    4: "version, file type, format or clustering factor is not one that is read",
+    5: "the size of the bins data is not possible",
+    6: "the file ends before its bins do",
+    7: "the two sequence numbers differ: give its log, or repair it",
+    8: "the work map is too small",
+    9: "the header of a bin is wrong",
+    10: "the size of a cell is not possible",
+    11: "an offset leads to no cell in use",
+    12: "a record in a cell is wrong or does not fit its cell",
+    13: "a key stands out of order, or its hash is wrong",
+    14: "a key does not fit its place in the tree",
+    15: "a key lies deeper than level 512",
+    16: "the path is not possible",
+    17: "there is no such key",
+    18: "the key has no such value",
+    19: "the data lie in segments and have no view",
+    20: "the output is too short for the data",
+    21: "the start of the log is not sound",
+    22: "the log is too short for its bitmap or its pages",
+    23: 'the log has no "DIRT" at byte 512',
+    24: "the hive is shorter than the log says",
+    25: "the time stamps of hive and log differ",
+    26: "the page is not marked in the log",
+    27: "a logged page is not in the hive yet",
+}
+PLACED = frozenset((9, 10, 11, 12, 13, 14, 15, 19))
+ORDER, PARENT, LEVEL, SEGMENTED = 13, 14, 15, 19
+
+# The registry's names of the types, from 0 on.
+TYPES = (
+    "REG_NONE", "REG_SZ", "REG_EXPAND_SZ", "REG_BINARY", "REG_DWORD", "REG_DWORD_BIG_ENDIAN", "REG_LINK", "REG_MULTI_SZ",
+    "REG_RESOURCE_LIST", "REG_FULL_RESOURCE_DESCRIPTOR", "REG_RESOURCE_REQUIREMENTS_LIST", "REG_QWORD",
+)
+SZ, EXPAND_SZ, DWORD, DWORD_BIG_ENDIAN, LINK, MULTI_SZ, QWORD = 1, 2, 4, 5, 6, 7, 11
+
+Source = Union[str, "os.PathLike[str]", bytes, bytearray, memoryview, Any]
+Decoded = Union[str, int, List[str], bytes]
+
+
+# ---- the structs and calls of kiweamotu.h
+
+class _Answer(ctypes.Structure):
+    _fields_ = [("number", c_uint32), ("place", c_uint32), ("key", c_uint32), ("value", c_uint32)]
+
+
+class _Report(ctypes.Structure):
+    _fields_ = [("answer", _Answer), ("bins", c_uint64), ("keys", c_uint64), ("values", c_uint64), ("used", c_uint64), ("free", c_uint64)]
+
+
+class _Value(ctypes.Structure):
+    _fields_ = [("answer", _Answer), ("kind", c_uint32), ("form", c_uint32), ("at", c_uint64), ("length", c_uint64)]
+
+
+class _Copy(ctypes.Structure):
+    _fields_ = [("answer", _Answer), ("length", c_uint64)]
+
+
+class _Member(ctypes.Structure):
+    _fields_ = [("answer", _Answer), ("state", c_uint64), ("name", c_uint64), ("length", c_uint64), ("narrow", c_uint64)]
+
+
+class _Key(ctypes.Structure):
+    _fields_ = [("answer", _Answer), ("written", c_uint64), ("parent", c_uint64), ("subkeys", c_uint64), ("values", c_uint64),
+                ("name", c_uint64), ("length", c_uint64), ("narrow", c_uint64)]
+
+
+class _Recovery(ctypes.Structure):
+    _fields_ = [("answer", _Answer), ("state", c_uint64), ("pages", c_uint64)]
+
+
+class _Mark(ctypes.Structure):
+    _fields_ = [("answer", _Answer), ("state", c_uint64), ("page", c_uint64), ("to", c_uint64)]
+
+
+_MEMORY = [c_void_p, c_size_t]  # a pointer, and how many elements it has
+_CALLS = {
+    "hive_abi": (c_uint32, []),
+    "hive_check": (_Report, _MEMORY * 2),
+    "hive_find_key": (_Answer, _MEMORY * 2),
+    "hive_value_info": (_Value, _MEMORY * 3),
+    "hive_value_view": (_Value, _MEMORY * 3),
+    "hive_value_copy": (_Copy, _MEMORY * 4),
+    "hive_nth_subkey": (_Member, _MEMORY + [c_uint32, c_size_t]),
+    "hive_nth_value": (_Member, _MEMORY + [c_uint32, c_size_t]),
+    "hive_value_at": (_Value, _MEMORY + [c_uint32]),
+    "hive_copy_at": (_Copy, _MEMORY + [c_uint32] + _MEMORY),
+    "hive_key_at": (_Key, _MEMORY + [c_uint32]),
+    "hive_recover_start": (_Recovery, _MEMORY * 2),
+    "hive_recover_all": (_Recovery, _MEMORY * 2),
+    "hive_recover_close": (_Recovery, _MEMORY * 2),
+    "hive_recover_mark": (_Mark, _MEMORY + [c_size_t]),
+}
+
+
+def _candidates() -> Iterator[str]:
+    """The files to try, the system's own search last."""
+    if "KIWEAMOTU_LIBRARY" in os.environ:
+        yield os.environ["KIWEAMOTU_LIBRARY"]
+        return
+    here = os.path.dirname(os.path.abspath(__file__))
+    for folder in (here, os.path.join(here, os.pardir, "lib")):
+        for number in INTERFACES:
+            path = os.path.join(folder, "libkiweamotu.so.%d" % number)
+            if os.path.exists(path):
+                yield path
+    for number in INTERFACES:
+        yield "libkiweamotu.so.%d" % number
+
+
+def _load() -> ctypes.CDLL:
+    trouble: List[str] = []
+    for path in _candidates():
+        try:
+            library = ctypes.CDLL(path)
+        except OSError as error:
+            trouble.append(str(error))
+            continue
+        for name, (result, arguments) in _CALLS.items():
+            call = getattr(library, name)
+            call.restype, call.argtypes = result, arguments
+        if library.hive_abi() in INTERFACES:
+            return library
+        trouble.append("%s has interface %d, and this file knows %s" % (path, library.hive_abi(), INTERFACES))
+    raise ImportError("libkiweamotu cannot be loaded: " + "; ".join(trouble))
+
+
+_library = _load()
+
+
+# ---- memory
+
+class _View(ctypes.Structure):
+    """Py_buffer, as Python's own header has it."""
+    _fields_ = [("buf", c_void_p), ("obj", c_void_p), ("len", ctypes.c_ssize_t), ("itemsize", ctypes.c_ssize_t), ("readonly", ctypes.c_int),
+                ("ndim", ctypes.c_int), ("format", c_void_p), ("shape", c_void_p), ("strides", c_void_p), ("suboffsets", c_void_p), ("internal", c_void_p)]
+
+
+_borrow, _give_back = ctypes.pythonapi.PyObject_GetBuffer, ctypes.pythonapi.PyBuffer_Release
+_borrow.argtypes, _borrow.restype = [ctypes.py_object, ctypes.POINTER(_View), ctypes.c_int], ctypes.c_int
+_give_back.argtypes, _give_back.restype = [ctypes.POINTER(_View)], None
+
+
+class _Lent:
+    """The memory of an object, for as long as this one lives; no byte is copied."""
+
+    def __init__(self, owner: Any, writable: bool = False) -> None:
+        self._held = False
+        self._view = _View()
+        _borrow(owner, ctypes.byref(self._view), 1 if writable else 0)
+        self._held = True
+        self.memory: Tuple[Optional[int], int] = (self._view.buf, self._view.len)
+
+    def __del__(self, give_back: Any = _give_back, byref: Any = ctypes.byref) -> None:
+        if self._held:
+            give_back(byref(self._view))
+
+
+def _units(text: str) -> Tuple[Any, int]:
+    """A name or a path as UTF-16 units; half of a pair stands for itself."""
+    data = text.encode("utf-16-le", "surrogatepass")
+    return (ctypes.c_uint16 * (len(data) // 2)).from_buffer_copy(data), len(data) // 2
+
+
+def _text(data: bytes) -> str:
+    return data.decode("utf-16-le", "surrogatepass")
+
+
+def _read(fd: int) -> bytearray:
+    """All that an open file or pipe holds."""
+    data = bytearray()
+    with os.fdopen(os.dup(fd), "rb", buffering=0) as file:
+        if stat.S_ISREG(os.fstat(fd).st_mode):
+            file.seek(0)
+            data = bytearray(os.fstat(fd).st_size)
+            done = 0
+            while done < len(data):
+                with memoryview(data) as room:
+                    n = file.readinto(room[done:])
+                if not n:
+                    raise OSError("the file became shorter while it was read")
+                done += n
+        if not data:
+            data = bytearray(file.readall())
+    return data
+
+
+def _contents(source: Source) -> Any:
+    """The bytes of a file, or the memory that was given."""
+    if not isinstance(source, (str, os.PathLike)):
+        return source
+    fd = os.open(source, os.O_RDONLY | os.O_CLOEXEC)
+    try:
+        return _read(fd)
+    finally:
+        os.close(fd)
+
+
+# ---- answers
+
+class Refused(Exception):
+    """What the library refuses. number: from 1 on, as `hive explain` tells. place: an offset in the bins data, byte 4096 + place of the file,
+    or None. key: the offset of the key under examination, or None. words: what the number means.
+
+    >>> try:
+    ...     Hive("no-root").check()
+    ... except Refused as refused:
+    ...     print(refused.number, refused.place, refused)
+    12 32 refused 12 at 32: a record in a cell is wrong or does not fit its cell
+    """
+
+    def __init__(self, number: int, place: Optional[int], key: Optional[int], words: str) -> None:
+        super().__init__(number, place, key, words)
+        self.number, self.place, self.key, self.words = number, place, key, words
+
+    def __str__(self) -> str:
+        where = "" if self.place is None else " at %d" % self.place
+        return "refused %d%s: %s" % (self.number, where, self.words)
+
+
+class Unsound(Refused):
+    """What the check would refuse after a repair; nothing was written."""
+
+
+def _refusal(number: int, place: int, key: int) -> Refused:
+    return Refused(number, place if number in PLACED else None, None if key == NO_KEY else key, WORDS.get(number, "an unknown refusal"))
+
+
+def _allow(answer: _Answer) -> None:
+    if answer.number != 0:
+        raise _refusal(answer.number, answer.place, answer.key)
+
+
+class Report(NamedTuple):
+    """What the check counts: bins; keys reached from the root; values of their lists; bytes of cells in use and of free cells."""
+    bins: int
+    keys: int
+    values: int
+    used: int
+    free: int
+
+
+class Repair(NamedTuple):
+    """What a repair did. clean: nothing was to be done. pages: how many pages the log holds. written: whether the file was repaired.
+    report: what the check says of the repaired hive, or None where it refuses it, with `refused`."""
+    clean: bool
+    pages: int
+    written: bool
+    report: Optional[Report]
+    refused: Optional[Refused]
+
+
+# ---- the hive
+
+class Value:
+    """A value of a key. name: "" is the unnamed one. type: its number; type_name: REG_SZ and the like, or the number in hexadecimal.
+
+    >>> value = Hive("sample").value(r"ControlSet001\\Services\\EventLog\\Application\\Print", "Several")
+    >>> value.type_name, len(value), value.decoded
+    ('REG_MULTI_SZ', 18, ['one', 'two'])
+    """
+
+    def __init__(self, hive: "Hive", name: str, found: _Value, unseen: Callable[[], _Answer], copy: Callable[[Any], _Copy]) -> None:
+        self._hive, self._at, self._length, self._segments = hive, found.at, found.length, found.form == SEGMENTS
+        self._unseen, self._copy = unseen, copy  # for data in segments: why they have no view, and the call that joins them
+        self.name: str = name
+        self.type: int = found.kind
+
+    def __len__(self) -> int:
+        return self._length
+
+    def __repr__(self) -> str:
+        return "<Value %r %s %d bytes>" % (self.name, self.type_name, self._length)
+
+    @property
+    def type_name(self) -> str:
+        return TYPES[self.type] if self.type < len(TYPES) else hex(self.type)
+
+    @property
+    def view(self) -> memoryview:
+        """The data where they lie, read-only, without a copy. Data in segments do not lie in one piece: Refused with 19.
+
+        >>> bytes(Hive("sample").value(r"ControlSet001\\Services\\EventLog\\Application\\Print", "Big").view)
+        b'\\x00\\x00\\x01\\x02'
+        """
+        if self._segments:
+            _allow(self._unseen())
+        return self._hive._view[self._at:self._at + self._length]
+
+    @property
+    def data(self) -> bytes:
+        """A copy of the data, segments joined."""
+        if not self._segments:
+            return bytes(self.view)
+        out = bytearray(self._length)
+        lent = _Lent(out, writable=True)
+        _allow(self._copy(lent.memory).answer)
+        return bytes(out)
+
+    @property
+    def decoded(self) -> Decoded:
+        """The data as their type says: str (REG_SZ, REG_EXPAND_SZ, REG_LINK, without the zeros at the end), int (REG_DWORD and its kin), a list of
+        str (REG_MULTI_SZ). Other data, and data whose length does not fit their type, are bytes."""
+        return _decode(self.type, self.data)
+
+
+def _decode(kind: int, data: bytes) -> Decoded:
+    if kind in (DWORD, DWORD_BIG_ENDIAN) and len(data) == 4 or kind == QWORD and len(data) == 8:
+        return int.from_bytes(data, "big" if kind == DWORD_BIG_ENDIAN else "little")
+    if kind not in (SZ, EXPAND_SZ, LINK, MULTI_SZ) or len(data) % 2 != 0:
+        return data
+    text = _text(data)
+    if kind != MULTI_SZ:
+        return text.rstrip("\0")
+    if text == "\0" or text.endswith("\0\0"):  # one more zero ends the list and is no string
+        text = text[:-1]
+    return text[:-1].split("\0") if text.endswith("\0") else text.split("\0") if text else []
+
+
+class Key:
+    """A key. name and path: as they are stored (the path of a key that was asked for: as it was given). offset: of its record in the bins data.
+    stamp: when it was last written, in steps of 100 ns from the start of 1601 on. parent: its parent's offset. subkey_count, value_count: as
+    its record says.
+
+    >>> key = Hive("sample").key(r"controlset001\\services")
+    >>> key.name, key.subkey_count, [k.path for k in key.subkeys]
+    ('Services', 1, ['controlset001\\\\services\\\\EventLog'])
+    """
+
+    def __init__(self, hive: "Hive", offset: int, path: str) -> None:
+        facts = _library.hive_key_at(*hive._memory, offset)
+        _allow(facts.answer)
+        self._hive = hive
+        self.offset, self.path = offset, path
+        self.name: str = hive._name(facts)
+        self.stamp: int = facts.written
+        self.parent: int = facts.parent
+        self.subkey_count: int = facts.subkeys
+        self.value_count: int = facts.values
+
+    def __repr__(self) -> str:
+        return "<Key %r at %d>" % (self.path, self.offset)
+
+    @property
+    def written(self) -> Optional[datetime.datetime]:
+        """The stamp as a time in UTC, to the microsecond; None past the year 9999, where Python has none.
+
+        >>> Hive("sources").key(r"ControlSet001\\Services\\EventLog\\Application\\Bin").written.isoformat()
+        '2024-02-29T23:59:59.123456+00:00'
+        """
+        try:
+            return datetime.datetime(1601, 1, 1, tzinfo=datetime.timezone.utc) + datetime.timedelta(microseconds=self.stamp // 10)
+        except OverflowError:
+            return None
+
+    @property
+    def subkeys(self) -> Iterator["Key"]:
+        """The keys below it, in the order of its lists."""
+        for member in self._hive._members(_library.hive_nth_subkey, self.offset):
+            yield Key(self._hive, member.answer.value, self._below(self._hive._name(member)))
+
+    @property
+    def values(self) -> Iterator[Value]:
+        """Its values, in the order of its list; two of one name both come."""
+        for member in self._hive._members(_library.hive_nth_value, self.offset):
+            yield self._hive._value_at(member.answer.value, self._hive._name(member))
+
+    def _below(self, name: str) -> str:
+        return self.path + "\\" + name if self.path else name
+
+    def key(self, path: str) -> "Key":
+        """A key below this one, by the rest of its path."""
+        return self._hive.key(self._below(path) if path else self.path)
+
+    def value(self, name: str = "") -> Value:
+        """Its first value of that name."""
+        return self._hive.value(self.path, name)
+
+    def walk(self) -> Iterator["Key"]:
+        """This key and all below it: each key before those below it, in the order of the lists. It ends on any bytes: a key whose parent is another,
+        a key that is listed twice, and a level past 512 are Refused with 14, 13 and 15, as the check would.
+
+        >>> [key.name for key in Hive("sample").key("a").walk()]
+        ['a', 'k1', 'k2', 'k3', 'k4', 'k5', 'k6', 'k7']
+        """
+        seen, root = {self.offset}, self._hive.root.offset
+        yield self
+        stack: List[Tuple[int, Iterator[Key]]] = [(self.offset, self.subkeys)]
+        while stack:
+            parent, rest = stack[-1]
+            key = next(rest, None)
+            if key is None:
+                stack.pop()
+                continue
+            number = PARENT if key.parent != parent or key.offset == root else ORDER if key.offset in seen else LEVEL if len(stack) > LEVELS else 0
+            if number != 0:
+                raise _refusal(number, key.offset, key.offset)
+            seen.add(key.offset)
+            yield key
+            stack.append((key.offset, key.subkeys))
+
+
+class Hive:
+    """A hive in memory: the file of that name, or bytes that are lent. With a log, also a name or bytes, it is read as its log would repair it;
+    nothing is written, not even to the bytes that were lent.
+
+    >>> Hive("spoilt").check()
+    Traceback (most recent call last):
+        ...
+    kiweamotu.Refused: refused 7: the two sequence numbers differ: give its log, or repair it
+    >>> Hive("spoilt", log="log").check() == Hive("sample").check()
+    True
+    """
+
+    def __init__(self, source: Source, log: Optional[Source] = None) -> None:
+        owner = _contents(source)
+        if log is not None:
+            owner = owner if isinstance(source, (str, os.PathLike)) else bytearray(owner)
+            _recover(owner, _contents(log))
+        self._lent = _Lent(owner)
+        self._memory = self._lent.memory
+        self._view = memoryview(owner).cast("B").toreadonly()
+
+    def _name(self, member: Any) -> str:
+        raw = bytes(self._view[member.name:member.name + member.length])
+        return raw.decode("latin-1") if member.narrow == 1 else _text(raw[:len(raw) // 2 * 2])
+
+    def _members(self, nth: Callable[..., _Member], key: int) -> Iterator[_Member]:
+        n = 0
+        while True:
+            member = nth(*self._memory, key, n)
+            _allow(member.answer)
+            if member.state != THERE:
+                return
+            yield member
+            n += 1
+
+    def _value_at(self, offset: int, name: str) -> Value:
+        found = _library.hive_value_at(*self._memory, offset)
+        _allow(found.answer)
+        return Value(self, name, found, lambda: _Answer(SEGMENTED, offset, NO_KEY, 0),
+                     lambda out: _library.hive_copy_at(*self._memory, offset, *out))
+
+    def check(self) -> Report:
+        """Checks the hive wholly. What it answers is proved to be exact: a Report where the hive is clean and well formed, else Refused.
+
+        >>> Hive("minimal").check()
+        Report(bins=1, keys=1, values=0, used=88, free=3976)
+        """
+        work = bytearray(self._memory[1] // 64)  # never too small: bins that end inside the file are shorter than it
+        lent = _Lent(work, writable=True)
+        r = _library.hive_check(*self._memory, *lent.memory)
+        _allow(r.answer)
+        return Report(r.bins, r.keys, r.values, r.used, r.free)
+
+    def key(self, path: str = "") -> Key:
+        """The key of that path. Letters a to z, and the accented letters of Western Europe, are the same in either case.
+
+        >>> Hive("sample").key("nobody")
+        Traceback (most recent call last):
+            ...
+        kiweamotu.Refused: refused 17: there is no such key
+        """
+        answer = _library.hive_find_key(*self._memory, *_units(path))
+        _allow(answer)
+        return Key(self, answer.value, path)
+
+    def value(self, path: str, name: str = "") -> Value:
+        """The first value of that name of the key of that path; "" is the unnamed one."""
+        key, called = _units(path), _units(name)
+        found = _library.hive_value_info(*self._memory, *key, *called)
+        _allow(found.answer)
+        return Value(self, name, found, lambda: _library.hive_value_view(*self._memory, *key, *called).answer,
+                     lambda out: _library.hive_value_copy(*self._memory, *key, *called, *out))
+
+    @property
+    def root(self) -> Key:
+        return self.key("")
+
+    @property
+    def subkeys(self) -> Iterator[Key]:
+        """Those of the root."""
+        return self.root.subkeys
+
+    @property
+    def values(self) -> Iterator[Value]:
+        """Those of the root."""
+        return self.root.values
+
+    def walk(self) -> Iterator[Key]:
+        """Every key, each before those below it: see Key.walk.
+
+        >>> sum(1 for key in Hive("sample").walk()) == Hive("sample").check().keys
+        True
+        """
+        return self.root.walk()
+
+
+# ---- the repair
+
+def _recover(hive: bytearray, log: Any) -> None:
+    """All of the repair, in memory alone."""
+    own, lent = _Lent(hive, writable=True), _Lent(log)
+    both = own.memory + lent.memory
+    started = _library.hive_recover_start(*both)
+    _allow(started.answer)
+    if started.state == DONE:
+        _allow(_library.hive_recover_all(*both).answer)
+        _allow(_library.hive_recover_close(*both).answer)
+
+
+def _store(fd: int, data: Any, at: int) -> None:
+    with memoryview(data) as rest:
+        done = 0
+        while done < len(rest):
+            done += os.pwrite(fd, rest[done:], at + done)
+
+
+def _settle_folder(path: str) -> None:
+    """The entry of a new file lies in its folder, which is synced too."""
+    fd = os.open(os.path.dirname(path) or ".", os.O_RDONLY | os.O_DIRECTORY | os.O_CLOEXEC)
+    try:
+        os.fsync(fd)
+    finally:
+        os.close(fd)
+
+
+def _copy_all(fd: int, to: int) -> None:
+    at = 0
+    while True:
+        data = os.pread(fd, 1 << 20, at)
+        if not data:
+            return
+        _store(to, data, at)
+        at += len(data)
+
+
+def _new_name(part: str, path: str) -> None:
+    """Never over a file that is there: it could be the hive. Where the file system has no links, it was looked for before."""
+    try:
+        os.link(part, path)
+    except FileExistsError:
+        raise
+    except OSError:
+        os.rename(part, path)
+
+
+def _back_up(fd: int, path: str) -> None:
+    """A new file has another name until it is whole and on the disk."""
+    if os.path.lexists(path):
+        raise FileExistsError("%s is there already and is not overwritten" % path)
+    part = "%s.part%d" % (path, os.getpid())
+    to = os.open(part, os.O_WRONLY | os.O_CREAT | os.O_EXCL | os.O_CLOEXEC, 0o600)
+    try:
+        _copy_all(fd, to)
+        os.fsync(to)
+        _new_name(part, path)
+    finally:
+        os.close(to)
+        with contextlib.suppress(FileNotFoundError):
+            os.unlink(part)
+    _settle_folder(path)
+
+
+def _checked(hive: bytearray) -> Tuple[Optional[Report], Optional[Refused]]:
+    try:
+        return Hive(hive).check(), None
+    except Refused as refused:
+        return None, refused
+
+
+def _rehearse(hive: bytearray, both: Tuple[Any, ...]) -> Tuple[Optional[Report], Optional[Refused]]:
+    """What will come out, before the first write: all pages in, closed, checked; then open again, for no page is stored after a closing call."""
+    _allow(_library.hive_recover_all(*both).answer)
+    first = bytes(hive[:SECTOR])
+    _allow(_library.hive_recover_close(*both).answer)
+    answer = _checked(hive)
+    hive[:SECTOR] = first
+    return answer
+
+
+def _write_out(fd: int, hive: bytearray, both: Tuple[Any, ...]) -> None:
+    """The pages, a sync, the closing sector, a sync: the closing sector goes out only when all pages are on the disk."""
+    mark = _library.hive_recover_mark(*both[2:], 0)
+    while mark.state == THERE:
+        _store(fd, hive[mark.to:mark.to + SECTOR], mark.to)
+        mark = _library.hive_recover_mark(*both[2:], mark.page + 1)
+    os.fsync(fd)
+    _allow(_library.hive_recover_close(*both).answer)
+    _store(fd, hive[:SECTOR], 0)
+    os.fsync(fd)
+
+
+def _run(fd: int, hive: bytearray, log: Any, backup: Optional[str], dry_run: bool, anyway: bool) -> Repair:
+    own, lent = _Lent(hive, writable=True), _Lent(log)
+    both = own.memory + lent.memory
+    started = _library.hive_recover_start(*both)
+    _allow(started.answer)
+    if started.state == CLEAN:
+        if not dry_run:  # the run before may have been cut before its last sync
+            _store(fd, hive[:SECTOR], 0)
+            os.fsync(fd)
+        return Repair(True, 0, False, Hive(hive).check(), None)
+    report, refused = _rehearse(hive, both)
+    if refused is not None and (dry_run or not anyway):
+        raise Unsound(*refused.args)
+    if not dry_run:
+        if backup is not None:
+            _back_up(fd, backup)
+        _write_out(fd, hive, both)
+    return Repair(False, started.pages, not dry_run, report, refused)
+
+
+def repair(path: Union[str, "os.PathLike[str]"], log: Source, *, backup: Optional[Union[str, "os.PathLike[str]"]] = None, dry_run: bool = False,
+           anyway: bool = False) -> Repair:
+    """Repairs the hive in place with its old-format log, as `hive repair` does: the whole repair in memory first; then, under a lock, the pages are
+    stored and synced, and the first sector is stored and synced. A power failure at any moment leaves a file that the same call repairs: after
+    an OSError, or in doubt, keep the log and call again. `backup` names a new file that the hive is copied to first. What the check would
+    refuse afterwards raises Unsound, and nothing is written, unless `anyway`.
+
+    >>> repair("spoilt", "log", dry_run=True).pages
+    8
+    """
+    name = os.fspath(path)
+    fd = os.open(name, (os.O_RDONLY if dry_run else os.O_RDWR) | os.O_CLOEXEC)
+    try:
+        if not dry_run:
+            fcntl.flock(fd, fcntl.LOCK_EX | fcntl.LOCK_NB)
+        if not stat.S_ISREG(os.fstat(fd).st_mode) and not stat.S_ISBLK(os.fstat(fd).st_mode):
+            raise OSError("%s is a pipe or a terminal; repair wants a file" % name)
+        return _run(fd, _read(fd), _contents(log), None if backup is None else os.fspath(backup), dry_run, anyway)
+    finally:
+        os.close(fd)

@@ -1,0 +1,355 @@
+"""The tests of the Python binding: python3 tests/python/run.py RELEASE TOOL.., in a folder with the files of tests/c/make.c.
+
+RELEASE is a release's folder, from which the binding is imported, and TOOL the command of its tool. The last line is 'N passed, M failed'."""
+import contextlib
+import ctypes
+import doctest
+import fcntl
+import json
+import mmap
+import os
+import pickle
+import random
+import re
+import shutil
+import struct
+import subprocess
+import sys
+from unittest import mock
+
+release, tool = os.path.abspath(sys.argv[1]), sys.argv[2:]
+sys.path[:0] = [os.path.join(release, "python"), os.path.join(os.path.dirname(os.path.abspath(__file__)), os.pardir, os.pardir, "tools")]
+sys.dont_write_bytecode = True
+
+import hives  # noqa: E402
+import kiweamotu  # noqa: E402
+from kiweamotu import Hive, Refused, Unsound, repair  # noqa: E402
+
+PRINT = r"ControlSet001\Services\EventLog\Application\Print"
+passed = failed = 0
+
+
+def test(function):
+    """Runs it at once, and counts."""
+    global passed, failed
+    name = "python: " + function.__doc__
+    try:
+        function()
+        passed += 1
+        print("ok " + name)
+    except Exception as error:
+        failed += 1
+        print("FAILED %s: %s %s" % (name, type(error).__name__, error))
+
+
+def expect(found, wanted):
+    if found != wanted:
+        raise AssertionError("%r, wanted %r" % (found, wanted))
+
+
+def refusal(call, *args, **named):
+    """What a call refuses: number, place and key."""
+    try:
+        call(*args, **named)
+    except Refused as refused:
+        return refused.number, refused.place, refused.key
+    raise AssertionError("not refused")
+
+
+def bytes_of(path):
+    with open(path, "rb") as file:
+        return file.read()
+
+
+def asked(*words):
+    return subprocess.run(tool + list(words), stdout=subprocess.PIPE, check=True).stdout.decode()
+
+
+@test
+def examples():
+    """the examples of its docstrings"""
+    failures, tried = doctest.testmod(kiweamotu)
+    expect((failures, tried > 10), (0, True))
+
+
+@test
+def layouts():
+    """the header's structs and calls are its own"""
+    header = bytes_of(os.path.join(release, "include", "kiweamotu.h")).decode()
+    mine = {"Hive" + name[1:]: kind for name, kind in vars(kiweamotu).items() if re.fullmatch("_[A-Z][a-z]+", name) and name not in ("_Lent", "_View")}
+    for struct_name, kind in mine.items():
+        expect(re.findall(r"sizeof\(%s\) == (\d+)" % struct_name, header), [str(ctypes.sizeof(kind))])
+        expect(re.findall(r"offsetof\(%s, (\w+)\) == (\d+)" % struct_name, header), [(f, str(getattr(kind, f).offset)) for f, _ in kind._fields_])
+    types = {"size_t": ctypes.c_size_t, "uint32_t": ctypes.c_uint32, **mine}
+    for name, (result, arguments) in kiweamotu._CALLS.items():
+        (answer, parameters), = re.findall(r"^(\w+) %s\((.*)\);" % name, header, re.M)
+        expect(types[answer], result)
+        expect([ctypes.c_void_p if "*" in p else types[p.split()[0]] for p in parameters.split(", ") if p != "void"], arguments)
+
+
+@test
+def words():
+    """its words for every refusal are the tool's"""
+    numbers = re.findall(r"HIVE_FAULT_\w+ = (\d+),", bytes_of(os.path.join(release, "include", "kiweamotu.h")).decode())
+    expect(sorted(kiweamotu.WORDS), sorted(map(int, numbers)))
+    for number, text in kiweamotu.WORDS.items():
+        expect(asked("explain", str(number)).replace(" with --log", "").startswith("%d: %s. " % (number, text)), True)
+
+
+@test
+def as_the_tool():
+    """every key and value is the tool's"""
+    for file in ("sample", "letters", "texts", "sources"):
+        for key in Hive(file).walk():
+            lines = [json.loads(line) for line in asked("ls", "--json", "-l", file, key.path).splitlines()]
+            subkeys = [(k.name, k.offset) for k in key.subkeys]
+            expect(subkeys, [(x["name"], x["at"]) for x in lines if x["answer"] == "key"])
+            values = [(v.name, v.type_name, len(v)) for v in key.values]
+            expect(values, [(x["name"], x["type"], x["length"]) for x in lines if x["answer"] == "value"])
+
+
+@test
+def data_as_the_tool():
+    """every value's data are the tool's, and its strings"""
+    for file, path in (("sample", PRINT), ("texts", "")):
+        for value in Hive(file).key(path).values:
+            expect(Hive(file).key(path).value(value.name).name, value.name)
+            first = Hive(file).value(path, value.name)
+            told = json.loads(asked("value", "--json", file, path, value.name or "@"))
+            expect(first.data.hex(), told["hex"])
+            if "strings" in told and len(first) % 2 == 0 and "replaced" not in told:
+                expect(first.decoded if isinstance(first.decoded, list) else [first.decoded], told["strings"])
+
+
+@test
+def decoded():
+    """data as their type says"""
+    cases = [(1, "ab\0", "ab"), (2, "", ""), (6, "x\0\0", "x"), (7, "a\0b\0\0", ["a", "b"]), (7, "a\0\0b\0\0", ["a", "", "b"]), (7, "a\0b", ["a", "b"]), (7, "\0", []),
+             (7, "\0\0", [""]), (7, "", [])]
+    for kind, text, wanted in cases:
+        expect(kiweamotu._decode(kind, text.encode("utf-16-le")), wanted)
+    for kind, data, wanted in ((4, b"\1\2\0\0", 513), (5, b"\0\0\1\2", 258), (11, b"\xff" * 8, 2**64 - 1), (4, b"\1", b"\1"), (1, b"abc", b"abc"), (3, b"x", b"x"), (99, b"", b"")):
+        expect(kiweamotu._decode(kind, data), wanted)
+
+
+ODD = ["\0", "\x1b[2J", "n\xe9", "@", "\u0178", "\ud83d", "\udc00\ud800", "\U0001f600", "a.b/c", "\ufeff", "\u202e", "x" * 255]
+
+
+@test
+def names():
+    """every name round-trips: halves of pairs, zeros, marks"""
+    keys = sorted((hives.Key(name) for name in ODD), key=lambda k: hives.folded(k.name))
+    values = [hives.Value(name, name.encode("utf-16-le", "surrogatepass"), 3) for name in ["", "a\\b"] + ODD]
+    hive = Hive(hives.Builder(hives.Key("root", [hives.Key("deep", keys, values)])).hive)
+    expect(hive.check().keys, len(ODD) + 2)
+    found = list(hive.key("DEEP").subkeys)
+    expect([(hives.units(k.name), k.offset) for k in found], [(k.name, k.at) for k in keys])
+    for key in found:
+        expect(hive.key(key.path).offset, key.offset)
+    for value in hive.key("deep").values:
+        expect(hive.value("deep", value.name).data, value.name.encode("utf-16-le", "surrogatepass"))
+    expect([v.name for v in hive.key("deep").values], ["", "a\\b"] + ODD)
+
+
+@test
+def damaged():
+    """the check agrees with the plain reading of the paper, on damaged hives too"""
+    for seed in range(150):
+        dice = random.Random(seed)
+        keys = [hives.Key("k%d" % i, [hives.Key("x")], [hives.Value("v", b"12345678")]) for i in range(dice.randrange(4))]
+        made = hives.Builder(hives.Key("root", keys, [hives.Value("", bytes(dice.choice((3, 100))))]), minor=dice.choice((3, 5)))
+        file = bytearray(made.hive)
+        for _ in range(dice.randrange(3)):
+            place, width, _what = dice.choice(made.fields)
+            file[place + dice.randrange(width)] ^= 1 << dice.randrange(8)
+        if seed % 3:
+            hives.seal(file)
+        try:
+            wanted = hives.check(file, bytearray(len(file) // 64))
+        except hives.Refused as refused:
+            expect(refusal(Hive(file).check)[:2], (refused.number, refused.place if 9 <= refused.number <= 15 else None))
+            continue
+        expect(tuple(Hive(file).check()), wanted)
+
+
+@test
+def lending():
+    """memory is lent and not copied"""
+    data = bytes_of("sample")
+    spare = bytearray(data)
+    expect(Hive(spare)._memory[0], ctypes.addressof(ctypes.c_char.from_buffer(spare)))
+    spare.append(0)  # nothing holds it any more
+    with open("sample", "rb") as file, mmap.mmap(file.fileno(), 0, access=mmap.ACCESS_READ) as mapped:
+        for source in (data, bytearray(data), memoryview(b"x" + data)[1:], memoryview(bytearray(data)), mapped):
+            hive = Hive(source)
+            expect(hive.check(), Hive("sample").check())
+            expect(bytes(hive.value(PRINT, "Big").view), b"\0\0\1\2")
+            del hive
+    expect(Hive(spare).value(PRINT, "Big").view.readonly, True)
+    expect(refusal(Hive(b"").check), (1, None, None))
+
+
+@test
+def segments():
+    """data in segments are joined, and have no view"""
+    hive = Hive("sample")
+    large, = [v for v in hive.key(PRINT).values if v.name == "Large"]
+    for value in (large, hive.value(PRINT, "Large")):
+        expect((len(value), value.data.hex()), (40000, asked("value", "sample", PRINT, "Large").replace("\n", "")))
+        number, place, _key = refusal(lambda: value.view)
+        expect((number, hive._view[4096 + place + 4:4096 + place + 6].tobytes()), (19, b"vk"))
+
+
+@test
+def refusals():
+    """a refusal carries number, place, key and words, and can be stored"""
+    expect(refusal(Hive("sample").key, "a\\\\b"), (16, None, None))
+    try:
+        Hive("no-root").check()
+    except Refused as refused:
+        again = pickle.loads(pickle.dumps(refused))
+        expect((again.number, again.place, again.key, again.words), (12, 32, None, kiweamotu.WORDS[12]))
+    made = kiweamotu._refusal(12, 32, 120)
+    expect((made.place, made.key), (32, 120))
+    expect(kiweamotu._refusal(17, 0, 0xFFFFFFFF).key, None)
+
+
+@test
+def loops():
+    """a walk ends on any bytes"""
+    made = hives.Builder(hives.Key("root", [hives.Key("a", [hives.Key("b")])]))
+    root = made.root
+    a, = Hive(made.hive).subkeys
+    b, = a.subkeys
+    listed = hives.u32(made.hive, 4096 + a.offset + 4 + 28)
+    for leads_to, number in ((root, 14), (a.offset, 14), (b.offset, 0)):
+        file = hives.edited(made.hive, (4096 + listed + 8, struct.pack("<I", leads_to)))
+        if number:
+            expect(refusal(lambda: list(Hive(file).walk()))[:2], (number, leads_to))
+        else:
+            expect([k.name for k in Hive(file).walk()], ["root", "a", "b"])
+    file = hives.edited(made.hive, (4096 + listed + 8, struct.pack("<I", root)), (4096 + root + 4 + 16, struct.pack("<I", a.offset)))
+    expect(refusal(lambda: list(Hive(file).walk()))[:2], (14, root))
+    twice = hives.Builder(hives.Key("root", [hives.Key("a"), hives.Key("b")]))
+    listed = hives.u32(twice.hive, 4096 + twice.root + 4 + 28)
+    first = hives.u32(twice.hive, 4096 + listed + 8)
+    file = hives.edited(twice.hive, (4096 + listed + 16, struct.pack("<I", first)))
+    expect(refusal(lambda: list(Hive(file).walk()))[:2], (13, first))
+    deep = hives.Key("x")
+    for _ in range(513):
+        deep = hives.Key("x", [deep])
+    expect(refusal(lambda: list(Hive(hives.Builder(deep).hive).walk()))[0], 15)
+
+
+class Cut(Exception):
+    pass
+
+
+@contextlib.contextmanager
+def traced(steps, cut=None):
+    """Notes every store and sync, and raises Cut in place of the one of that number."""
+    pwrite, fsync = os.pwrite, os.fsync
+
+    def note(step):
+        if len(steps) == cut:
+            raise Cut
+        steps.append(step)
+
+    def stored(fd, data, at):
+        note("pwrite %d %d" % (at, len(data)))
+        return pwrite(fd, data, at)
+
+    def synced(fd):
+        note("fsync")
+        return fsync(fd)
+
+    with mock.patch("os.pwrite", stored), mock.patch("os.fsync", synced):
+        yield
+
+
+PAGES = ["pwrite %d 512" % (4096 + 512 * page) for page in (0, 3, 4, 17, 30, 31, 64, 127)]
+
+
+@test
+def order():
+    """repair: the tool's order of stores and syncs"""
+    shutil.copy("spoilt", "python-file")
+    with contextlib.suppress(FileNotFoundError):
+        os.remove("python-kept")
+    steps = []
+    with traced(steps):
+        done = repair("python-file", "log", backup="python-kept")
+    expect(steps, ["pwrite 0 69632", "fsync", "fsync"] + PAGES + ["fsync", "pwrite 0 512", "fsync"])
+    expect((done.clean, done.pages, done.written, done.report, done.refused), (False, 8, True, Hive("sample").check(), None))
+    expect((bytes_of("python-file"), bytes_of("python-kept")), (bytes_of("sample"), bytes_of("spoilt")))
+    steps.clear()
+    with traced(steps):
+        expect(repair("python-file", "log").clean, True)
+    expect(steps, ["pwrite 0 512", "fsync"])
+    expect(bytes_of("python-file"), bytes_of("sample"))
+
+
+@test
+def cuts():
+    """repair: cut before each store and sync, then done again"""
+    for cut in range(len(PAGES) + 3):
+        shutil.copy("spoilt", "python-file")
+        with contextlib.suppress(Cut), traced([], cut):
+            repair("python-file", "log")
+            raise AssertionError("not cut")
+        if cut < len(PAGES) + 2:  # the closing sector is not stored
+            expect(refusal(Hive("python-file").check), (7, None, None))
+        expect(repair("python-file", "log").report, Hive("sample").check())
+        expect(bytes_of("python-file"), bytes_of("sample"))
+
+
+@test
+def nothing_written():
+    """repair: a refusal, a dry run, a lock and a backup that is there change nothing"""
+    shutil.copy("spoilt", "python-file")
+    expect(repair("python-file", "log", dry_run=True).written, False)
+    expect(refusal(repair, "python-file", "short-log"), (22, None, None))
+    expect(refusal(repair, "python-file", "bad-log"), (9, 0, None))
+    for extra, kind in (({"backup": "sample"}, FileExistsError), ({"backup": "nowhere/kept"}, FileNotFoundError)):
+        with contextlib.suppress(kind):
+            repair("python-file", "log", **extra)
+            raise AssertionError("not refused")
+    with contextlib.suppress(FileExistsError), mock.patch("os.path.lexists", lambda path: False):  # it came after the look
+        repair("python-file", "log", backup="sample")
+        raise AssertionError("not refused")
+    with open("python-file", "rb") as other:
+        fcntl.flock(other, fcntl.LOCK_EX)
+        with contextlib.suppress(BlockingIOError):
+            repair("python-file", "log")
+            raise AssertionError("not locked")
+    expect(bytes_of("python-file"), bytes_of("spoilt"))
+    expect([name for name in os.listdir(".") if name.startswith("sample.part")], [])
+
+
+@test
+def unsound():
+    """repair: what the check would refuse is written only if it is asked for"""
+    shutil.copy("spoilt", "python-file")
+    try:
+        repair("python-file", "bad-log")
+        raise AssertionError("not refused")
+    except Unsound as refused:
+        expect((refused.number, bytes_of("python-file")), (9, bytes_of("spoilt")))
+    done = repair("python-file", "bad-log", anyway=True)
+    expect((done.written, done.report, done.refused.number), (True, None, 9))
+    expect(refusal(repair, "python-file", "bad-log"), (9, 0, None))
+
+
+@test
+def logs():
+    """a log is read in memory alone"""
+    data, log = bytearray(bytes_of("spoilt")), bytes_of("log")
+    expect(Hive(data, log).check(), Hive("sample").check())
+    expect(bytes(data), bytes_of("spoilt"))
+    expect(Hive("sample", b"").check(), Hive("sample").check())
+    expect(refusal(Hive, "spoilt", "short-log"), (22, None, None))
+
+
+os.remove("python-file")
+print("%d passed, %d failed" % (passed, failed))
+sys.exit(failed != 0)

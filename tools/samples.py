@@ -1,0 +1,75 @@
+"""The hives of docs/COMING-FROM.md: python3 tools/samples.py DIR makes SYSTEM; TORN with its TORN.LOG, a store that was cut; BAD, a cell of an
+impossible size; CUT, a file that ends early; DELETED, whose key `gone` and its value lie in free cells. Other readers ask for what the paper does
+not: a security item for every key, and a mark on the root. Standard library only."""
+import os
+import struct
+import sys
+
+import hives
+
+NONE = 0xFFFFFFFF
+WRITTEN = 0x01DA6B2F00000000  # 2024-02-29 16:47:36 UTC
+
+
+class Builder(hives.Builder):
+    def lay_key(self, k, parent):
+        hives.Builder.lay_key(self, k, parent)
+        data = k.at + 4
+        struct.pack_into("<Q", self.bins, data + 4, WRITTEN)
+        struct.pack_into("<II", self.bins, data + 44, self.security(), NONE)
+        if parent == NONE:
+            struct.pack_into("<H", self.bins, data + 2, 0x2C)
+
+    def security(self):
+        """One item for all keys: an owner and a group, and no list of rights."""
+        if not hasattr(self, "item"):
+            system = bytes([1, 1, 0, 0, 0, 0, 0, 5, 18, 0, 0, 0])
+            who = struct.pack("<BBHIIII", 1, 0, 0x8000, 20, 32, 0, 0) + system + system
+            self.item = self.cell(20 + len(who))
+            self.put(self.item, struct.pack("<2sHIIII", b"sk", 0, self.item, self.item, 7, len(who)) + who)
+        return self.item
+
+
+def text(words):
+    return (words + "\0").encode("utf-16-le")
+
+
+def below(names, last):
+    for name in reversed(names):
+        last = hives.Key(name, [last])
+    return last
+
+
+def system():
+    source = hives.Key("Print", [], [
+        hives.Value("EventMessageFile", text("%SystemRoot%\\System32\\localspl.dll"), 2), hives.Value("TypesSupported", struct.pack("<I", 7), 4),
+        hives.Value("Sources", text("one") + text("two") + b"\0\0", 7), hives.Value("Blob", bytes(range(40)), 3)])
+    control = below(["ControlSet001", "Services", "EventLog", "Application"], source)
+    return Builder(hives.Key("root", [control, hives.Key("Select", [], [hives.Value("Current", struct.pack("<I", 1), 4)])])).hive
+
+
+def deleted():
+    """A key's cell and its value's cell are free, and the root counts one key less; the bytes stay."""
+    root = hives.Key("root", [hives.Key("a"), hives.Key("gone", [], [hives.Value("secret", text("old"), 1)])])
+    file = bytearray(Builder(root).hive)
+    gone = root.subkeys[1]
+    for at in (gone.at, gone.values[0].at):
+        struct.pack_into("<i", file, 4096 + at, -struct.unpack_from("<i", file, 4096 + at)[0])
+    struct.pack_into("<H", file, 4096 + hives.u32(file, 4096 + root.at + 32) + 6, 1)
+    struct.pack_into("<I", file, 4096 + root.at + 24, 1)
+    return file
+
+
+def main(folder):
+    good = system()
+    torn = hives.torn(good)
+    torn[4608:5120] = bytes(512)
+    bad = bytearray(good)
+    struct.pack_into("<i", bad, 4096 + 32, -13)
+    log = hives.old_log(good, {page: bytes(good[4096 + 512 * page:4608 + 512 * page]) for page in (0, 1, 2)})
+    for name, data in (("SYSTEM", good), ("TORN", torn), ("TORN.LOG", log), ("BAD", bad), ("CUT", good[:-1024]), ("DELETED", deleted())):
+        with open(os.path.join(folder, name), "wb") as file:
+            file.write(data)
+
+
+main(sys.argv[1])
