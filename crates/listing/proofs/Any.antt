@@ -22,7 +22,6 @@ use Rattle.cells.specs.Named.{dataAt}
 use Rattle.cells.proofs.Parts.{place-room}
 use Rattle.cells.proofs.Refusals.{Ruled, by-header}
 use Rattle.records.specs.declared.Child.{Child}
-use Rattle.records.specs.declared.Key.{Key}
 use Rattle.records.specs.declared.Name.{Name}
 use Rattle.records.specs.Keys.{keyFault, keyOf, NameIn}
 use Rattle.records.specs.Lists.{leafFault, headFault, leafChildren, leavesOf, childrenIn, children}
