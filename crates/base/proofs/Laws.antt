@@ -42,11 +42,11 @@ sized n e =
 
 module _ (s : List ℕ) (type : ℕ) where
   -- the tests 2 to 5 pass exactly when the block is usable
-  pub usable-block : usable s type ≡ true → blockFault s type ≡ Sound
+  usable-block : usable s type ≡ true → blockFault s type ≡ Sound
   unfolding usable
   usable-block e = is-sound (blockFault s type) e
 
-  pub block-usable : blockFault s type ≡ Sound → usable s type ≡ true
+  block-usable : blockFault s type ≡ Sound → usable s type ≡ true
   unfolding usable
   block-usable e = ap isSound e
 

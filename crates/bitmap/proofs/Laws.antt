@@ -24,7 +24,7 @@ module _ (map : List ℕ) where
   before-mono p q h = le-ind (λ (m : ℕ). bitsBefore map p ≤ bitsBefore map m) (le-refl (bitsBefore map p)) (λ m k e. omega arith) q h
 
   -- a set bit adds one
-  pub before-marked : (p : ℕ) → isMarked map p ≡ true → bitsBefore map (suc p) ≡ bitsBefore map p + 1
+  before-marked : (p : ℕ) → isMarked map p ≡ true → bitsBefore map (suc p) ≡ bitsBefore map p + 1
   unfolding bitsBefore
   before-marked p e = ap (λ (n : ℕ). bitsBefore map p + n) (eqb-true (bit map p) 1 e)
 

@@ -102,14 +102,14 @@ module _ (d : List ℕ) where
           = bits-from d refl b z long (n / 8) ∙ rw (zeros-bit (length d / 64) m (n / 8) (omega arith), k) (omega arith) in
           marked-set (marksAll (layout d 0) z) n (eqb-true (n % 8) 0 e) ∙ ap (λ (x : ℕ). eqb x 1) is-set ∙ eqb-flag (startsIn (layout d 0) n)
 
-  pub map-mapped : BinsTile d 0 → length d % 4096 ≡ 0 → (m : List ℕ) → length d / 64 ≤ length m
+  map-mapped : BinsTile d 0 → length d % 4096 ≡ 0 → (m : List ℕ) → length d / 64 ≤ length m
       → Mapped d (marksAll (layout d 0) (zeros (length d / 64) m))
   map-mapped b l m r o lt =
       let w = map-walk b l m r o lt in
       (λ e. starts-exactly d o .0 (sym w ∙ e), λ u. w ∙ starts-exactly d o .1 u)
 
   -- the header's rule names them too, with the same bounds
-  pub header-names : BinsTile d 0 → (m : List ℕ) (o : Offset) → InUse d o → cellOf Header d m o ≡ Named (cellAt d o)
+  header-names : BinsTile d 0 → (m : List ℕ) (o : Offset) → InUse d o → cellOf Header d m o ≡ Named (cellAt d o)
   unfolding cellOf byHeader
   header-names b m o e = rw (in-use b o e)
 
@@ -119,7 +119,7 @@ module _ (d : List ℕ) where
 
   -- the map names exactly the cells in use
   module _ (b : BinsTile d 0) (m : List ℕ) (mapped : Mapped d m) (o : Offset) where
-    pub map-names : InUse d o → cellOf Map d m o ≡ Named (cellAt d o)
+    map-names : InUse d o → cellOf Map d m o ≡ Named (cellAt d o)
     unfolding cellOf byHeader
     map-names e =
         let n = in-use b o e in

@@ -132,7 +132,7 @@ module _ (d : List ℕ) (o : Offset) where
       by false f = let z : _≡_ {A = ℕ} 0 1 = cc in absurd (omega arith)
 
   -- by either rule, a cell that is found is one by its own header
-  pub by-either : (r : Rule) (m : List ℕ) {c : Cell} → cellOf r d m o ≡ Named c → byHeader d o ≡ Named c
+  by-either : (r : Rule) (m : List ℕ) {c : Cell} → cellOf r d m o ≡ Named c → byHeader d o ≡ Named c
   unfolding cellOf
   by-either Header m e = e
   by-either Map m {c} e = by (isMarked m (o .0)) refl
@@ -149,7 +149,7 @@ module _ (d : List ℕ) (o : Offset) where
       rw (f .1) (record { ends = omega arith })
 
   -- what is not found is missing at the offset itself
-  pub missing : (r : Rule) (m : List ℕ) {f : Flaw} → cellOf r d m o ≡ Missing f → f ≡ flaw NoCell o
+  missing : (r : Rule) (m : List ℕ) {f : Flaw} → cellOf r d m o ≡ Missing f → f ≡ flaw NoCell o
   unfolding cellOf byHeader
   missing Header m {f} e = by (isNamed d (o .0)) refl
     where

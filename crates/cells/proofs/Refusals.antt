@@ -114,7 +114,7 @@ module _ (d : List ℕ) where
   bins-number (no-size b h c lt n) = (omega arith, omega arith)
 
 -- 1 to 8
-pub front-refuses : (h : List ℕ) (room : ℕ) → Every (OfSurvey h room) (frontFault h room)
+front-refuses : (h : List ℕ) (room : ℕ) → Every (OfSurvey h room) (frontFault h room)
 unfolding frontFault
 front-refuses h room =
     every-next (OfSurvey h room) (baseFault h) _ (λ f e. of-base (base-refuses h f e))

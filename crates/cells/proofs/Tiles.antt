@@ -164,7 +164,7 @@ module _ (d : List ℕ) where
           (ih lt h u' f' (rw (bins-step d at lt (eqb-false n 0 g), s) at e))
 
   -- bins that tile are counted, and so are all their cells
-  pub survey-sums : {at : ℕ} (b : BinsTile d at) (c u f : ℕ)
+  survey-sums : {at : ℕ} (b : BinsTile d at) (c u f : ℕ)
       → surveyOf (layout d at) c u f ≡ Tiled (record { bins = c + binCount b; used = u + usedBytes (cellsIn b); free = f + freeBytes (cellsIn b) })
   unfolding surveyOf addRow cellsIn binCount usedBytes freeBytes
   survey-sums {at} (bins-end e) c u f = rw (bins-done d at (omega arith)) (ap Tiled (counts-same (omega arith) (omega arith) (omega arith)))

@@ -14,11 +14,11 @@ use borrow.Author.Tests.{le-ltb, ltb-true}
 use Rattle.fields.specs.declared.Size.{Size}
 use Rattle.fields.specs.Number.{sizeOf}
 
-pub minus-one : (n : ℕ) → negsuc 0 -ℤ pos n ≡ negsuc n
+minus-one : (n : ℕ) → negsuc 0 -ℤ pos n ≡ negsuc n
 minus-one zero = refl
 minus-one (suc n) = ap (λ (k : ℕ). negsuc (suc k)) (omega arith)
 
-pub toZ-high : (v : ℕ) → 2 ^ 31 ≤ v → toZ w32 v ≡ negsuc (2 ^ 32 - suc v)
+toZ-high : (v : ℕ) → 2 ^ 31 ≤ v → toZ w32 v ≡ negsuc (2 ^ 32 - suc v)
 toZ-high v h = simp (le-ltb v (2 ^ 31) h)
 
 -- the code's -1 - (0xffff_ffff - v)
@@ -29,7 +29,7 @@ below v h =
     ∙ ap negsuc e ∙ sym (toZ-high v h)
 
 -- the code's -1 - z
-pub flip : (n : ℕ) → negsuc 0 -ℤ negsuc n ≡ pos n
+flip : (n : ℕ) → negsuc 0 -ℤ negsuc n ≡ pos n
 flip n = let e : suc n - 1 ≡ n = omega arith in rw (le-ltb (suc n) 1 (omega arith)) (ap pos e)
 
 -- what `size_of` needs of z, by whether z is below zero

@@ -1,20 +1,17 @@
 -- On any bytes: a view and a copy agree, a refusal changes nothing, and a copy changes exactly the first bytes of its output.
-use Prim.Native.Nat.{ℕ, _+_, _-_, _≤_}
+use Prim.Native.Nat.{ℕ, _≤_}
 use native.Mathlib.Omega.{arith}
 use mathlib.Core.Path.{_≡_, refl, sym, ap, _∙_}
 use mathlib.Core.Bool.{Bool, true, false}
-use mathlib.Core.List.{List, _++_, append-nil}
+use mathlib.Core.List.{List, _++_}
 use lib.Dec.{leb}
-use lib.ListN.{length, take, drop, length-append, length-drop}
-use lib.Seq.{take-at, drop-at}
+use lib.ListN.{length, drop}
+use lib.Seq.{drop-at}
 use borrow.Author.Tests.{leb-true}
 use Rattle.fields.specs.declared.Offset.{Offset}
 use Rattle.fields.specs.declared.Refusal.{Refusal}
-use Rattle.fields.proofs.Loops.{drop-all}
 use Rattle.base.specs.Block.{binsData}
-use Rattle.values.specs.declared.ValueData.{ValueData}
-use Rattle.values.specs.declared.ValueData.the-variants.{Segments}
-use Rattle.values.specs.Segments.{segmentsOf, joinedBytes, bytesOf}
+use Rattle.values.specs.Segments.{bytesOf}
 use Rattle.values.proofs.LawsData.{bytes-length}
 use Rattle.paths.specs.Answers.{findAnswer}
 use Rattle.lookup.specs.declared.Copied.the-variants.{Done, Refused as Uncopied}
@@ -38,7 +35,7 @@ view-is h us x {i} e = let a = view-answered h us x e in view-part h us x e ∙ 
 
 module _ (h us x out : List ℕ) where
   -- a copy that is done
-  pub record Written (n : ℕ) : Type 0 where
+  record Written (n : ℕ) : Type 0 where
     pub info : Info
     pub answers : infoAnswer h us x ≡ At info
     pub long : info .len ≡ n
@@ -46,7 +43,7 @@ module _ (h us x out : List ℕ) where
     pub bytes : length (bytesOf (binsData h) (info .content)) ≡ n
     pub is : copyOut h us x out ≡ bytesOf (binsData h) (info .content) ++ drop n out
 
-  pub done-written : {n : ℕ} → copyAnswer h us x (length out) ≡ Done n → Written n
+  done-written : {n : ℕ} → copyAnswer h us x (length out) ≡ Done n → Written n
   unfolding copyAnswer
   done-written {n} e = by (infoAnswer h us x) refl
     where
@@ -64,24 +61,10 @@ module _ (h us x out : List ℕ) where
             is = copy-written h us x out q (d .0) ∙ ap (λ (k : ℕ). bytesOf (binsData h) (i .content) ++ drop k out) (d .1);
           }
 
-  -- it keeps the output's length, and every byte past the data's length
-  pub copy-length : {n : ℕ} → copyAnswer h us x (length out) ≡ Done n → length (copyOut h us x out) ≡ length out
-  copy-length {n} e =
-      let w = done-written e in
-      let a = length-append (bytesOf (binsData h) (w .info .content)) (drop n out) in
-      let b = length-drop n out in
-      ap length (w .is) ∙ omega (arith, w .bytes, w .fits)
-
   pub copy-beyond : {n : ℕ} → copyAnswer h us x (length out) ≡ Done n → drop n (copyOut h us x out) ≡ drop n out
   copy-beyond {n} e =
       let w = done-written e in
       ap (drop n) (w .is) ∙ drop-at (bytesOf (binsData h) (w .info .content)) (drop n out) n (w .bytes)
-
-  -- and its first bytes are the data's
-  pub copy-first : {n : ℕ} (e : copyAnswer h us x (length out) ≡ Done n) → take n (copyOut h us x out) ≡ bytesOf (binsData h) (done-written e .info .content)
-  copy-first {n} e =
-      let w = done-written e in
-      ap (take n) (w .is) ∙ take-at (bytesOf (binsData h) (w .info .content)) (drop n out) n (w .bytes)
 
   -- a refusal changes nothing
   pub refused-untouched : {f : Refusal} → copyAnswer h us x (length out) ≡ Uncopied f → copyOut h us x out ≡ out
@@ -92,13 +75,3 @@ module _ (h us x out : List ℕ) where
   module _ {i : Info} (e : viewAnswer h us x ≡ At i) where
     pub views-copied : i .len ≤ length out → copyOut h us x out ≡ viewBytes h us x ++ drop (i .len) out
     views-copied p = copy-written h us x out (view-info-same h us x e) p ∙ ap (λ (s : List ℕ). s ++ drop (i .len) out) (sym (view-is h us x e))
-
-    pub view-copy : length out ≡ i .len → copyOut h us x out ≡ viewBytes h us x
-    view-copy p =
-        views-copied (omega arith) ∙ ap (λ (s : List ℕ). viewBytes h us x ++ s) (drop-all out (i .len) (omega arith)) ∙ append-nil (viewBytes h us x)
-
-  -- the copy of segments is their bytes, one after the other
-  pub segments-copied : {i : Info} {o : Offset} {n : ℕ} → infoAnswer h us x ≡ At i → i .content ≡ Segments o n → i .len ≤ length out
-      → copyOut h us x out ≡ joinedBytes (binsData h) (segmentsOf (binsData h) o n) ++ drop (i .len) out
-  unfolding bytesOf
-  segments-copied {i} e q p = copy-written h us x out e p ∙ ap (λ (y : ValueData). bytesOf (binsData h) y ++ drop (i .len) out) q

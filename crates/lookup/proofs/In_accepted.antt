@@ -1,27 +1,21 @@
 -- The value calls in a hive that is clean and well formed, so in every hive that the check accepts: each answers what the key of the path holds, and
 -- neither 11 nor 12 can occur.
 use Prim.Native.Nat.{ℕ, _<_, _≤_}
-use native.Mathlib.Omega.{arith}
-use mathlib.Core.Path.{_≡_, refl, sym, ap, _∙_}
-use mathlib.Core.Bool.{Bool, true, false, cond}
+use mathlib.Core.Path.{_≡_, refl, ap, _∙_}
 use mathlib.Core.List.{List, [], _++_, List·Memᴰ, List·Memᴰ·head, List·Memᴰ·tail}
-use lib.Dec.{eqb}
-use lib.ListN.{length, take, drop}
-use borrow.Author.Tests.{eqb-true}
+use lib.ListN.{length, drop}
 use Rattle.fields.specs.declared.Fault.the-variants.{NoValue, Segmented, OutputShort}
 use Rattle.fields.specs.declared.Offset.{Offset}
-use Rattle.fields.specs.declared.Refusal.{Refusal}
 use Rattle.fields.specs.declared.Verdict.the-variants.{Sound}
 use Rattle.fields.specs.Faults.{flaw, nowhere, refusalOf, _next_}
 use Rattle.fields.proofs.Firsts.{on}
 use Rattle.base.specs.Block.{sector, minorOf, binsData}
 use Rattle.cells.specs.declared.Rule.the-variants.{Header}
-use Rattle.cells.specs.Named.{dataAt}
 use Rattle.records.specs.Keys.{keyOf}
 use Rattle.values.specs.declared.ValueData.{ValueData}
 use Rattle.values.specs.declared.ValueData.the-variants.{Inline, OneCell, Segments}
 use Rattle.values.specs.Records.{dataIn, valueOf}
-use Rattle.values.specs.Segments.{dataFault, segmentsOf, joinedBytes, bytesOf, lengthOf}
+use Rattle.values.specs.Segments.{dataFault, bytesOf, lengthOf}
 use Rattle.values.specs.Lists.{valuesOf}
 use Rattle.tree.specs.Tree.{levels, hiveOf}
 use Rattle.tree.specs.WellFormed.{CleanAndWellFormed, ValuesStand}
@@ -32,15 +26,14 @@ use Rattle.paths.specs.Answers.{keyLook, findAnswer}
 use Rattle.paths.proofs.Exact.{find-exactly, found-look-is}
 use Rattle.paths.proofs.In_accepted.{holds-stands}
 use Rattle.lookup.specs.declared.Copied.the-variants.{Done, Refused as Uncopied}
-use Rattle.lookup.specs.declared.Info.{Info}
 use Rattle.lookup.specs.declared.Spot.the-variants.{Found}
 use Rattle.lookup.specs.declared.ValueFound.the-variants.{At as ValueAt, Refused as Unvalued}
 use Rattle.lookup.specs.Answers.{inKey, valueLook, infoOf, viewFault, infoAnswer, viewAnswer, viewBytes, copyAnswer, copyOut}
 use Rattle.lookup.specs.Reach.{FirstNamed, first, later}
 use Rattle.lookup.proofs.ValueFinds.{value-exactly, value-none, data-good}
-use Rattle.lookup.proofs.Value_searches.{in-found, value-below}
+use Rattle.lookup.proofs.Value_searches.{value-below}
 use Rattle.lookup.proofs.Value_answers.{info-missing}
-use Rattle.lookup.proofs.Answered.{content-as, info-answered, copy-short, copy-done, copy-written}
+use Rattle.lookup.proofs.Answered.{content-as, copy-short, copy-done, copy-written}
 use Rattle.lookup.proofs.Agree.{view-is}
 
 -- the first value of a name is one of the values
@@ -89,27 +82,6 @@ module _ (h : List ℕ) (w : CleanAndWellFormed h) (us : List ℕ) where
           info-missing h us x
           (value-below h us x at ∙ ap (inKey o) (value-none (binsData h) (w .formed .tiled) (minorOf (sector h)) (keyOf (binsData h) o) stands x f))
 
-      -- so the answer is the first value of that name, and 18 exactly if there is none: no other refusal can occur
-      pub info-says : {i : Info} → infoAnswer h us x ≡ ValueAt i
-          → (v : Offset) × FirstNamed (binsData h) (minorOf (sector h)) x (valuesOf (binsData h) (keyOf (binsData h) o)) v
-          × (i ≡ infoOf (valueOf (binsData h) (minorOf (sector h)) v))
-      info-says e =
-          let a = info-answered h us x e in (
-            a .value,
-            value-exactly (binsData h) (w .formed .tiled) (minorOf (sector h)) (keyOf (binsData h) o) stands x (a .value) .0
-                (in-found o _ (sym (value-below h us x at) ∙ a .found) .1),
-            a .info,
-          )
-
-      pub info-refused : {f : Refusal} → infoAnswer h us x ≡ Unvalued f
-          → ((v : Offset) → FirstNamed (binsData h) (minorOf (sector h)) x (valuesOf (binsData h) (keyOf (binsData h) o)) v → ⊥)
-          × (f ≡ refusalOf o (flaw NoValue nowhere))
-      info-refused {f} e =
-          let none : (v : Offset) → FirstNamed (binsData h) (minorOf (sector h)) x (valuesOf (binsData h) (keyOf (binsData h) o)) v → ⊥ =
-          λ v g. let q = sym (info-first g) ∙ e in let z : _≡_ {A = ℕ} 0 1 = cc in omega arith in
-          let q = sym (info-none none) ∙ e in
-          (none, let z : refusalOf o (flaw NoValue nowhere) ≡ f = cc in sym z)
-
       -- ---- the bytes of the first value of that name
       module _ (v : Offset) (named : FirstNamed (binsData h) (minorOf (sector h)) x (valuesOf (binsData h) (keyOf (binsData h) o)) v) where
         view-sound : viewFault v (dataIn (binsData h) (minorOf (sector h)) v) ≡ Sound
@@ -127,20 +99,6 @@ module _ (h : List ℕ) (w : CleanAndWellFormed h) (us : List ℕ) where
             → (viewAnswer h us x ≡ ValueAt (infoOf (valueOf (binsData h) (minorOf (sector h)) v)))
             × (viewBytes h us x ≡ bytesOf (binsData h) (dataIn (binsData h) (minorOf (sector h)) v))
         viewed f = let q = unsegmented v (dataIn (binsData h) (minorOf (sector h)) v) f in (view-sound q, shows q)
-
-        -- inline: the bytes at 8 of the record
-        pub inline-viewed : (a : Offset) (n : ℕ) → dataIn (binsData h) (minorOf (sector h)) v ≡ Inline a n → viewBytes h us x ≡ take n (drop 8 (dataAt (binsData h) a))
-        unfolding viewFault bytesOf
-        inline-viewed a n e = shows (rw e) ∙ rw e
-
-        -- in one cell: the start of the cell's data; size 0 shows nothing
-        pub cell-viewed : (a : Offset) (n : ℕ) → dataIn (binsData h) (minorOf (sector h)) v ≡ OneCell a n → viewBytes h us x ≡ take n (dataAt (binsData h) a)
-        unfolding viewFault bytesOf
-        cell-viewed a n e = shows (rw e) ∙ rw e (by (eqb n 0) refl)
-          where
-            by : (t : Bool) → eqb n 0 ≡ t → cond (eqb n 0) [] (take n (dataAt (binsData h) a)) ≡ take n (dataAt (binsData h) a)
-            by true q = rw (q, eqb-true n 0 q)
-            by false q = rw q
 
         -- in segments: 19 at the value
         pub segments-unviewed : (a : Offset) (n : ℕ) → dataIn (binsData h) (minorOf (sector h)) v ≡ Segments a n
@@ -169,8 +127,3 @@ module _ (h : List ℕ) (w : CleanAndWellFormed h) (us : List ℕ) where
         copied out p =
             copy-written h us x out (info-first named) (rw (← content) at p)
             ∙ ap (λ (y : ValueData). bytesOf (binsData h) y ++ drop (lengthOf y) out) content
-
-        pub segments-copied : (a : Offset) (n : ℕ) → dataIn (binsData h) (minorOf (sector h)) v ≡ Segments a n → (out : List ℕ) → n ≤ length out
-            → copyOut h us x out ≡ joinedBytes (binsData h) (segmentsOf (binsData h) a n) ++ drop n out
-        unfolding bytesOf
-        segments-copied a n e out p = copied out (rw e p) ∙ rw e

@@ -70,7 +70,7 @@ module _ (d : List ℕ) (minor : ℕ) (x : List ℕ) (k : Key) where
     values-are = let w = entered-whole (valueListFault Header d [] k) _ q in rw (w .0, list-values Header d [] k (w .0) e (w .1))
 
   -- a value that is found has passed its tests
-  pub value-tested : {v : Offset} → lookupValue d minor x k ≡ Found v → valueFault Header d [] v ≡ Sound
+  value-tested : {v : Offset} → lookupValue d minor x k ≡ Found v → valueFault Header d [] v ≡ Sound
   unfolding lookupValue valueNamed
   value-tested e =
       let c = first-at (valueNamed d minor x) (valuesOf d k) (sound-found (valueListFault Header d [] k) _ e .1) in
@@ -78,7 +78,7 @@ module _ (d : List ℕ) (minor : ℕ) (x : List ℕ) (k : Key) where
       subst (λ (y : Offset). valueFault Header d [] y ≡ Sound) (picked (sameName (codesOf d (valueOf d minor (c .0) .name)) x) (c .0) (s .1) .1) (s .0)
 
 -- what is found in a key
-pub in-found : (o : Offset) (l : Look) {k v : Offset} → inKey o l ≡ spot.Found k v → (o ≡ k) × (l ≡ Found v)
+in-found : (o : Offset) (l : Look) {k v : Offset} → inKey o l ≡ spot.Found k v → (o ≡ k) × (l ≡ Found v)
 in-found o (Found u) e = (cc, cc)
 in-found o Missing e = absurd (let z : _≡_ {A = ℕ} 0 1 = cc in omega arith)
 in-found o (Faulty f) e = absurd (let z : _≡_ {A = ℕ} 0 1 = cc in omega arith)

@@ -23,13 +23,13 @@ by-order {P} x y lt gt eq = pick (ltb x y) (ltb y x) refl refl
 pub same-before : {P : Type 0} → Same ≡ Before → P
 same-before e = let z : _≡_ {A = ℕ} 0 1 = cc in absurd (omega arith)
 
-pub after-before : {P : Type 0} → After ≡ Before → P
+after-before : {P : Type 0} → After ≡ Before → P
 after-before e = let z : _≡_ {A = ℕ} 0 1 = cc in absurd (omega arith)
 
-pub before-same : {P : Type 0} → Before ≡ Same → P
+before-same : {P : Type 0} → Before ≡ Same → P
 before-same e = same-before (sym e)
 
-pub after-same : {P : Type 0} → After ≡ Same → P
+after-same : {P : Type 0} → After ≡ Same → P
 after-same e = let z : _≡_ {A = ℕ} 0 1 = cc in absurd (omega arith)
 
 -- one turn, at the first two codes

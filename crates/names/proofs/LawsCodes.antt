@@ -11,7 +11,7 @@ use borrow.Author.Tests.{eq-eqb, ne-eqb}
 use Rattle.fields.specs.Number.{u16At}
 use Rattle.names.specs.Codes.{codes, charactersIn, hasCode}
 
-pub narrow-length : (s : List ℕ) → length (codes true s) ≡ length s
+narrow-length : (s : List ℕ) → length (codes true s) ≡ length s
 unfolding codes
 narrow-length s = refl
 
@@ -27,7 +27,7 @@ unfolding charactersIn
 counted true s = sym (narrow-length s)
 counted false s = sym (wide-length s)
 
-pub narrow-at : (s : List ℕ) (i : ℕ) → getD (codes true s) i 0 ≡ getD s i 0
+narrow-at : (s : List ℕ) (i : ℕ) → getD (codes true s) i 0 ≡ getD s i 0
 unfolding codes
 narrow-at s i = refl
 

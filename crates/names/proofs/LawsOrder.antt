@@ -17,7 +17,7 @@ pub same-uppers : (xs ys : List ℕ) → compare xs ys ≡ Same → uppers xs �
 unfolding compare
 same-uppers xs ys s = code-equal (uppers xs) (uppers ys) s
 
-pub uppers-same : (xs ys : List ℕ) → uppers xs ≡ uppers ys → compare xs ys ≡ Same
+uppers-same : (xs ys : List ℕ) → uppers xs ≡ uppers ys → compare xs ys ≡ Same
 unfolding compare
 uppers-same xs ys e = rw e (code-same (uppers ys))
 
@@ -48,11 +48,11 @@ unfolding compare
 transitive xs ys zs = code-transitive (uppers xs) (uppers ys) (uppers zs)
 
 -- the other way round `Before` and `After` change places
-pub compare-turned : (xs ys : List ℕ) → compare ys xs ≡ turned (compare xs ys)
+compare-turned : (xs ys : List ℕ) → compare ys xs ≡ turned (compare xs ys)
 unfolding compare
 compare-turned xs ys = code-turned (uppers xs) (uppers ys)
 
-pub after-turned : (xs ys : List ℕ) → compare xs ys ≡ After → compare ys xs ≡ Before
+after-turned : (xs ys : List ℕ) → compare xs ys ≡ After → compare ys xs ≡ Before
 after-turned xs ys a = compare-turned xs ys ∙ ap turned a
 
 pub before-turned : (xs ys : List ℕ) → compare xs ys ≡ Before → compare ys xs ≡ After

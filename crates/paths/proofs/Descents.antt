@@ -77,7 +77,7 @@ module _ (d x : List ℕ) where
           let l = first-at (searchLeaf d x) (leavesOf d (k .list)) (sound-found (headFault Header d [] (k .list)) _ q .1) in
           leaf-tested (l .0) (l .1)
 
-pub descend-tested : (d : List ℕ) (o : Offset) (xs : List (List ℕ)) {e : Offset} → keyFault Header d [] o ≡ Sound → descend d o xs ≡ way.Found e
+descend-tested : (d : List ℕ) (o : Offset) (xs : List (List ℕ)) {e : Offset} → keyFault Header d [] o ≡ Sound → descend d o xs ≡ way.Found e
     → keyFault Header d [] e ≡ Sound
 unfolding descend onFound
 descend-tested d o [] t p = subst (λ (y : Offset). keyFault Header d [] y ≡ Sound) (cc) t

@@ -35,7 +35,7 @@ module _ (h : List ℕ) (w : CleanAndWellFormed h) where
   unfolding openFault pathFault
   open-path us p = on _ _ (facts-base h (w .is-clean) (w .inside)) ∙ fails (flaw PathParts nowhere) p
 
-  pub look-is : (us : List ℕ) → isPath us ≡ true → keyLook h us ≡ descend (binsData h) (hiveOf h .root) (partsOf us)
+  look-is : (us : List ℕ) → isPath us ≡ true → keyLook h us ≡ descend (binsData h) (hiveOf h .root) (partsOf us)
   unfolding keyLook lookupKey
   look-is us p = rw (open-sound us p, key-good (binsData h) (hiveOf h) (w .formed .tiled) levels (hiveOf h .root) (w .formed .tree))
 
@@ -48,7 +48,7 @@ module _ (h : List ℕ) (w : CleanAndWellFormed h) where
     missing-look e = look-is us p ∙ e
 
     -- a key is found under a path exactly when the tree holds it there
-    pub look-exactly : (o : Offset) → (keyLook h us ≡ Found o) ↔ Holds (binsData h) (hiveOf h .root) (partsOf us) o
+    look-exactly : (o : Offset) → (keyLook h us ≡ Found o) ↔ Holds (binsData h) (hiveOf h .root) (partsOf us) o
     look-exactly o = (to, λ r. found-look (holds-found (binsData h) (hiveOf h) (w .formed .tiled) levels (hiveOf h .root) (partsOf us) (w .formed .tree) r))
       where
         to : keyLook h us ≡ Found o → Holds (binsData h) (hiveOf h .root) (partsOf us) o
@@ -63,7 +63,7 @@ module _ (h : List ℕ) (w : CleanAndWellFormed h) where
             by (Faulty f) q = absurd (never-faulty (binsData h) (hiveOf h) (w .formed .tiled) levels (hiveOf h .root) (partsOf us) (w .formed .tree) q)
 
     -- and where it holds none, the way ends at the deepest key that it holds
-    pub look-none : ((o : Offset) → Holds (binsData h) (hiveOf h .root) (partsOf us) o → ⊥)
+    look-none : ((o : Offset) → Holds (binsData h) (hiveOf h .root) (partsOf us) o → ⊥)
         → (k : Offset) × (keyLook h us ≡ Missing k) × Deepest (binsData h) (hiveOf h .root) (partsOf us) k
     look-none f = by (descend (binsData h) (hiveOf h .root) (partsOf us)) refl
       where
@@ -75,7 +75,7 @@ module _ (h : List ℕ) (w : CleanAndWellFormed h) where
         by (Faulty g) q = absurd (never-faulty (binsData h) (hiveOf h) (w .formed .tiled) levels (hiveOf h .root) (partsOf us) (w .formed .tree) q)
 
   -- a malformed path is 16, whatever the tree
-  pub look-malformed : (us : List ℕ) → isPath us ≡ false → keyLook h us ≡ Faulty (refusalOf noKey (flaw PathParts nowhere))
+  look-malformed : (us : List ℕ) → isPath us ≡ false → keyLook h us ≡ Faulty (refusalOf noKey (flaw PathParts nowhere))
   unfolding keyLook
   look-malformed us p = rw (open-path us p)
 

@@ -40,19 +40,19 @@ module _ (d x : List ℕ) where
   unfolding keyNamed
   named-bad c e = rw e
 
-  pub named-yes : (c : Child) → keyFault Header d [] (c .at) ≡ Sound → sameName (nameAt d (c .at)) x ≡ true → keyNamed d x c ≡ Found (c .at)
+  named-yes : (c : Child) → keyFault Header d [] (c .at) ≡ Sound → sameName (nameAt d (c .at)) x ≡ true → keyNamed d x c ≡ Found (c .at)
   unfolding keyNamed
   named-yes c e p = rw (e, p)
 
-  pub named-no : (c : Child) → keyFault Header d [] (c .at) ≡ Sound → sameName (nameAt d (c .at)) x ≡ false → keyNamed d x c ≡ Missing
+  named-no : (c : Child) → keyFault Header d [] (c .at) ≡ Sound → sameName (nameAt d (c .at)) x ≡ false → keyNamed d x c ≡ Missing
   unfolding keyNamed
   named-no c e p = rw (e, p)
 
-  pub or-missing : (a b : Look) → a ≡ Missing → orElse a b ≡ b
+  or-missing : (a b : Look) → a ≡ Missing → orElse a b ≡ b
   unfolding orElse
   or-missing a b e = rw e
 
-  pub or-found : (a b : Look) {o : Offset} → a ≡ Found o → orElse a b ≡ Found o
+  or-found : (a b : Look) {o : Offset} → a ≡ Found o → orElse a b ≡ Found o
   unfolding orElse
   or-found a b e = rw e
 

@@ -24,7 +24,7 @@ use Rattle.paths.proofs.Splits.{PartNames, no-names, names-on, parts-jo
 use Rattle.paths.proofs.Exact.{find-exactly}
 
 -- a key that is listed has names along its way
-pub listed-named : (d : List ℕ) (n : ℕ) (at k : Offset) → List·Memᴰ k (keysIn d n at) → (xs : List (List ℕ)) × Named d at xs k
+listed-named : (d : List ℕ) (n : ℕ) (at k : Offset) → List·Memᴰ k (keysIn d n at) → (xs : List (List ℕ)) × Named d at xs k
 unfolding keysIn
 listed-named d zero at k i = absurd (List·Memᴰ·not-nil i)
 listed-named d (suc n) at k i =
@@ -52,12 +52,12 @@ module _ (h : List ℕ) (w : CleanAndWellFormed h) where
     good-names : PartNames xs
     good-names = part-names (binsData h) (hiveOf h) (w .formed .tiled) levels (w .formed .tree) named
 
-    pub named-path : isPath (joinedBy xs) ≡ true
+    named-path : isPath (joinedBy xs) ≡ true
     named-path =
         let f = held-few (binsData h) (hiveOf h) (w .formed .tiled) levels xs (w .formed .tree) (named-holds named) in
         path-joined xs good-names (omega arith)
 
-    pub named-found : findAnswer h (joinedBy xs) ≡ At k
+    named-found : findAnswer h (joinedBy xs) ≡ At k
     named-found =
         find-exactly h w (joinedBy xs) k .1
         (rw (parts-joined xs good-names) (named-holds named))

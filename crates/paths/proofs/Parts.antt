@@ -31,7 +31,7 @@ split-is (u ∷ us) = by (eqb u backslash) refl (split-is us)
     by false e q = rw (e, q)
 
 -- the first part is the start of the path
-pub first-taken : (us : List ℕ) → take (length (firstPart us)) us ≡ firstPart us
+first-taken : (us : List ℕ) → take (length (firstPart us)) us ≡ firstPart us
 unfolding firstPart
 first-taken [] = refl
 first-taken (u ∷ us) = by (eqb u backslash) refl (first-taken us)
@@ -41,7 +41,7 @@ first-taken (u ∷ us) = by (eqb u backslash) refl (first-taken us)
     by true e q = rw e
     by false e q = rw e (ap (λ (l : List ℕ). u ∷ l) q)
 
-pub first-within : (us : List ℕ) → length (firstPart us) ≤ length us
+first-within : (us : List ℕ) → length (firstPart us) ≤ length us
 unfolding firstPart
 first-within [] = omega arith
 first-within (u ∷ us) = by (eqb u backslash) refl (first-within us)
@@ -51,7 +51,7 @@ first-within (u ∷ us) = by (eqb u backslash) refl (first-within us)
     by false e q = rw e (omega arith)
 
 -- behind it stand the parts of what follows its backslash, or none
-pub behind-cut : (us : List ℕ) → length (firstPart us) < length us → behind us ≡ split (drop (suc (length (firstPart us))) us)
+behind-cut : (us : List ℕ) → length (firstPart us) < length us → behind us ≡ split (drop (suc (length (firstPart us))) us)
 unfolding firstPart behind
 behind-cut [] p = absurd (omega arith)
 behind-cut (u ∷ us) p = by (eqb u backslash) refl (behind-cut us)
@@ -61,7 +61,7 @@ behind-cut (u ∷ us) p = by (eqb u backslash) refl (behind-cut us)
     by true e q = rw e
     by false e q = rw e (q (let s = rw e at p in omega arith))
 
-pub behind-end : (us : List ℕ) → length us ≤ length (firstPart us) → behind us ≡ []
+behind-end : (us : List ℕ) → length us ≤ length (firstPart us) → behind us ≡ []
 unfolding firstPart behind
 behind-end [] p = refl
 behind-end (u ∷ us) p = by (eqb u backslash) refl (behind-end us)

@@ -8,19 +8,17 @@ use lib.ListN.{length}
 use lib.Dec.{leb}
 use borrow.Author.Tests.{leb-true, not-true}
 use Rattle.fields.specs.declared.Offset.{Offset}
-use Rattle.fields.specs.declared.Flaw.{Flaw}
-use Rattle.fields.specs.declared.Verdict.the-variants.{Sound, Flawed}
+use Rattle.fields.specs.declared.Verdict.the-variants.{Sound}
 use Rattle.fields.specs.Number.{u16At}
 use Rattle.fields.specs.Bytes.{standsAt}
 use Rattle.fields.proofs.Bools.{and-inv}
 use Rattle.cells.specs.declared.Rule.{Rule}
-use Rattle.cells.specs.declared.Rule.the-variants.{Header}
 use Rattle.cells.specs.Named.{dataAt}
 use Rattle.cells.proofs.Parts.{part-length}
 use Rattle.names.specs.Codes.{codes, charactersIn, hasCode, backslash}
 use Rattle.names.proofs.LawsCodes.{counted}
 use Rattle.records.specs.Keys.{isWhole, isKeyName, keyNarrow, keyName, isKey, keyFault, keyIn, keyOf, NameIn, codesOf}
-use Rattle.records.proofs.LawsRecord.{Found-at, record-tested, record-header, record-flaw}
+use Rattle.records.proofs.LawsRecord.{record-tested}
 
 -- the codes of the name of a key record
 abbrev pub nameCodes : List ℕ → List ℕ
@@ -58,20 +56,10 @@ is-key-facts r e =
     }
 
 module _ (rule : Rule) (d m : List ℕ) (o : Offset) where
-  -- a flaw of a key is 11 or 12 at its offset
-  pub key-flaw : {f : Flaw} → keyFault rule d m o ≡ Flawed f → Found-at o f
-  unfolding keyFault
-  key-flaw e = record-flaw isKey rule d m o e
-
   module _ (e : keyFault rule d m o ≡ Sound) where
     pub key-facts : IsKey (dataAt d o)
     unfolding keyFault
     key-facts = is-key-facts (dataAt d o) (record-tested isKey rule d m o e)
-
-    -- what the map's rule finds sound is sound by the header's rule, whatever the map
-    pub key-header : (m′ : List ℕ) → keyFault Header d m′ o ≡ Sound
-    unfolding keyFault
-    key-header = record-header isKey rule d m o e
 
     -- what `key_fields` requires
     pub key-room : 76 ≤ length (dataAt d o)

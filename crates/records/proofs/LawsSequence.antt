@@ -50,11 +50,11 @@ module _ (r : List ℕ) where
   leaf-children-at j z h = let e : 0 + j ≡ j = omega arith in from-at 0 (countOf r) j z h ∙ ap (childAt r) e
 
 module _ (d : List ℕ) where
-  pub in-cons : (l : Offset) (ls : List Offset) → childrenIn d (l ∷ ls) ≡ leafChildren (dataAt d l) ++ childrenIn d ls
+  in-cons : (l : Offset) (ls : List Offset) → childrenIn d (l ∷ ls) ≡ leafChildren (dataAt d l) ++ childrenIn d ls
   unfolding childrenIn
   in-cons l ls = refl
 
-  pub in-append : (ks ls : List Offset) → childrenIn d (ks ++ ls) ≡ childrenIn d ks ++ childrenIn d ls
+  in-append : (ks ls : List Offset) → childrenIn d (ks ++ ls) ≡ childrenIn d ks ++ childrenIn d ls
   unfolding childrenIn
   in-append [] ls = refl
   in-append (k ∷ ks) ls =

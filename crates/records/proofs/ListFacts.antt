@@ -46,7 +46,7 @@ pub index-facts : (r : List ℕ) → isList r ≡ true → isRi r ≡ true → E
 unfolding isList
 index-facts r e i = elements r 4 (rw i at e)
 
-pub single-facts : (r : List ℕ) → isList r ≡ true → isRi r ≡ false → IsLeaf r
+single-facts : (r : List ℕ) → isList r ≡ true → isRi r ≡ false → IsLeaf r
 unfolding isList
 single-facts r e i = leaf-facts r (rw i at e)
 

@@ -216,7 +216,7 @@ module _ (d m : List ℕ) (hive : Hive) (tiles : BinsTile d 0) (mapped : Mapped 
         free _ _ (each c (List·Memᴰ·head refl) (First p) (first-of p c s) (of-hash c (s .hash)))
         (lists-after c cs a (λ e i. ch e (List·Memᴰ·tail i)) (λ e i. each e (List·Memᴰ·tail i)))
 
-  pub stands-free : (n : ℕ) (c : Child) (l : Arrival) → placeFault d (hive .root) (keyOf d (c .at)) (c .at) l ≡ Sound
+  stands-free : (n : ℕ) (c : Child) (l : Arrival) → placeFault d (hive .root) (keyOf d (c .at)) (c .at) l ≡ Sound
       → hashFault d (keyOf d (c .at)) c ≡ Sound → TreeStands d hive n (c .at) → treeCharge d m hive n c l ≡ Free
   stands-free (suc n) c l p h (key s a ch tree) =
       tree-free d m hive n c l (of-stands n c l s p h)

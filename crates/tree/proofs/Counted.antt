@@ -80,7 +80,7 @@ low-all n (c ∷ cs) f =
     rw (lt-ltb (c .0) n (f c (List·Memᴰ·head refl))) (ap suc (low-all n cs (λ d i. f d (List·Memᴰ·tail i))))
 
 -- no more keys than offsets
-pub pigeonhole : (n : ℕ) (cs : List Offset) → Once cs → ((d : Offset) → List·Memᴰ d cs → d .0 < n) → length cs ≤ n
+pigeonhole : (n : ℕ) (cs : List Offset) → Once cs → ((d : Offset) → List·Memᴰ d cs → d .0 < n) → length cs ≤ n
 pigeonhole n cs o f = let a = low-all n cs f in let b = low-most n cs o in omega arith
 
 pair : {a b x y : ℕ} → a ≡ x → b ≡ y → _≡_ {A = Count} (record { keys = a; values = b }) (record { keys = x; values = y })
@@ -88,7 +88,7 @@ pair p q = ap₂ (λ (i j : ℕ). let r : Count = record { keys = i; values = j 
 
 module _ (d : List ℕ) (hive : Hive) where
   -- every listed key stands
-  pub listed-stands : (n : ℕ) (at : Offset) → TreeStands d hive n at → (k : Offset) → List·Memᴰ k (keysIn d n at) → KeyStands d (hive .minor) k
+  listed-stands : (n : ℕ) (at : Offset) → TreeStands d hive n at → (k : Offset) → List·Memᴰ k (keysIn d n at) → KeyStands d (hive .minor) k
   unfolding keysIn
   listed-stands (suc n) at (key s a ch tree) k i =
       ⊎-elim (λ e. subst (λ (o : Offset). KeyStands d (hive .minor) o) (sym e) s)
@@ -125,7 +125,7 @@ module _ (d : List ℕ) (hive : Hive) where
       omega arith
 
   -- the keys of a tree that stands are no more than the bins data has bytes
-  pub few-keys : BinsTile d 0 → (n : ℕ) → TreeStands d hive n (hive .root) → length (keysIn d n (hive .root)) ≤ length d
+  few-keys : BinsTile d 0 → (n : ℕ) → TreeStands d hive n (hive .root) → length (keysIn d n (hive .root)) ≤ length d
   few-keys b n s =
       pigeonhole (length d) (keysIn d n (hive .root)) (each-once d hive n s)
       (λ k i. let u = listed-stands n (hive .root) s k i .in-use in let w = wholly-inside d k u in

@@ -48,7 +48,7 @@ module _ (h m : List ℕ) where
           let x = accepted-free (treeCharge (binsData h) (mapLeft h m) (hiveOf h) levels (rootChild (hiveOf h)) Start) (reportOf h t) q in
           record { tally = t; surveys = p; free = x .0; report = sym (x .1) }
 
-  pub accepted-formed : {r : Report} → checkAnswer h m ≡ Accepted r → CleanAndWellFormed h
+  accepted-formed : {r : Report} → checkAnswer h m ≡ Accepted r → CleanAndWellFormed h
   accepted-formed e =
       let a = accepted-as e in
       let s = surveyed h m (a .tally) (a .surveys) in
@@ -63,7 +63,7 @@ module _ (h m : List ℕ) where
   bins-length : 4096 + binsOf (sector h) ≤ length h → length (binsData h) ≡ binsOf (sector h)
   bins-length p = simp (length-take, length-drop) (omega arith)
 
-  pub formed-accepted : CleanAndWellFormed h → binsOf (sector h) / 64 ≤ length m → (r : Report) × (checkAnswer h m ≡ Accepted r)
+  formed-accepted : CleanAndWellFormed h → binsOf (sector h) / 64 ≤ length m → (r : Report) × (checkAnswer h m ≡ Accepted r)
   unfolding checkAnswer
   formed-accepted w room =
       let base = facts-base h (w .is-clean) (w .inside) in

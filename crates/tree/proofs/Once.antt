@@ -49,7 +49,7 @@ once-joined f (c ∷ cs) (apart-cons not o) each apart =
     (once-joined f cs o (λ d i. each d (List·Memᴰ·tail i)) (λ d e k i j. apart d e k (List·Memᴰ·tail i) (List·Memᴰ·tail j)))
     (λ k i j. let x = in-joined f cs k j in not (x .0) (x .1) (apart c (x .0) k (List·Memᴰ·head refl) (List·Memᴰ·tail (x .1)) i (x .2)))
 
-pub ascends-apart : (d : List ℕ) (cs : List Child) → Ascends d cs → Apart cs
+ascends-apart : (d : List ℕ) (cs : List Child) → Ascends d cs → Apart cs
 ascends-apart d [] a = apart-nil
 ascends-apart d (c ∷ cs) (more f a) =
     apart-cons

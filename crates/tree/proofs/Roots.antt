@@ -36,7 +36,7 @@ pub root-is : (h m : List ℕ) {minor : ℕ} {root : Offset} {bins : List ℕ} �
 root-is h m p q r = rw (r, p, q)
 
 module _ (h m : List ℕ) (r : Ready h m) where
-  pub bins-small : length (binsData h) ≤ binsLimit
+  bins-small : length (binsData h) ≤ binsLimit
   bins-small = let b = base-facts h (r .base) in simp (length-take, length-drop) (omega (arith, b .size .limit))
 
   pub walk-refused : (t : Tally) {f : Refusal} → keyAnswer (binsData h) m (hiveOf h) levels (rootChild (hiveOf h)) Start none ≡ Stopped f → walkAnswer h m t ≡ Refused f

@@ -47,11 +47,11 @@ module _ (r : Rule) (d m : List ℕ) (named : (o : Offset) → InUse d o → cel
   pub of-cell : (o : Offset) (t : Bool) (f : Flaw) → InUse d o → t ≡ true → cellFault r d m o next unless t f ≡ Sound
   of-cell o t f u e = sound _ _ (named o u) (holds {t = t} f e)
 
-  pub of-room : (o : Offset) (n : ℕ) → Room d o n → roomFault r d m o n ≡ Sound
+  of-room : (o : Offset) (n : ℕ) → Room d o n → roomFault r d m o n ≡ Sound
   unfolding roomFault
   of-room o n r = of-cell o (leb n (length (dataAt d o))) (flaw Record o) (r .in-use) (le-leb _ _ (r .room))
 
-  pub of-segments : (o : Offset) (n : ℕ) → Segmented d o n → segmentsFault r d m o n ≡ Sound
+  of-segments : (o : Offset) (n : ℕ) → Segmented d o n → segmentsFault r d m o n ≡ Sound
   unfolding segmentsFault segmentListFault dbFault segmentFault
   of-segments o n s =
       sound _ _ (sound _ _ (of-cell o (isDb (dataAt d o) n) (flaw Record o) (s .in-use) (db-exactly (dataAt d o) n .1 (s .db))) (of-room _ _ (s .list)))
@@ -79,7 +79,7 @@ module _ (r : Rule) (d m : List ℕ) (named : (o : Offset) → InUse d o → cel
   unfolding leafFault
   of-leaf o s = of-cell o (isLeaf (dataAt d o)) (flaw Record o) (s .in-use) (leaf-exactly (dataAt d o) .1 (s .record-good))
 
-  pub of-list : (o : Offset) → ListStands d o → listFault r d m o ≡ Sound
+  of-list : (o : Offset) → ListStands d o → listFault r d m o ≡ Sound
   unfolding listFault headFault
   of-list o s =
       sound _ _ (of-cell o (isList (dataAt d o)) (flaw Record o) (s .in-use) (list-exactly (dataAt d o) .1 (s .record-good))) (by (isRi (dataAt d o)) refl)

@@ -1,9 +1,8 @@
 -- The segments of a value's data: how many, how long each is, and that together they hold the data.
-use Prim.Native.Nat.{ℕ, zero, suc, _+_, _-_, _*_, _<_, _≤_}
+use Prim.Native.Nat.{ℕ, zero, suc, _+_, _-_, _*_, _≤_}
 use native.Mathlib.Omega.{arith}
-use mathlib.Core.Path.{_≡_, refl, sym, ap, ap₂, _∙_, subst}
-use mathlib.Core.List.{List, [], _∷_, List·Memᴰ, List·Memᴰ·cases-cons, List·Memᴰ·not-nil}
-use mathlib.Core.Logic.{⊎-elim}
+use mathlib.Core.Path.{_≡_, refl, ap, ap₂, _∙_}
+use mathlib.Core.List.{List, [], _∷_}
 use lib.ListN.{length, take, length-append}
 use lib.Seq.{length-take-le}
 use Rattle.fields.specs.declared.Offset.{Offset}
@@ -25,27 +24,14 @@ module _ (size : ℕ) where
   unfolding segmentsFor
   enough-segments = omega arith
 
-  -- and no segment is empty: without the last one they are too few
-  pub needed-segments : segmentsFor size * segmentSize < size + segmentSize
-  unfolding segmentsFor
-  needed-segments = omega arith
-
   pub most-segments : size ≤ dataLimit → segmentsFor size ≤ 65
   unfolding segmentsFor
   most-segments p = omega arith
-
-  pub several-segments : segmentSize < size → 2 ≤ segmentsFor size
-  unfolding segmentsFor
-  several-segments p = omega arith
 
 pub segments-length : (r : List ℕ) (i left n : ℕ) → length (segmentsFrom r i left n) ≡ n
 unfolding segmentsFrom
 segments-length r i left zero = refl
 segments-length r i left (suc n) = ap suc (segments-length r (suc i) (left - segmentSize) n)
-
-pub segments-count : (d : List ℕ) (o : Offset) (size : ℕ) → length (segmentsOf d o size) ≡ segmentsFor size
-unfolding segmentsOf
-segments-count d o size = segments-length _ 0 size (segmentsFor size)
 
 -- ---- how long
 
@@ -54,7 +40,7 @@ unfoldable pub lengthsOf : List Segment → ℕ
 lengthsOf [] = 0
 lengthsOf (s ∷ ss) = s .len + lengthsOf ss
 
-pub lengths-from : (r : List ℕ) (i left n : ℕ) → left ≤ n * segmentSize → lengthsOf (segmentsFrom r i left n) ≡ left
+lengths-from : (r : List ℕ) (i left n : ℕ) → left ≤ n * segmentSize → lengthsOf (segmentsFrom r i left n) ≡ left
 unfolding segmentsFrom lengthsOf
 lengths-from r i left zero p = omega arith
 lengths-from r i left (suc n) p =
@@ -65,26 +51,6 @@ lengths-from r i left (suc n) p =
 pub lengths-sum : (d : List ℕ) (o : Offset) (size : ℕ) → lengthsOf (segmentsOf d o size) ≡ size
 unfolding segmentsOf
 lengths-sum d o size = lengths-from _ 0 size (segmentsFor size) (enough-segments size)
-
--- a segment holds 1 to 16,344 bytes
-pub record Fair (s : Segment) : Type 0 where
-  pub some : 1 ≤ s .len
-  pub most : s .len ≤ segmentSize
-
-fair-from : (r : List ℕ) (i left n : ℕ) → n * segmentSize < left + segmentSize → (s : Segment) → List·Memᴰ s (segmentsFrom r i left n) → Fair s
-unfolding segmentsFrom
-fair-from r i left zero p s x = absurd (List·Memᴰ·not-nil x)
-fair-from r i left (suc n) p s x =
-    let t = takes left in
-    let l : 0 < left = omega arith in
-    ⊎-elim
-    (λ e. subst Fair (sym e) (record { some = t .some l; most = t .most }))
-    (λ y. fair-from r (suc i) (left - segmentSize) n (omega arith) s y)
-    (List·Memᴰ·cases-cons x)
-
-pub segments-fair : (d : List ℕ) (o : Offset) (size : ℕ) (s : Segment) → List·Memᴰ s (segmentsOf d o size) → Fair s
-unfolding segmentsOf
-segments-fair d o size = fair-from _ 0 size (segmentsFor size) (needed-segments size)
 
 -- ---- the bytes of sound segments
 

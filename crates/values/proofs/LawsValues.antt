@@ -10,26 +10,24 @@ use lib.ListN.{length}
 use borrow.Author.Tests.{leb-true, leb-false, ltb-true}
 use Rattle.fields.specs.declared.Offset.{Offset}
 use Rattle.fields.specs.declared.Verdict.the-variants.{Sound}
-use Rattle.fields.specs.Number.{u16At, u32At}
+use Rattle.fields.specs.Number.{u32At}
 use Rattle.fields.proofs.Bools.{and-inv}
 use Rattle.cells.specs.declared.Rule.{Rule}
 use Rattle.cells.specs.declared.Rule.the-variants.{Header}
 use Rattle.cells.specs.Named.{dataAt}
-use Rattle.records.specs.declared.Key.{Key}
 use Rattle.records.specs.Keys.{NameIn}
 use Rattle.records.specs.Offsets.{offsetAt}
 use Rattle.values.specs.declared.ValueData.{ValueData}
 use Rattle.values.specs.declared.ValueData.the-variants.{Inline, OneCell, Segments}
 use Rattle.values.specs.Records.{segmentSize, dataLimit, topBit, isDataSize, isValue, valueFault, isSegmented, contentOf, dataIn, fieldsOf, valueOf}
-use Rattle.values.specs.Segments.{roomFault, segmentsFor, isDb, dbFault, segmentList, segmentsOf, segmentFault, segmentListFault, segmentsFault, dataFault, lengthOf}
+use Rattle.values.specs.Segments.{roomFault, segmentsFor, isDb, dbFault, segmentList, segmentsOf, segmentFault, segmentListFault, segmentsFault, dataFault}
 use Rattle.values.specs.Steps.{Lies}
-use Rattle.values.specs.Lists.{valuesOf, valueListFault, wholeValueFault, valuesFault}
 use Rattle.values.proofs.Cell_tests.{carries-next, carries-over, says, by-header}
 use Rattle.values.proofs.Tests.{Kept, kept}
 
 -- ---- what is known of a value that passes
 
-pub value-says : (rule : Rule) (d m : List ℕ) (v : Offset) → valueFault rule d m v ≡ Sound → Kept (dataAt d v)
+value-says : (rule : Rule) (d m : List ℕ) (v : Offset) → valueFault rule d m v ≡ Sound → Kept (dataAt d v)
 unfolding valueFault
 value-says rule d m v e = kept (dataAt d v) (says isValue rule d m v e)
 
@@ -57,7 +55,7 @@ pub data Cased (d : List ℕ) (minor : ℕ) (v : Offset) : Type 0 where
   segments : (o : Offset) (n : ℕ) → segmentSize < n → n ≤ dataLimit → 4 ≤ minor → dataIn d minor v ≡ Segments o n → Cased d minor v
 
 module _ (rule : Rule) (d m : List ℕ) (minor : ℕ) (v : Offset) (s : valueFault rule d m v ≡ Sound) where
-  pub cased : Cased d minor v
+  cased : Cased d minor v
   unfolding dataIn contentOf isSegmented
   cased = by (leb topBit size) refl (isSegmented minor size) refl
     where
@@ -76,15 +74,6 @@ module _ (rule : Rule) (d m : List ℕ) (minor : ℕ) (v : Offset) (s : valueFau
           let a = and-inv (ltb segmentSize size) (leb 4 minor) f in
           segments (offsetAt r 8) size (ltb-true segmentSize size (a .0)) (other-size size is-size (leb-false topBit size e)) (leb-true 4 minor (a .1)) (rw (e, f))
       by false e false f = oneCell (offsetAt r 8) size (other-size size is-size (leb-false topBit size e)) (rw (e, f))
-
-  -- no value is longer than 1,048,576 bytes
-  pub data-limit : lengthOf (dataIn d minor v) ≤ dataLimit
-  data-limit = by cased
-    where
-      by : Cased d minor v → lengthOf (dataIn d minor v) ≤ dataLimit
-      by (inline n p e) = rw e (omega arith)
-      by (oneCell o n p e) = rw e p
-      by (segments o n p q k e) = rw e q
 
   -- inline data lie inside the record
   inline-inside : (w : Offset) (n : ℕ) → dataIn d minor v ≡ Inline w n → 8 + n ≤ length (dataAt d w)
@@ -106,11 +95,7 @@ module _ (rule : Rule) (d m : List ℕ) (minor : ℕ) (v : Offset) (s : valueFau
 -- ---- what is sound by either rule is sound by the cells' own headers, with any map
 
 module _ (rule : Rule) (d m n : List ℕ) where
-  pub header-value : (v : Offset) → valueFault rule d m v ≡ Sound → valueFault Header d n v ≡ Sound
-  unfolding valueFault
-  header-value v = by-header isValue rule d m v n
-
-  pub header-room : (o : Offset) (k : ℕ) → roomFault rule d m o k ≡ Sound → roomFault Header d n o k ≡ Sound
+  header-room : (o : Offset) (k : ℕ) → roomFault rule d m o k ≡ Sound → roomFault Header d n o k ≡ Sound
   unfolding roomFault
   header-room o k = by-header (λ r. leb k (length r)) rule d m o n
 
@@ -125,7 +110,7 @@ module _ (rule : Rule) (d m n : List ℕ) where
       carries-next _ _ _ _ (header-list o size)
       (carries-over (segmentFault rule d m) (segmentFault Header d n) (segmentsOf d o size) (λ s. header-room (s .at) (s .len)))
 
-  pub header-data : (x : ValueData) → dataFault rule d m x ≡ Sound → dataFault Header d n x ≡ Sound
+  header-data : (x : ValueData) → dataFault rule d m x ≡ Sound → dataFault Header d n x ≡ Sound
   unfolding dataFault
   header-data (Inline v len) e = refl
   header-data (OneCell o len) e = by (eqb len 0) e
@@ -134,25 +119,6 @@ module _ (rule : Rule) (d m n : List ℕ) where
       by true e = refl
       by false e = header-room o len e
   header-data (Segments o len) e = header-segments o len e
-
-  pub header-value-list : (k : Key) → valueListFault rule d m k ≡ Sound → valueListFault Header d n k ≡ Sound
-  unfolding valueListFault
-  header-value-list k e = by (eqb (k .values) 0) e
-    where
-      by : (t : Bool) → cond t Sound (roomFault rule d m (k .«value_list») (4 * k .values)) ≡ Sound
-          → cond t Sound (roomFault Header d n (k .«value_list») (4 * k .values)) ≡ Sound
-      by true e = refl
-      by false e = header-room (k .«value_list») (4 * k .values) e
-
-  pub header-whole-value : (minor : ℕ) (v : Offset) → wholeValueFault rule d m minor v ≡ Sound → wholeValueFault Header d n minor v ≡ Sound
-  unfolding wholeValueFault
-  header-whole-value minor v = carries-next _ _ _ _ (header-value v) (header-data (dataIn d minor v))
-
-  pub header-values : (minor : ℕ) (k : Key) → valuesFault rule d m minor k ≡ Sound → valuesFault Header d n minor k ≡ Sound
-  unfolding valuesFault
-  header-values minor k =
-      carries-next _ _ _ _ (header-value-list k)
-      (carries-over (wholeValueFault rule d m minor) (wholeValueFault Header d n minor) (valuesOf d k) (header-whole-value minor))
 
 -- ---- what a copy and a view ask
 
