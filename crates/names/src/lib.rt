@@ -34,7 +34,7 @@ fn code_at(s: &[u8], narrow: bool, i: usize) -> u16
 }
 
 // "upper-casing a to z, 0xE0 to 0xFE except 0xF7 (each 32 down) and 0xFF (to 0x0178)". Capitals and digits need one test, small letters two.
-pub fn upper(c: u16) -> u16
+fn upper(c: u16) -> u16
     ensures { λ r. ⌜ r ≡ upper c ⌝ }
 {
     if c < 97 {

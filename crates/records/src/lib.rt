@@ -214,7 +214,7 @@ fn has_leaf_signature(r: &[u8]) -> bool
 }
 
 // Whether a cell's data hold a leaf.
-pub fn is_leaf(r: &[u8]) -> bool
+fn is_leaf(r: &[u8]) -> bool
     ensures { λ b. ⌜ b ≡ isLeaf (now (r .entry)) ⌝ }
 {
     if r.len() < 4 {
@@ -227,7 +227,7 @@ pub fn is_leaf(r: &[u8]) -> bool
 }
 
 // Whether a cell's data hold a list: an `ri` with its elements, or a leaf.
-pub fn is_list(r: &[u8]) -> bool
+fn is_list(r: &[u8]) -> bool
     ensures { λ b. ⌜ b ≡ isList (now (r .entry)) ⌝ }
 {
     if r.len() < 4 {

@@ -160,7 +160,7 @@ pub fn value_at(bins: &[u8], map: &[u8], rule: Rule, minor: u32, v: Offset) -> V
 }
 
 // An offset names a cell with room for so many bytes: 11, or 12 at that cell.
-pub fn room_flaw(bins: &[u8], map: &[u8], rule: Rule, o: Offset, n: usize) -> Verdict
+fn room_flaw(bins: &[u8], map: &[u8], rule: Rule, o: Offset, n: usize) -> Verdict
     ensures { λ r. ⌜ r ≡ roomFault rule (now (bins .entry)) (now (map .entry)) o n ⌝ }
 {
     match cells::find_cell(bins, map, rule, o) {
