@@ -26,7 +26,8 @@ use Rattle.records.specs.Lists.{isRi, isLeaf, isList, leafChildren, leavesOf, c
 use Rattle.tree.specs.declared.Hive.{Hive}
 use Rattle.tree.specs.Tree.{nameAt}
 use Rattle.tree.specs.WellFormed.{ListStands, KeyStands, Ascends, more, TreeStands, key}
-use Rattle.tree.proofs.Facts.{signed-exactly, key-exactly, leaf-exactly, list-exactly}
+use Rattle.records.proofs.Facts.{signed-exactly, key-exactly}
+use Rattle.tree.proofs.Facts.{leaf-exactly, list-exactly}
 use Rattle.tree.proofs.Stands.{of-cell, of-leaf, of-key}
 use Rattle.paths.specs.declared.Look.{Look}
 use Rattle.paths.specs.declared.Look.the-variants.{Found, Missing, Faulty}

@@ -1,6 +1,7 @@
 pub mod LawsRecord
 pub mod KeyTests
 pub mod LawsKey
+pub mod Facts
 pub mod ListTests
 pub mod ListFacts
 pub mod LawsAnswer

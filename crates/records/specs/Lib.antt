@@ -1,4 +1,5 @@
 pub mod Offsets
 pub mod Keys
+pub mod Facts
 pub mod Lists
 pub mod Steps

@@ -31,7 +31,7 @@ use Rattle.tree.specs.declared.Arrival.{Arrival}
 use Rattle.tree.specs.declared.Arrival.the-variants.{Start, First, After}
 use Rattle.tree.specs.Tree.{Free, _after_, chargeOf, holder, nameAt, parentFault, isBefore, orderFault, placeFault, hashFault, levelFault, totalFault, restFault, ownFault, keyCharge, listCharge, treeCharge, levels, rootChild}
 use Rattle.tree.specs.WellFormed.{KeyStands, ChildStands, Ascends, none, more, TreeStands, key}
-use Rattle.tree.proofs.Facts.{key-exactly}
+use Rattle.records.proofs.Facts.{key-exactly}
 use Rattle.tree.proofs.Stands.{values-of, of-values, lists-of, of-lists, key-of, of-key}
 use Rattle.tree.proofs.Charges.{both-free, free, key-parts, key-zero, key-free, lists-free, tree-free}
 

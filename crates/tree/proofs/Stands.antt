@@ -28,7 +28,8 @@ use Rattle.values.specs.Records.{isValue, valueFault, dataIn}
 use Rattle.values.specs.Segments.{roomFault, isDb, dbFault, segmentsOf, segmentFault, segmentListFault, segmentsFault, dataFault}
 use Rattle.values.specs.Lists.{valuesOf, valueListFault, wholeValueFault, valuesFault}
 use Rattle.tree.specs.WellFormed.{Room, Segmented, DataStands, ValueStands, ValuesStand, LeafStands, ListStands}
-use Rattle.tree.proofs.Facts.{signed-exactly, leaf-exactly, list-exactly, value-exactly, db-exactly}
+use Rattle.records.proofs.Facts.{signed-exactly}
+use Rattle.tree.proofs.Facts.{leaf-exactly, list-exactly, value-exactly, db-exactly}
 
 -- a test that is made only where a number is not 0
 unless-zero : (n : ℕ) {v : Verdict} → cond (eqb n 0) Sound v ≡ Sound → (n ≡ 0 → ⊥) → v ≡ Sound

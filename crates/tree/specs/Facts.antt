@@ -1,27 +1,11 @@
 -- What a record is, as plain facts of its cell's data: "Each record must fit its cell's data." Below, r is the data of a cell.
-use Prim.Native.Nat.{ℕ, _+_, _-_, _*_, _%_, _<_, _≤_}
+use Prim.Native.Nat.{ℕ, _+_, _-_, _*_, _<_, _≤_}
 use mathlib.Core.Path.{_≡_}
-use mathlib.Core.Bool.{false}
-use mathlib.Core.List.{List, [], _∷_, List·Memᴰ}
-use lib.ListN.{length, take, drop}
+use mathlib.Core.List.{List}
+use lib.ListN.{length}
 use Rattle.fields.specs.Number.{u16At, u32At}
-use Rattle.names.specs.Codes.{codes}
-use Rattle.records.specs.Keys.{keyNarrow, keyName}
-use Rattle.values.specs.Records.{valueNarrow}
-
--- the two bytes of a signature
-abbrev pub Signed : List ℕ → ℕ → ℕ → Type 0
-Signed r a b = take 2 r ≡ a ∷ b ∷ []
-
--- "Key `nk`: flags at 2 (0x0020: one byte per character, else UTF-16LE), [..] name length at 72, name at 76. A name has 1 to 255 characters and no
--- backslash; UTF-16 lengths are even."
-pub record KeyRecord (r : List ℕ) : Type 0 where
-  pub nk : Signed r 110 107
-  pub room : 76 + u16At r 72 ≤ length r
-  pub even : keyNarrow r ≡ false → u16At r 72 % 2 ≡ 0
-  pub some : 1 ≤ length (codes (keyNarrow r) (keyName r))
-  pub few : length (codes (keyNarrow r) (keyName r)) ≤ 255
-  pub no-backslash : List·Memᴰ 92 (codes (keyNarrow r) (keyName r)) → ⊥
+use Rattle.records.specs.Facts.{Signed}
+use Rattle.values.specs.Facts.{OldValueRecord}
 
 -- "count at 2 (at least 1), elements at 4", of so many bytes each
 pub record ElementsFit (r : List ℕ) (width : ℕ) : Type 0 where
@@ -42,10 +26,7 @@ pub data ListRecord (r : List ℕ) : Type 0 where
 -- "Value `vk`: name length at 2 (at most 16,383 characters, even bytes if UTF-16), data size at 4, [..] name at 20. Top bit of the size set: length at
 -- most 4, bytes lie at 8. Otherwise at most 1,048,576"
 pub record ValueRecord (r : List ℕ) : Type 0 where
-  pub vk : Signed r 118 107
-  pub room : 20 + u16At r 2 ≤ length r
-  pub even : valueNarrow r ≡ false → u16At r 2 % 2 ≡ 0
-  pub few : length (codes (valueNarrow r) (take (u16At r 2) (drop 20 r))) ≤ 16383
+  pub old : OldValueRecord r
   pub inline : 2147483648 ≤ u32At r 4 → u32At r 4 - 2147483648 ≤ 4
   pub limit : u32At r 4 < 2147483648 → u32At r 4 ≤ 1048576
 

@@ -23,7 +23,8 @@ use Rattle.values.specs.Records.{dataIn}
 use Rattle.values.specs.Segments.{segmentsFor, segmentList, segmentsOf}
 use Rattle.values.specs.Lists.{valuesOf}
 use Rattle.tree.specs.declared.Hive.{Hive}
-use Rattle.tree.specs.Facts.{Signed, KeyRecord, LeafRecord, ListRecord, ValueRecord, DbRecord}
+use Rattle.records.specs.Facts.{Signed, KeyRecord}
+use Rattle.tree.specs.Facts.{LeafRecord, ListRecord, ValueRecord, DbRecord}
 use Rattle.tree.specs.Tree.{nameAt, levels, hiveOf}
 
 -- an offset names a cell in use with room for so many bytes

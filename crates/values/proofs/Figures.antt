@@ -13,7 +13,7 @@ use Rattle.cells.specs.declared.Rule.the-variants.{Header}
 use Rattle.cells.specs.Tiling.{goodSize}
 use Rattle.cells.specs.Named.{isNamed, byHeader, cellOf, cellFault, dataOf, dataAt}
 use Rattle.names.specs.Codes.{charactersIn}
-use Rattle.values.specs.Records.{isValueName, isDataSize, isValue, valueFault, isSegmented, contentOf, dataIn}
+use Rattle.values.specs.Records.{isValueName, isDataSize, isOldValue, isValue, valueFault, isSegmented, contentOf, dataIn}
 use Rattle.values.specs.Segments.{segmentsFor, segmentLength, segmentsFrom, bytesOf}
 use Rattle.values.proofs.LawsSegments.{lengthsOf}
 
@@ -82,7 +82,7 @@ abbrev pub at32 : Offset
 at32 = record { 0 = 32 }
 
 pub inlined-sound : valueFault Header inlined [] at32 ≡ Sound
-unfolding inlined valueFault cellFault cellOf byHeader isNamed goodSize dataAt dataOf isValue isValueName charactersIn isDataSize standsAt sameBytes _next_ sizeAt u32At u16At
+unfolding inlined valueFault cellFault cellOf byHeader isNamed goodSize dataAt dataOf isOldValue isValue isValueName charactersIn isDataSize standsAt sameBytes _next_ sizeAt u32At u16At
 inlined-sound = refl
 
 pub inlined-bytes : bytesOf inlined (dataIn inlined 5 at32) ≡ 7 ∷ 8 ∷ []

@@ -1,4 +1,5 @@
 pub mod Tests
+pub mod Facts
 pub mod Cell_tests
 pub mod Valued_at
 pub mod Rooms

@@ -1,4 +1,5 @@
 pub mod Records
+pub mod Facts
 pub mod Entries
 pub mod Segments
 pub mod Parts

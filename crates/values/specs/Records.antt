@@ -44,12 +44,15 @@ topBit = 2147483648
 unfoldable pub isDataSize : ℕ → Bool
 isDataSize size = cond (leb topBit size) (leb (size - topBit) 4) (leb size dataLimit)
 
--- "Each record must fit its cell's data": 20 bytes and the name
-unfoldable pub isValue : List ℕ → Bool
-isValue r =
+-- "Each record must fit its cell's data": 20 bytes and the name, whatever it says of its data
+unfoldable pub isOldValue : List ℕ → Bool
+isOldValue r =
     leb 20 (length r)
-    && (standsAt r 0 (118 ∷ 107 ∷ [])
-    && (leb (20 + u16At r 2) (length r) && (isValueName (u16At r 2) (valueNarrow r) && isDataSize (u32At r 4))))
+    && (standsAt r 0 (118 ∷ 107 ∷ []) && (leb (20 + u16At r 2) (length r) && isValueName (u16At r 2) (valueNarrow r)))
+
+-- the whole record: with a data size that may be
+unfoldable pub isValue : List ℕ → Bool
+isValue r = isOldValue r && isDataSize (u32At r 4)
 
 -- the value's cell, then its record: 11, or 12 at the value
 unfoldable pub valueFault : Rule → List ℕ → List ℕ → Offset → Verdict

@@ -12,7 +12,7 @@ ghost use lib.ListN.{length, getD, drop};
 ghost use lib.Seq.{paste};
 ghost use Rattle.fields.specs.Faults.{nowhere, faultOver};
 ghost use Rattle.cells.specs.Named.{dataAt};
-ghost use Rattle.values.specs.Records.{isValueName, isDataSize, valueNarrow, isValue, valueFault, isSegmented, contentOf, fieldsOf, valueOf, valued};
+ghost use Rattle.values.specs.Records.{isValueName, isDataSize, valueNarrow, isOldValue, isValue, valueFault, isSegmented, contentOf, fieldsOf, valueOf, valued};
 ghost use Rattle.values.specs.Entries.{entriesAt, entriesOf};
 ghost use Rattle.values.specs.Steps.{Room, entered, Lies, SegmentsLie};
 ghost use Rattle.values.specs.Segments.{roomFault, segmentsFor, isDb, segmentLength, segmentList, segmentsIn, segmentFault, segmentListFault, segmentsFault, dataFault, joinedBytes, bytesOf, lengthOf};
@@ -42,16 +42,16 @@ fn is_data_size(size: u32) -> bool
 }
 
 // "flags at 16 (0x0001: one byte per character)"
-fn is_narrow(r: &[u8]) -> bool
+pub fn is_narrow(r: &[u8]) -> bool
     requires { ⌜ 18 ≤ length (now r) ⌝ }
     ensures { λ b. ⌜ b ≡ valueNarrow (now (r .entry)) ⌝ }
 {
     fields::u16_at(r, 16) % 2 == 1
 }
 
-// Whether a cell's data hold a value record: 20 bytes and the name.
-fn is_value(r: &[u8]) -> bool
-    ensures { λ b. ⌜ b ≡ isValue (now (r .entry)) ⌝ }
+// Whether bytes start with a value record: 20 bytes and the name, whatever it says of its data.
+pub fn is_old_value(r: &[u8]) -> bool
+    ensures { λ b. ⌜ b ≡ isOldValue (now (r .entry)) ⌝ }
 {
     if r.len() < 20 {
         return false;
@@ -63,7 +63,14 @@ fn is_value(r: &[u8]) -> bool
     if r.len() < 20 + len {
         return false;
     }
-    if !is_value_name(len, is_narrow(r)) {
+    is_value_name(len, is_narrow(r))
+}
+
+// Whether a cell's data hold a value record: with a data size that may be.
+fn is_value(r: &[u8]) -> bool
+    ensures { λ b. ⌜ b ≡ isValue (now (r .entry)) ⌝ }
+{
+    if !is_old_value(r) {
         return false;
     }
     is_data_size(fields::u32_at(r, 4))

@@ -2,68 +2,27 @@ use Rattle.values.specs.Records.{isDataSize}
 use mathlib.Core.Path.{sym, ap, _∙_}
 use borrow.Author.Tests.{not-true, not-false}
 use native.Mathlib.Omega.{arith}
-use Rattle.values.proofs.Tests.{short, other-signature, cut, misnamed, by-size}
+use Rattle.values.proofs.Tests.{not-old, by-size, old}
 use borrow.Author.Needs.{needs}
 use Rattle.values.proofs.is_value.Statement.{statement}
 use Rattle.values.proofs.is_value.Tie as tie
 
+is-old-value-requires : tie.Need-is-old-value-requires
+is-old-value-requires c κs = search needs
+
 returns : tie.Need-returns
-returns c = sym (short _ (c .if1 .taken))
-
-slice-aggregate-stands-at : tie.Need-slice-aggregate-stands-at
-slice-aggregate-stands-at c = search needs
-
-stands-at-requires : tie.Need-stands-at-requires
-stands-at-requires c κs = search needs
-
-returns-2 : tie.Need-returns-2
-returns-2 c = sym (other-signature _ (omega arith) (sym (c .before .stands-at .ensures) ∙ not-true _ (c .if2 .taken)))
-
-u16-at-requires : tie.Need-u16-at-requires
-u16-at-requires c κs = search needs
-
-cast-len : tie.Need-cast-len
-cast-len c = search needs
-
-add-if3 : tie.Need-add-if3
-add-if3 c = search needs
-
-returns-3 : tie.Need-returns-3
-returns-3 c = sym (cut _ (omega arith) (sym (c .before .before .before .stands-at .ensures) ∙ not-false _ (c .before .before .if2 .left)) (omega arith))
-
-is-narrow-requires : tie.Need-is-narrow-requires
-is-narrow-requires c κs = search needs
-
-is-value-name-requires : tie.Need-is-value-name-requires
-is-value-name-requires c κs = search needs
-
-returns-4 : tie.Need-returns-4
-returns-4 c = sym (misnamed _ (omega arith) (sym (c .before .before .before .before .before .before .stands-at .ensures) ∙ not-false _ (c .before .before .before .before .before .if2 .left)) (omega arith) _ _ (c .before .before .before .before .u16-at .ensures) (c .before .before .is-narrow .ensures) (sym (c .before .is-value-name .ensures) ∙ not-true _ (c .if4 .taken)))
+returns c = sym (not-old _ (sym (c .before .is-old-value .ensures) ∙ not-true _ (c .if1 .taken)))
 
 u32-at-requires : tie.Need-u32-at-requires
-u32-at-requires c κs = search needs
+u32-at-requires c κs = let o = old _ (sym (c .before .is-old-value .ensures) ∙ not-false _ (c .if1 .left)) in omega arith
 
 is-data-size-requires : tie.Need-is-data-size-requires
 is-data-size-requires c κs = search needs
 
-returns-5 : tie.Need-returns-5
-returns-5 c = c .is-data-size .ensures ∙ ap isDataSize (c .before .u32-at .ensures) ∙ sym (by-size _ (omega arith) (sym (c .before .before .before .before .before .before .before .before .stands-at .ensures) ∙ not-false _ (c .before .before .before .before .before .before .before .if2 .left)) (omega arith) _ _ (c .before .before .before .before .before .before .u16-at .ensures) (c .before .before .before .before .is-narrow .ensures) (sym (c .before .before .before .is-value-name .ensures) ∙ not-false _ (c .before .before .if4 .left)))
+returns-2 : tie.Need-returns-2
+returns-2 c =
+    c .is-data-size .ensures ∙ ap isDataSize (c .before .u32-at .ensures)
+    ∙ sym (by-size _ (sym (c .before .before .before .is-old-value .ensures) ∙ not-false _ (c .before .before .if1 .left)))
 
 pub is-value-spec : {M : Type 1} → statement M
-is-value-spec =
-    tie.close
-    (tie.spec
-    returns
-    slice-aggregate-stands-at
-    stands-at-requires
-    returns-2
-    u16-at-requires
-    cast-len
-    add-if3
-    returns-3
-    is-narrow-requires
-    is-value-name-requires
-    returns-4
-    u32-at-requires
-    is-data-size-requires
-    returns-5)
+is-value-spec = tie.close (tie.spec is-old-value-requires returns u32-at-requires is-data-size-requires returns-2)
