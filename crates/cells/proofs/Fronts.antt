@@ -16,7 +16,7 @@ use Rattle.base.proofs.Laws.{base-facts}
 use Rattle.cells.specs.declared.Surveyed.{Surveyed}
 use Rattle.cells.specs.declared.Surveyed.the-variants.{Refused}
 use Rattle.cells.specs.Tiling.{layout, surveyOf}
-use Rattle.cells.specs.Steps.{Data}
+use Rattle.cells.specs.Steps.{Pages, Data}
 use Rattle.cells.specs.Map.{mapAfter}
 use Rattle.cells.specs.Survey.{frontFault, surveyAnswer, mapLeft}
 
@@ -39,17 +39,18 @@ module _ (h : List ℕ) (room : ℕ) where
       let a = both (baseFault h) _ e in
       (a .0, leb-true _ _ (held (leb (binsOf (sector h) / 64) room) (flaw MapSmall nowhere) (a .1)))
 
--- what a pass over the bins asks
+-- what a pass over the bins asks, and what one that marks them asks
+pub base-pages : (h : List ℕ) → baseFault h ≡ Sound → Pages (binsData h)
+base-pages h e =
+    let b = base-facts h e in
+    record { pages = simp (length-take, length-drop) (omega arith); small = simp (length-take, length-drop) (omega arith) }
+
 pub front-data : (h m : List ℕ) → frontFault h (length m) ≡ Sound → Data (binsData h) m
 front-data h m e =
     let f = front-facts h (length m) e in
     let b = base-facts h (f .0) in
     let room = f .1 in
-    record {
-      pages = simp (length-take, length-drop) (omega arith);
-      small = simp (length-take, length-drop) (omega arith);
-      room = simp (length-take, length-drop) (omega arith);
-    }
+    record { whole = base-pages h (f .0); room = simp (length-take, length-drop) (omega arith) }
 
 -- The survey: refused by 1 to 8 with the map untouched, or as the bins data say.
 module _ (h m : List ℕ) where

@@ -13,19 +13,22 @@ use Rattle.cells.specs.declared.Rule.the-variants.{Map, Header}
 use Rattle.cells.specs.Map.{isMarked}
 use Rattle.cells.specs.Named.{isNamed, dataAt}
 
--- a bin from one offset to another lies in the bins data, and the map has room for it
-pub record Bin (d m : List ℕ) (start end : ℕ) : Type 0 where
+-- a bin from one offset to another lies in the bins data
+pub record Bin (d : List ℕ) (start end : ℕ) : Type 0 where
   pub order : start ≤ end
   pub eights : start % 8 ≡ 0
   pub ends : end % 8 ≡ 0
   pub inside : end ≤ length d
   pub small : length d ≤ binsLimit
-  pub room : end ≤ length m * 64
 
--- the bins data are whole pages, and the map has room for them
-pub record Data (d m : List ℕ) : Type 0 where
+-- the bins data are whole pages
+pub record Pages (d : List ℕ) : Type 0 where
   pub pages : length d % 4096 ≡ 0
   pub small : length d ≤ binsLimit
+
+-- and the map has room for them
+pub record Data (d m : List ℕ) : Type 0 where
+  pub whole : Pages d
   pub room : length d ≤ length m * 64
 
 -- how long the cell is that an offset names, its size field and all, by its header and by a rule; 0 where there is none, which is no cell's length

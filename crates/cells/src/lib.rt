@@ -11,7 +11,7 @@ ghost use Prim.Native.Nat.{_+_, _-_, _*_, _/_, _%_, _≤_, _<_};
 ghost use lib.ListN.{length};
 ghost use Rattle.fields.specs.Number.{u32At};
 ghost use Rattle.cells.specs.Tiling.{goodSize, tiling, rowOf, binSize, layout, surveyOf};
-ghost use Rattle.cells.specs.Steps.{Bin, Data, lengthNamed, lengthBy, Inside, PartIn};
+ghost use Rattle.cells.specs.Steps.{Bin, Pages, Data, lengthNamed, lengthBy, Inside, PartIn};
 ghost use Rattle.cells.specs.Map.{markAt, marks, marksAll, zeros, isMarked, mapAfter};
 ghost use Rattle.cells.specs.Named.{cellOf, dataOf, dataAt, partIn, partPlace};
 ghost use Rattle.cells.specs.Survey.{frontFault, surveyAnswer, mapLeft};
@@ -29,14 +29,15 @@ fn good_size(n: usize, room: usize) -> bool
     n <= room
 }
 
-// Sets the bit of the cell in use at an offset.
+// Sets the bit of the cell in use at an offset; a map that does not reach there stays.
 fn mark(map: &mut [u8], at: usize)
-    requires { ⌜ at < length (now map) * 64 ⌝ }
     ensures { λ _. ⌜ now (map .exit) ≡ markAt (now (map .entry)) at ⌝ }
 {
     let j = at / 64;
-    let b = at / 8 % 8;
-    map[j] = map[j] | 1u8 << b;
+    if j < map.len() {
+        let b = at / 8 % 8;
+        map[j] = map[j] | 1u8 << b;
+    }
 }
 
 // The cells of one bin: the bytes in use and the free bytes, or the fault.
@@ -47,7 +48,7 @@ enum Row {
 
 // Walks the cells from one offset to another, and sets the bit of each cell in use.
 fn tile(bins: &[u8], start: usize, end: usize, map: &mut [u8]) -> Row
-    requires { ⌜ Bin (now bins) (now map) start end ⌝ }
+    requires { ⌜ Bin (now bins) start end ⌝ }
     ensures { λ r. ⌜ r ≡ rowOf (tiling (now (bins .entry)) start end) 0 0 ⌝ }
     ensures { λ _. ⌜ now (map .exit) ≡ marks (tiling (now (bins .entry)) start end) (now (map .entry)) ⌝ }
 {
@@ -110,7 +111,7 @@ pub enum Surveyed {
 
 // Walks the bins, header before cells, and sets the bit of each cell in use up to the first fault.
 fn walk(bins: &[u8], map: &mut [u8]) -> Surveyed
-    requires { ⌜ Data (now bins) (now map) ⌝ }
+    requires { ⌜ Pages (now bins) ⌝ }
     ensures { λ r. ⌜ r ≡ surveyOf (layout (now (bins .entry)) 0) 0 0 0 ⌝ }
     ensures { λ _. ⌜ now (map .exit) ≡ marksAll (layout (now (bins .entry)) 0) (now (map .entry)) ⌝ }
 {
@@ -144,6 +145,15 @@ fn walk(bins: &[u8], map: &mut [u8]) -> Surveyed
         used,
         free,
     })
+}
+
+// The same tests for a caller who has no map: the bits go where nobody reads them.
+pub fn count_tiles(bins: &[u8]) -> Surveyed
+    requires { ⌜ Pages (now bins) ⌝ }
+    ensures { λ r. ⌜ r ≡ surveyOf (layout (now (bins .entry)) 0) 0 0 0 ⌝ }
+{
+    let mut map = [0u8; 1];
+    walk(bins, &mut map)
 }
 
 // Clears the first n bytes of the map.

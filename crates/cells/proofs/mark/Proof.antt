@@ -1,5 +1,7 @@
 use Prim.Native.Nat.{_/_, _%_}
 use native.Mathlib.Omega.{arith}
+use mathlib.Core.Path.{sym}
+use lib.Seq.{set-out}
 use Rattle.cells.specs.Map.{markAt}
 use Rattle.cells.proofs.Steps.{shifted}
 use borrow.Author.Needs.{needs}
@@ -23,8 +25,12 @@ same-length c = search needs
 
 returns : tie.Need-returns
 unfolding markAt
-returns c = rw (shifted (c .before .args .at / 8 % 8) (omega arith))
+returns c = rw (shifted (c .before .before .args .at / 8 % 8) (omega arith))
+
+returns-2 : tie.Need-returns-2
+unfolding markAt
+returns-2 c = sym (set-out _ _ _ (omega arith))
 
 pub mark-spec : {M : Type 1} → statement M
 mark-spec =
-    tie.close (tie.spec slice-read-map cast-map shl-map slice-write-map same-length returns)
+    tie.close (tie.spec slice-read-map cast-map shl-map slice-write-map same-length returns returns-2)

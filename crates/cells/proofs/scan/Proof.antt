@@ -43,7 +43,7 @@ returns-2 c = let s = c .before .before .before .before .before .before .before 
       w .0,
       rw (c .before .before .before .before .enum-told2 .given .1)
           (c .before .before .clear2 .ensures ∙ ap (zeros (length d / 64)) (w .1 ∙ ap (marksAll _) (c .before .before .before .before .before .before .before .before .before .before .before .before .clear .ensures))
-          ∙ cleared (length d / 64) d (now (s .args .map)) (omega (arith, s .pre .pages))),
+          ∙ cleared (length d / 64) d (now (s .args .map)) (omega (arith, s .pre .whole .pages))),
     )
 
 pub scan-spec : {M : Type 1} → statement M

@@ -56,7 +56,7 @@ add-next : tie.Need-add-next Inv-loop μ-loop
 add-next c = let g = good _ _ (is-good c) in omega arith
 
 mark-requires : tie.Need-mark-requires Inv-loop μ-loop
-mark-requires c κs = let l = c .before .before .before .before .before .before .before .loop .inv in omega arith
+mark-requires c κs = search needs
 
 add-used : tie.Need-add-used Inv-loop μ-loop
 add-used c = let g = good _ _ (is-good (c .before .before .before .before .before)) in omega arith

@@ -44,7 +44,7 @@ add-tile c = omega arith
 tile-requires : tie.Need-tile-requires Inv-loop μ-loop
 tile-requires c κs = let l = c .before .before .before .before .loop .inv in
     let g = fits l (c .before .before .before .loop-test .taken) (c .before .before .bin-size .ensures) in
-    record { order = omega arith; eights = omega arith; ends = omega arith; inside = omega arith; small = omega arith; room = omega arith }
+    record { order = omega arith; eights = omega arith; ends = omega arith; inside = omega arith; small = omega arith }
 
 enum-known-f : tie.Need-enum-known-f Inv-loop μ-loop
 enum-known-f c = search needs
