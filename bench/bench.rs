@@ -45,10 +45,17 @@ struct HiveMark {
     page: u64,
     to: u64,
 }
+#[repr(C)]
+struct HiveRows {
+    answer: HiveAnswer,
+    state: u64,
+    rows: u64,
+}
 unsafe extern "C" {
     fn hive_check(h: *const u8, n: usize, m: *mut u8, k: usize) -> HiveReport;
     fn hive_find_key(h: *const u8, n: usize, p: *const u16, k: usize) -> HiveAnswer;
     fn hive_value_copy(h: *const u8, n: usize, p: *const u16, k: usize, x: *const u16, j: usize, o: *mut u8, m: usize) -> HiveCopy;
+    fn hive_remnants(h: *const u8, n: usize, from: usize, r: *mut u32, k: usize) -> HiveRows;
     fn hive_recover_page(h: *mut u8, n: usize, l: *const u8, k: usize, page: usize) -> HiveRecovery;
     fn hive_recover_close(h: *mut u8, n: usize, l: *const u8, k: usize) -> HiveRecovery;
     fn hive_recover_next(l: *const u8, k: usize, from: usize) -> HivePage;
@@ -68,6 +75,7 @@ pub struct Input {
     log: Vec<u8>,
     path: Vec<u16>,
     out: Vec<u8>,
+    rows: Vec<u32>,
 }
 
 #[derive(Clone, Copy, PartialEq)]
@@ -75,6 +83,7 @@ enum Kind {
     Check,
     Find,
     Copy,
+    Deleted,
     Repair,
     Sample,
     All,
@@ -88,6 +97,7 @@ enum Outcome {
     Check(Result<Report, Flaw>),
     Find(Result<u32, Flaw>),
     Copy(Result<usize, Flaw>),
+    Deleted(Result<usize, Flaw>),
     Repair(Result<usize, Flaw>),
     All(Result<(usize, usize), Flaw>),
 }
@@ -111,6 +121,10 @@ fn rattle(i: &mut Input) -> Outcome {
             Kind::Copy => {
                 let c = hive_value_copy(h, n, i.path.as_ptr(), i.path.len(), LARGE.as_ptr(), 5, i.out.as_mut_ptr(), i.out.len());
                 Outcome::Copy(answer(c.answer, c.length as usize))
+            }
+            Kind::Deleted => {
+                let r = hive_remnants(h, n, 0, i.rows.as_mut_ptr(), i.rows.len());
+                Outcome::Deleted(answer(r.answer, r.rows as usize))
             }
             Kind::Repair => {
                 let mut done = 0;
@@ -150,6 +164,7 @@ fn rust<S: Style>(i: &mut Input) -> Outcome {
         Kind::Check => Outcome::Check(check::check::<S>(&i.hive, &mut i.out)),
         Kind::Find => Outcome::Find(check::find::<S>(&i.hive, &i.path)),
         Kind::Copy => Outcome::Copy(check::copy::<S>(&i.hive, &i.path, &LARGE, &mut i.out)),
+        Kind::Deleted => Outcome::Deleted(check::remnants::<S>(&i.hive, &mut i.rows)),
         Kind::Repair => {
             let (mut done, mut at) = (0, check::next::<S>(&i.log, 0));
             while let Some(p) = at {
@@ -192,9 +207,9 @@ fn measured(side: &str, i: &mut Input) -> Outcome {
     }
 }
 
-const ROWS: [&str; 19] = [
+const ROWS: [&str; 22] = [
     "check-1", "check-4", "check-16", "check-64", "check-1024", "check-wide", "last-100", "absent-100", "last-5000", "absent-5000", "last-60000", "absent-60000",
-    "copy", "repair-1000", "repair-1000-of-131072", "repair-100000", "all-1000", "all-1000-of-131072", "all-100000",
+    "copy", "deleted-1", "deleted-64", "clean-64", "repair-1000", "repair-1000-of-131072", "repair-100000", "all-1000", "all-1000-of-131072", "all-100000",
 ];
 
 fn input(row: &str, folder: &str) -> Input {
@@ -202,6 +217,8 @@ fn input(row: &str, folder: &str) -> Input {
         Some(("check", "wide")) => (Kind::Check, "wide-60000".into()),
         Some(("check", n)) => (Kind::Check, format!("mixed-{n}")),
         Some(("last" | "absent", n)) => (Kind::Find, format!("wide-{n}")),
+        Some(("deleted", n)) => (Kind::Deleted, format!("left-{n}")),
+        Some(("clean", n)) => (Kind::Deleted, format!("zeros-{n}")),
         Some(("repair", n)) => (Kind::Repair, format!("torn-{n}")),
         Some(("all", n)) => (Kind::All, format!("torn-{n}")),
         Some(("sample", n)) => (Kind::Sample, format!("torn-{n}")),
@@ -215,7 +232,8 @@ fn input(row: &str, folder: &str) -> Input {
         _ => String::new(),
     };
     let out = vec![0; if kind == Kind::Check { hive.len() / 64 } else { 1_048_576 }];
-    Input { kind, hive, log, path: path.encode_utf16().collect(), out }
+    let rows = vec![0; if kind == Kind::Deleted { hive.len() / 24 * 4 } else { 0 }];
+    Input { kind, hive, log, path: path.encode_utf16().collect(), out, rows }
 }
 
 fn times(folder: &str, rows: &[&str]) {
@@ -228,14 +246,14 @@ fn times(folder: &str, rows: &[&str]) {
         for (k, side) in ["rattle", "plain", "idiom"].iter().enumerate() {
             let fresh = input(row, folder);
             for _ in 0..rounds {
-                let mut i = Input { hive: fresh.hive.clone(), log: fresh.log.clone(), path: fresh.path.clone(), out: fresh.out.clone(), ..fresh };
+                let mut i = Input { hive: fresh.hive.clone(), log: fresh.log.clone(), path: fresh.path.clone(), out: fresh.out.clone(), rows: fresh.rows.clone(), ..fresh };
                 let start = Instant::now();
                 let outcome = black_box(measured(side, black_box(&mut i)));
                 best[k] = best[k].min(start.elapsed().as_secs_f64() * 1e6);
                 if let Outcome::Check(Ok(r)) = &outcome {
                     size = (i.hive.len(), r.keys);
                 }
-                outcomes.push((outcome, i.hive, i.out));
+                outcomes.push((outcome, i.hive, i.out, i.rows));
                 outcomes.dedup();
             }
         }
@@ -252,6 +270,10 @@ fn make_all(folder: &str) {
         write(format!("{folder}/wide-{n}"), make::wide(n)).unwrap();
     }
     write(format!("{folder}/large"), make::large_value()).unwrap();
+    for n in [1, 64] {
+        write(format!("{folder}/left-{n}"), make::left(n << 20, true)).unwrap();
+        write(format!("{folder}/zeros-{n}"), make::left(n << 20, false)).unwrap();
+    }
     for (name, bins, pages) in [("1000", 1 << 20, 1000), ("1000-of-131072", 64 << 20, 1000), ("100000", 64 << 20, 100_000)] {
         let (hive, log) = make::torn(bins, pages);
         write(format!("{folder}/torn-{name}"), hive).unwrap();

@@ -20,6 +20,7 @@ pub trait Style {
     fn same(a: &[u8], b: &[u8]) -> bool;
     fn clear(map: &mut [u8]);
     fn each(list: &[u8], step: usize, f: impl FnMut(u32, u32) -> Res<bool>) -> Res<()>;
+    fn signed(cell: &[u8], f: impl FnMut(usize) -> bool) -> bool;
 }
 
 #[inline]
@@ -149,6 +150,16 @@ impl Style for Plain {
         }
         Ok(())
     }
+    fn signed(cell: &[u8], mut f: impl FnMut(usize) -> bool) -> bool {
+        let mut i = 0;
+        while i < cell.len() {
+            if (cell[i + 4] == b'n' || cell[i + 4] == b'v') && cell[i + 5] == b'k' && f(i) {
+                return true;
+            }
+            i += 8;
+        }
+        false
+    }
 }
 
 pub struct Idiom;
@@ -207,6 +218,9 @@ impl Style for Idiom {
             }
         }
         Ok(())
+    }
+    fn signed(cell: &[u8], mut f: impl FnMut(usize) -> bool) -> bool {
+        cell.chunks_exact(8).enumerate().any(|(i, c)| (&c[4..6] == b"nk" || &c[4..6] == b"vk") && f(8 * i))
     }
 }
 
@@ -276,7 +290,7 @@ pub struct Report {
     pub free: u64,
 }
 
-fn survey<S: Style>(bins: &[u8], map: &mut [u8], r: &mut Report) -> Res<()> {
+fn survey<S: Style>(bins: &[u8], mut mark: impl FnMut(usize), r: &mut Report) -> Res<()> {
     let mut at = 0;
     while at < bins.len() {
         let n = S::u32_at(bins, at + 8) as usize;
@@ -292,7 +306,7 @@ fn survey<S: Style>(bins: &[u8], map: &mut [u8], r: &mut Report) -> Res<()> {
                 return Err(Flaw(10, cell as u32));
             }
             if size < 0 {
-                map[cell / 64] |= 1 << (cell / 8 % 8);
+                mark(cell);
                 r.used += n as u64;
             } else {
                 r.free += n as u64;
@@ -519,7 +533,8 @@ pub fn check<S: Style>(h: &[u8], map: &mut [u8]) -> Res<Report> {
     }
     let mut r = Report::default();
     S::clear(&mut map[..n]);
-    if let Err(f) = survey::<S>(bins, &mut map[..n], &mut r) {
+    let marked = &mut map[..n];
+    if let Err(f) = survey::<S>(bins, |cell| marked[cell / 64] |= 1 << (cell / 8 % 8), &mut r) {
         S::clear(&mut map[..n]);
         return Err(f);
     }
@@ -529,6 +544,62 @@ pub fn check<S: Style>(h: &[u8], map: &mut [u8]) -> Res<Report> {
     r.keys = w.keys;
     r.values = w.values;
     Ok(r)
+}
+
+// The free cells of bins and cells that were tested, one after the other.
+fn each_free<S: Style>(bins: &[u8], mut f: impl FnMut(usize, &[u8]) -> bool) {
+    let mut at = 0;
+    while at < bins.len() {
+        let end = at + S::u32_at(bins, at + 8) as usize;
+        let mut cell = at + 32;
+        while cell < end {
+            let size = S::u32_at(bins, cell) as i32;
+            let n = size.unsigned_abs() as usize;
+            if size > 0 && f(cell, &bins[cell..cell + n]) {
+                return;
+            }
+            cell += n;
+        }
+        at = end;
+    }
+}
+
+// What bytes that start with "nk" or "vk" are, where the record ends inside them and has an admissible name: 1 or 2, its length, 1 where it is narrow.
+fn old_record<S: Style>(r: &[u8]) -> Option<[u32; 3]> {
+    let key = r[0] == b'n';
+    let head = if key { 76 } else { 20 };
+    if r.len() < head {
+        return None;
+    }
+    let len = S::u16_at(r, if key { 72 } else { 2 }) as usize;
+    let wide = if key { S::u16_at(r, 2) & 0x20 == 0 } else { S::u16_at(r, 16) & 1 == 0 };
+    if r.len() < head + len || wide && len % 2 != 0 {
+        return None;
+    }
+    let name = &r[head..head + len];
+    let n = count(name, wide);
+    let admissible = if key { n > 0 && n <= 255 && !S::has_backslash(name, wide) } else { n <= 16383 };
+    admissible.then_some([if key { 1 } else { 2 }, len as u32, !wide as u32])
+}
+
+// What deletion left, four words for each, as many as there is room for; how many.
+pub fn remnants<S: Style>(h: &[u8], rows: &mut [u32]) -> Res<usize> {
+    let bins = base::<S>(h)?;
+    survey::<S>(bins, |_| (), &mut Report::default())?;
+    let (mut n, mut left) = (0, false);
+    each_free::<S>(bins, |at, cell| {
+        S::signed(cell, |i| {
+            if let Some([kind, len, narrow]) = old_record::<S>(&cell[i + 4..]) {
+                left = rows.len() < 4 * n + 4;
+                if !left {
+                    rows[4 * n..4 * n + 4].copy_from_slice(&[(at + i) as u32, kind, len, narrow]);
+                    n += 1;
+                }
+            }
+            left
+        })
+    });
+    if left && n == 0 { Err(Flaw(20, 0)) } else { Ok(n) }
 }
 
 fn path_fits(path: &[u16]) -> bool {

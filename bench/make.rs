@@ -94,6 +94,22 @@ impl Maker {
         put32(d, 8, at);
         o
     }
+    // Frees cells, and merges those that are neighbours; their bytes stay, or are cleared.
+    fn free(&mut self, cells: &[u32], old: bool) {
+        let mut behind = 0;
+        for &o in cells.iter().rev() {
+            let at = o as usize + 4096;
+            let mut size = u32::from_le_bytes(self.file[at..at + 4].try_into().unwrap()).wrapping_neg();
+            if !old {
+                self.file[at..at + size as usize].fill(0);
+            }
+            if o + size == behind {
+                size += u32::from_le_bytes(self.file[behind as usize + 4096..behind as usize + 4100].try_into().unwrap());
+            }
+            put32(&mut self.file, at, size);
+            behind = o;
+        }
+    }
     fn bytes(&mut self, data: &[u8]) -> u32 {
         let o = self.cell(data.len());
         self.data(o)[..data.len()].copy_from_slice(data);
@@ -192,6 +208,21 @@ pub fn wide(n: usize) -> Vec<u8> {
     let root = m.key("ROOT", 0);
     let all: Vec<(u32, String)> = (0..n).map(|i| format!("Component{i:06}")).map(|x| (m.key(&x, root), x)).collect();
     m.hang_keys(root, &all);
+    m.finish()
+}
+
+// Half of the bins in use, and half free: a key and two values freed one after the other and merged, as deletion leaves them, or zeros.
+pub fn left(bins: usize, old: bool) -> Vec<u8> {
+    let mut m = Maker::new();
+    let root = m.key("ROOT", 0);
+    let mut i = 0;
+    while m.file.len() < bins {
+        m.cell(172);
+        let name = format!("Component {i:06} of many");
+        let freed = [m.key(&name, root), m.value("Description", &[1, 2, 3, 4]), m.value("Enabled", &[1, 0, 0, 0])];
+        m.free(&freed, old);
+        i += 1;
+    }
     m.finish()
 }
 

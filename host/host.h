@@ -57,7 +57,7 @@ typedef int Verb(const Order *);
 int read_order(int count, char **words, Order *out, Verb **verb);
 
 /* The verbs. */
-Verb check_verb, key_verb, list_verb, value_verb, repair_verb, explain_verb;
+Verb check_verb, key_verb, list_verb, value_verb, deleted_verb, repair_verb, explain_verb;
 
 /* say.c: answers on standard output, as a line or as a JSON object; messages on standard error. Those that answer an int answer TROUBLE. */
 void say_as(bool json, bool many);

@@ -17,6 +17,7 @@ static const struct {
     {"key", "FILE PATH", 2, 2, LOG | JSON | WIDE, key_verb},
     {"ls", "FILE [PATH]", 1, 2, LOG | JSON | WIDE, list_verb},
     {"value", "FILE PATH NAME [OUT]", 3, 4, LOG | JSON | NTH, value_verb},
+    {"deleted", "FILE", 1, 1, LOG | JSON, deleted_verb},
     {"repair", "FILE LOG", 2, 2, JSON | DRY_RUN | BACKUP | ANYWAY, repair_verb},
     {"explain", "N", 1, 1, 0, explain_verb},
 };
@@ -80,7 +81,7 @@ int read_order(int count, char **words, Order *o, Verb **verb)
     while (v < VERB_COUNT && strcmp(words[0], VERBS[v].name) != 0)
         v++;
     if (v == VERB_COUNT)
-        return misused("\"%s\" is none of check, key, ls, value, repair and explain", words[0]);
+        return misused("\"%s\" is none of check, key, ls, value, deleted, repair and explain", words[0]);
     *o = (Order){.words = words};
     for (int i = 1; i < count && status == GOOD; i++) {
         if (options && strcmp(words[i], "--") == 0)

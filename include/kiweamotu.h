@@ -84,12 +84,18 @@ enum {
     HIVE_SEGMENTS = 3,
 };
 
+/* The kinds of a record that deletion left. */
+enum {
+    HIVE_OLD_KEY = 1,
+    HIVE_OLD_VALUE = 2,
+};
+
 /* No key is named: no cell lies there. */
 #define HIVE_NO_KEY 0xffffffffu
 
 /* Part of every answer. number: 0, or the refusal's number. place: the refusal's place. key: the refusal's key, else
- * HIVE_NO_KEY. value: the offset of the key or value that hive_find_key, hive_nth_subkey, hive_nth_value or hive_key_at
- * found, else 0.
+ * HIVE_NO_KEY. value: the offset of the key or value that hive_find_key, hive_nth_subkey, hive_nth_value, hive_key_at or
+ * hive_next_remnant found, else 0.
  * Where number is not 0, every other field of the answer but place and key is 0.
  */
 typedef struct {
@@ -190,6 +196,37 @@ HIVE_ASSERT(offsetof(HiveKey, name) == 48);
 HIVE_ASSERT(offsetof(HiveKey, length) == 56);
 HIVE_ASSERT(offsetof(HiveKey, narrow) == 64);
 HIVE_ASSERT(sizeof(HiveKey) == 72);
+
+/* A key or value record that deletion left in a free cell. state: HIVE_REFUSED, HIVE_NO_MORE or HIVE_THERE; then answer.value is
+ * its offset, that of the size field of the cell that it once had: the record starts 4 bytes further on. kind: HIVE_OLD_KEY or
+ * HIVE_OLD_VALUE. name, length, narrow: as of a HiveMember. Nothing else of the record was judged.
+ */
+typedef struct {
+    HiveAnswer answer;
+    uint64_t state;
+    uint64_t kind;
+    uint64_t name;
+    uint64_t length;
+    uint64_t narrow;
+} HiveRemnant;
+HIVE_ASSERT(offsetof(HiveRemnant, answer) == 0);
+HIVE_ASSERT(offsetof(HiveRemnant, state) == 16);
+HIVE_ASSERT(offsetof(HiveRemnant, kind) == 24);
+HIVE_ASSERT(offsetof(HiveRemnant, name) == 32);
+HIVE_ASSERT(offsetof(HiveRemnant, length) == 40);
+HIVE_ASSERT(offsetof(HiveRemnant, narrow) == 48);
+HIVE_ASSERT(sizeof(HiveRemnant) == 56);
+
+/* state: HIVE_REFUSED, HIVE_NO_MORE, or HIVE_THERE where rows were written; rows: how many. */
+typedef struct {
+    HiveAnswer answer;
+    uint64_t state;
+    uint64_t rows;
+} HiveRows;
+HIVE_ASSERT(offsetof(HiveRows, answer) == 0);
+HIVE_ASSERT(offsetof(HiveRows, state) == 16);
+HIVE_ASSERT(offsetof(HiveRows, rows) == 24);
+HIVE_ASSERT(sizeof(HiveRows) == 32);
 
 /* An answer of recovery. state: HIVE_REFUSED; HIVE_CLEAN: nothing is to be done and nothing was changed; HIVE_DONE: accepted or done.
  * pages: the number of pages that the log holds, where hive_recover_start accepts it, else 0.
@@ -296,6 +333,21 @@ HiveCopy hive_copy_at(const uint8_t *hive, size_t hive_len, uint32_t value, uint
 
 /* What the record of the key at an offset says of it. Refuses 1 to 7, then 11 and 12 of the key. */
 HiveKey hive_key_at(const uint8_t *hive, size_t hive_len, uint32_t key);
+
+/* The first record that deletion left in a free cell, at or past an offset in the bins data: at a multiple of 8 inside the cell
+ * (its start counts), with "nk" or "vk" 4 bytes further on, ending inside the cell, with an admissible name. Start with 0, and go
+ * on with its offset + 1 until HIVE_NO_MORE. The tree is not walked, so it may be broken. Refuses 1 to 7, 9 and 10, and tests all
+ * bins and cells each time: hive_remnants does it once for many.
+ */
+HiveRemnant hive_next_remnant(const uint8_t *hive, size_t hive_len, size_t from);
+
+/* All that hive_next_remnant would find from an offset on, in one pass: four words for each, its offset, HIVE_OLD_KEY or
+ * HIVE_OLD_VALUE, the length of its name in bytes, 1 where a byte is a character or 0 in UTF-16LE; as many whole rows as there is
+ * room for. The name stands at 4096 + offset + 80 of the file for a key, + 24 for a value. With as many rows as there was room for,
+ * go on with the last offset + 1. Refuses 1 to 7, 9 and 10, then 20 where one is left and `rows` has fewer than four words. The
+ * words behind the last row stay; a refusal and HIVE_NO_MORE leave all of them.
+ */
+HiveRows hive_remnants(const uint8_t *hive, size_t hive_len, size_t from, uint32_t *rows, size_t rows_len);
 
 /* Whether an old-format log (file type 1 or 2) repairs this hive. A hive that needs no repair answers HIVE_CLEAN, whatever
  * the log. Refuses 1, 21, 22, 23, 22, 24, 25, in this order.

@@ -28,7 +28,7 @@ import stat
 from ctypes import c_size_t, c_uint32, c_uint64, c_void_p
 from typing import Any, Callable, Iterator, List, NamedTuple, Optional, Tuple, Union
 
-__all__ = ["Hive", "Key", "Value", "Report", "Repair", "Refused", "Unsound", "repair"]
+__all__ = ["Hive", "Key", "Value", "Deleted", "Report", "Repair", "Refused", "Unsound", "repair"]
 
 SECTOR = 512
 INTERFACES = (2, 1)  # those that this file knows: their structs and calls are the same, and in 1 no refusal names a key
@@ -37,6 +37,8 @@ CLEAN, DONE = 1, 2
 SEGMENTS = 3
 NO_KEY = 0xFFFFFFFF
 LEVELS = 512
+OLD_KEY, OLD_VALUE = 1, 2
+ROWS = 4096  # so many deleted records a call, each of four words
 
 # What a refusal's number means. PLACED are those whose place is an offset.
 WORDS = {
@@ -109,6 +111,10 @@ class _Key(ctypes.Structure):
                 ("name", c_uint64), ("length", c_uint64), ("narrow", c_uint64)]
 
 
+class _Rows(ctypes.Structure):
+    _fields_ = [("answer", _Answer), ("state", c_uint64), ("rows", c_uint64)]
+
+
 class _Recovery(ctypes.Structure):
     _fields_ = [("answer", _Answer), ("state", c_uint64), ("pages", c_uint64)]
 
@@ -130,6 +136,7 @@ _CALLS = {
     "hive_value_at": (_Value, _MEMORY + [c_uint32]),
     "hive_copy_at": (_Copy, _MEMORY + [c_uint32] + _MEMORY),
     "hive_key_at": (_Key, _MEMORY + [c_uint32]),
+    "hive_remnants": (_Rows, _MEMORY + [c_size_t] + _MEMORY),
     "hive_recover_start": (_Recovery, _MEMORY * 2),
     "hive_recover_all": (_Recovery, _MEMORY * 2),
     "hive_recover_close": (_Recovery, _MEMORY * 2),
@@ -157,12 +164,12 @@ def _load() -> ctypes.CDLL:
     for path in _candidates():
         try:
             library = ctypes.CDLL(path)
-        except OSError as error:
+            for name, (result, arguments) in _CALLS.items():
+                call = getattr(library, name)
+                call.restype, call.argtypes = result, arguments
+        except (OSError, AttributeError) as error:  # AttributeError: an older library, without a call
             trouble.append(str(error))
             continue
-        for name, (result, arguments) in _CALLS.items():
-            call = getattr(library, name)
-            call.restype, call.argtypes = result, arguments
         if library.hive_abi() in INTERFACES:
             return library
         trouble.append("%s has interface %d, and this file knows %s" % (path, library.hive_abi(), INTERFACES))
@@ -282,6 +289,15 @@ class Report(NamedTuple):
     values: int
     used: int
     free: int
+
+
+class Deleted(NamedTuple):
+    """A record that deletion left in a free cell. kind: "key" or "value". offset: where its cell once started, in the bins data. name: "" is the
+    unnamed value. length: how many bytes the name takes as it is stored. Nothing else of the record was judged."""
+    kind: str
+    offset: int
+    name: str
+    length: int
 
 
 class Repair(NamedTuple):
@@ -466,8 +482,11 @@ class Hive:
         self._view = memoryview(owner).cast("B").toreadonly()
 
     def _name(self, member: Any) -> str:
-        raw = bytes(self._view[member.name:member.name + member.length])
-        return raw.decode("latin-1") if member.narrow == 1 else _text(raw[:len(raw) // 2 * 2])
+        return self._name_at(member.name, member.length, member.narrow)
+
+    def _name_at(self, at: int, length: int, narrow: int) -> str:
+        raw = bytes(self._view[at:at + length])
+        return raw.decode("latin-1") if narrow == 1 else _text(raw[:len(raw) // 2 * 2])
 
     def _members(self, nth: Callable[..., _Member], key: int) -> Iterator[_Member]:
         n = 0
@@ -516,6 +535,25 @@ class Hive:
         _allow(found.answer)
         return Value(self, name, found, lambda: _library.hive_value_view(*self._memory, *key, *called).answer,
                      lambda out: _library.hive_value_copy(*self._memory, *key, *called, *out))
+
+    def deleted(self) -> Iterator[Deleted]:
+        """The keys and values that still lie in free cells, in the order of their offsets. The bins and cells must be sound, or it is Refused; the
+        tree may be broken.
+
+        >>> next(Hive("left").deleted())
+        Deleted(kind='key', offset=120, name='gone', length=4)
+        """
+        rows, start = (c_uint32 * (4 * ROWS))(), 0
+        while True:
+            found = _library.hive_remnants(*self._memory, start, rows, 4 * ROWS)
+            _allow(found.answer)
+            for i in range(0, 4 * found.rows, 4):
+                offset, kind, length, narrow = rows[i:i + 4]
+                at = 4096 + offset + (80 if kind == OLD_KEY else 24)
+                yield Deleted("key" if kind == OLD_KEY else "value", offset, self._name_at(at, length, narrow), length)
+            if found.rows < ROWS:
+                return
+            start = rows[4 * ROWS - 4] + 1
 
     @property
     def root(self) -> Key:

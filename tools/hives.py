@@ -390,6 +390,70 @@ def value_copy(hive, path, name, out):
     return len(data)
 
 
+# ---- the model: what deletion left behind
+
+OLD_KEY, OLD_VALUE = 1, 2
+
+
+def free_cells(bins):
+    """Where each free cell starts and ends, in bins and cells that were tested."""
+    at = 0
+    while at < len(bins):
+        cell, end = at + 32, at + u32(bins, at + 8)
+        while cell < end:
+            size = signed_size(bins, cell)
+            if size > 0:
+                yield cell, cell + size
+            cell += abs(size)
+        at = end
+
+
+def old_record(d):
+    """What bytes start with: the kind, the length of its name in bytes and whether each is a character; None where it is neither, does not end
+    inside them or has no admissible name. Nothing else is judged."""
+    if d[0:2] == b"nk" and len(d) >= 76:
+        kind, head, length, one, least, most = OLD_KEY, 76, u16(d, 72), u16(d, 2) >> 5 & 1, 1, 255
+    elif d[0:2] == b"vk" and len(d) >= 20:
+        kind, head, length, one, least, most = OLD_VALUE, 20, u16(d, 2), u16(d, 16) & 1, 0, 16383
+    else:
+        return None
+    if head + length > len(d):
+        return None
+    codes = name_codes(d[head:head + length], one)
+    if codes is None or not least <= len(codes) <= most or kind == OLD_KEY and BACKSLASH in codes:
+        return None
+    return kind, length, one
+
+
+def remnants(hive, start=0):
+    """Each record that lies in a free cell, from an offset on: (offset, kind, length of its name, whether each byte is a character). Or Refused:
+    1 to 7, 9 and 10, wherever they are."""
+    bins = open_hive(hive)
+    tile(bins)
+    found = []
+    for cell, end in free_cells(bins):
+        for at in range(cell, end, 8):
+            record = old_record(bins[at + 4:end]) if bins[at + 5] == ord("k") else None
+            if record and at >= start:
+                found.append((at,) + record)
+    return found
+
+
+def name_place(remnant):
+    """Where in the file the name of a record stands."""
+    return BASE + remnant[0] + 4 + (76 if remnant[1] == OLD_KEY else 20)
+
+
+def remnant_rows(hive, start, words):
+    """The same in bulk: how many rows were put into `words`, a list of numbers. 0 where none is left; 20 where one is and there is no room for it."""
+    left = remnants(hive, start)
+    if left and len(words) < 4:
+        raise Refused(20)
+    left = left[:len(words) // 4]
+    words[:4 * len(left)] = [word for row in left for word in row]
+    return len(left)
+
+
 # ---- the model: what a key holds
 
 def given_key(hive, at):
@@ -628,6 +692,23 @@ class Builder:
 
 def name_bytes(codes, wide):
     return b"".join(struct.pack("<H", c) for c in codes) if wide else bytes(codes)
+
+
+def key_record(raw, one=True, fill=0):
+    """The record of a key with that name, as it is stored; all that is no part of it is `fill`."""
+    d = bytearray([fill]) * 76
+    d[0:2] = b"nk"
+    d[2] = d[2] & 0xDF | (0x20 if one else 0)
+    struct.pack_into("<H", d, 72, len(raw))
+    return bytes(d) + raw
+
+
+def value_record(raw, one=True, fill=0):
+    d = bytearray([fill]) * 20
+    d[0:2] = b"vk"
+    d[16] = d[16] & 0xFE | (1 if one else 0)
+    struct.pack_into("<H", d, 2, len(raw))
+    return bytes(d) + raw
 
 
 def with_xor(file, xor, stored=None):

@@ -159,6 +159,8 @@ static void t_nothing(void)
     EXPECT(is(hive_value_at(NULL, 0, 32).answer, 1, 0));
     EXPECT(is(hive_copy_at(NULL, 0, 32, NULL, 0).answer, 1, 0));
     EXPECT(is(hive_key_at(NULL, 0, 32).answer, 1, 0));
+    EXPECT(is(hive_next_remnant(NULL, 0, 0).answer, 1, 0));
+    EXPECT(is(hive_remnants(NULL, 0, 0, NULL, 0).answer, 1, 0));
     EXPECT(is(hive_recover_start(NULL, 0, NULL, 0).answer, 1, 0));
     EXPECT(is(hive_recover_page(NULL, 0, NULL, 0, 0).answer, 1, 0));
     EXPECT(is(hive_recover_close(NULL, 0, NULL, 0).answer, 1, 0));
@@ -170,6 +172,7 @@ static void t_nothing(void)
     EXPECT(is(hive_check(m.file, n, NULL, 0).answer, 8, 0));
     EXPECT(hive_find_key(m.file, n, NULL, 0).value == m.root);
     EXPECT(in(hive_value_info(m.file, n, NULL, 0, NULL, 0).answer, 18, 0, m.root));
+    EXPECT(hive_next_remnant(m.file, n, 0).state == 1 && hive_remnants(m.file, n, 0, NULL, 0).state == 1);
     EXPECT(hive_recover_start(m.file, n, NULL, 0).state == 1);
     EXPECT(hive_recover_page(m.file, n, NULL, 0, 3).state == 1 && hive_recover_close(m.file, n, NULL, 0).state == 1);
     EXPECT(hive_recover_all(m.file, n, NULL, 0).state == 1);
@@ -192,6 +195,8 @@ static void all_calls(const uint8_t *bytes, size_t length)
         EXPECT(hive_copy_at(h, length, 32 + 0x7fffffffu * at, l, length).answer.key == NO_KEY);
         key_at(h, length, 32 + 0x7fffffffu * at);
     }
+    EXPECT(hive_next_remnant(h, length, length / 2).answer.key == NO_KEY);
+    EXPECT(hive_remnants(h, length, length / 2, (uint32_t *)lend(3, bytes, length / 4 * 4), length / 4).answer.key == NO_KEY);
     EXPECT(hive_recover_start(h, length, l, length).answer.key == NO_KEY);
     EXPECT(hive_recover_next(l, length, 0).answer.key == NO_KEY);
     EXPECT(hive_recover_mark(l, length, 0).answer.key == NO_KEY);
@@ -261,7 +266,9 @@ static void t_changed(void)
         }
         if (round % 8 != 0)
             reseal(file);
-        refused += checked(file, n).number != 0;
+        HiveAnswer a = checked(file, n), left = hive_next_remnant(lend(0, file, n), n, dice()).answer;
+        refused += a.number != 0;
+        EXPECT(a.number >= 1 && a.number <= 10 ? is(left, a.number, a.place) : left.number == 0); /* the same tests, but for the tree */
         found(file, n, "A\\K6");
         members(lend(0, file, n), n, m.root, 6);
         asked(file, n, "ControlSet001\\Services\\EventLog\\Application\\Print", round % 2 ? "Large" : "Several", data);
@@ -634,6 +641,318 @@ static void t_keyless(void)
     free(m.file);
 }
 
+/* ---- what deletion left behind */
+
+/* A record that is left: at an offset, as the rows say it. */
+typedef struct {
+    uint32_t at, kind, length, narrow;
+} Left;
+
+enum { KEY = HIVE_OLD_KEY, VALUE = HIVE_OLD_VALUE, LEFT_MOST = 8 };
+
+/* A record at an offset. The four bytes there stay: they are an old size, or the free cell's own. All that deletion may destroy, and that is not judged, is 0xff. */
+static void leave(Made *m, Left x, const void *name)
+{
+    uint8_t *d = data_of(m, x.at);
+    size_t head = x.kind == KEY ? 76 : 20;
+    memset(d, 0xff, head);
+    memcpy(d, x.kind == KEY ? "nk" : "vk", 2);
+    if (x.kind == KEY)
+        put16(d + 2, x.narrow ? 0xffff : 0xffdf);
+    else
+        put16(d + 16, x.narrow ? 0xffff : 0xfffe);
+    put16(d + (x.kind == KEY ? 72 : 2), x.length);
+    memcpy(d + head, name, x.length);
+}
+
+/* A name of letters: of so many bytes, whatever the kind. */
+static const char *letters(size_t length)
+{
+    static char name[70000];
+    if (length > sizeof name)
+        abort();
+    return memset(name, 'n', length);
+}
+
+/* A root and a free cell from 120 on, of one bin. */
+static Made free_bin(size_t bins)
+{
+    Made m = made(bins, 5);
+    new_key(&m, "R", 0);
+    finish(&m);
+    return m;
+}
+
+/* Makes two cells of one: each has a size. */
+static void split(Made *m, uint32_t at, uint32_t first, uint32_t second)
+{
+    put32(m->file + 4096 + at, first);
+    put32(m->file + 4096 + at + (first > 0x7fffffff ? 0 - first : first), second);
+}
+
+/* One step: the first of `want` that is not below `from`. */
+static void step(const uint8_t *h, size_t n, size_t from, const Left *want, size_t count)
+{
+    while (count > 0 && want->at < from) {
+        want++;
+        count--;
+    }
+    HiveRemnant r = hive_next_remnant(h, n, from);
+    EXPECT(r.answer.number == 0 && r.answer.place == 0 && r.answer.key == NO_KEY);
+    if (count == 0)
+        EXPECT(r.state == 1 && r.answer.value + r.kind + r.name + r.length + r.narrow == 0);
+    else
+        EXPECT(r.state == 2 && r.answer.value == want->at && r.kind == want->kind && r.length == want->length && r.narrow == want->narrow &&
+               r.name == 4096 + want->at + (want->kind == KEY ? 80 : 24) && r.name + r.length <= n);
+}
+
+/* The rows from `from` on, in so many words: whole rows, and the words behind them stay. */
+static void some_rows(const uint8_t *h, size_t n, size_t from, const Left *want, size_t count, size_t words)
+{
+    static uint32_t before[4096];
+    while (count > 0 && want->at < from) {
+        want++;
+        count--;
+    }
+    memset(before, 0x5a, sizeof before);
+    uint32_t *rows = (uint32_t *)lend(1, before, 4 * words);
+    HiveRows r = hive_remnants(h, n, from, rows, words);
+    size_t fit = count < words / 4 ? count : words / 4;
+    bool short_of_one = count > 0 && words < 4;
+    EXPECT(is(r.answer, short_of_one ? 20 : 0, 0) && r.state == (short_of_one ? 0 : count == 0 ? 1 : 2) && r.rows == fit);
+    EXPECT(fit == 0 || memcmp(rows, want, fit * sizeof *want) == 0);
+    EXPECT(memcmp(rows + 4 * fit, before, 4 * (words - 4 * fit)) == 0);
+}
+
+/* What is left in a hive: exactly this, by steps and by rows of many sizes, from each offset and around it. */
+static void only(const Made *m, const Left *want, size_t count)
+{
+    static const size_t sizes[] = {0, 3, 4, 7, 8, 4096};
+    size_t n = made_length(m), froms[3 * LEFT_MOST + 5] = {0, 0xffffffff, (size_t)-1, n, 4096}, k = 5;
+    if (count > LEFT_MOST)
+        abort();
+    for (size_t i = 0; i < count; i++)
+        for (uint32_t d = 0; d < 3; d++)
+            froms[k++] = want[i].at - 1 + d;
+    const uint8_t *h = lend(0, m->file, n);
+    for (size_t i = 0; i < k; i++) {
+        step(h, n, froms[i], want, count);
+        for (size_t s = 0; s < sizeof sizes / sizeof sizes[0]; s++)
+            some_rows(h, n, froms[i], want, count, sizes[s]);
+    }
+    EXPECT(memcmp(h, m->file, n) == 0);
+}
+
+/* One record at an offset of a free cell from 120 to the end of a bin: whether it is found. */
+static void tried(size_t bins, Left x, const void *name, bool there)
+{
+    Made m = free_bin(bins);
+    leave(&m, x, name);
+    only(&m, &x, there ? 1 : 0);
+    free(m.file);
+}
+
+/* The start of a free cell, its last bytes, and what does not end inside it. */
+static void t_left_room(void)
+{
+    tried(4096, (Left){120, KEY, 4, 1}, "gone", true);
+    tried(4096, (Left){120, VALUE, 4, 1}, "gone", true);
+    tried(4096, (Left){4096 - 24, VALUE, 0, 1}, "", true);
+    tried(4096, (Left){4096 - 88, KEY, 8, 1}, "the last", true);
+    tried(4096, (Left){124, KEY, 4, 1}, "gone", false);
+    tried(4096, (Left){132, VALUE, 4, 1}, "gone", false);
+    Made m = free_bin(4096);
+    memcpy(data_of(&m, 4096 - 16), "vk\0\0", 4); /* the same 8 bytes later: it ends past the cell */
+    only(&m, NULL, 0);
+    memcpy(data_of(&m, 4096 - 8), "nk", 2);
+    only(&m, NULL, 0);
+    free(m.file);
+}
+
+/* A free cell of 120 bytes before another one: a record ends at its end, one byte past it, or starts in the other. */
+static void t_left_neighbours(void)
+{
+    const Left at_end = {152, KEY, 8, 1}, past = {152, KEY, 9, 1}, other = {240, KEY, 8, 1}, start = {240, VALUE, 3, 1};
+    for (int i = 0; i < 4; i++) {
+        Made m = free_bin(4096);
+        split(&m, 120, 120, 4096 - 240);
+        Left x = (Left[]){at_end, past, other, start}[i];
+        leave(&m, x, letters(x.length));
+        if (i == 1)
+            put32(m.file + 4096 + 240, 4096 - 240); /* its ninth letter lies in the size field there */
+        only(&m, &x, i == 1 ? 0 : 1);
+        put32(m.file + 4096 + 120, 0u - 120); /* the first of them in use */
+        only(&m, &x, i < 2 ? 0 : 1);
+        free(m.file);
+    }
+}
+
+/* Names of both kinds, of keys and of values, at their limits. */
+static void t_left_names(void)
+{
+    static const struct { uint32_t length; bool key_narrow, key_wide, value_narrow, value_wide; } cases[] = {
+        {0, false, false, true, true}, {1, true, false, true, false}, {2, true, true, true, true}, {3, true, false, true, false},
+        {255, true, false, true, false}, {256, false, true, true, true}, {509, false, false, true, false}, {510, false, true, true, true},
+        {511, false, false, true, false}, {512, false, false, true, true}, {16382, false, false, true, true}, {16383, false, false, true, false},
+        {16384, false, false, false, true}, {32766, false, false, false, true}, {32767, false, false, false, false}, {32768, false, false, false, false},
+        {65535, false, false, false, false},
+    };
+    for (size_t i = 0; i < sizeof cases / sizeof cases[0]; i++) {
+        tried(20 * 4096, (Left){128, KEY, cases[i].length, 1}, letters(cases[i].length), cases[i].key_narrow);
+        tried(20 * 4096, (Left){128, KEY, cases[i].length, 0}, letters(cases[i].length), cases[i].key_wide);
+        tried(20 * 4096, (Left){128, VALUE, cases[i].length, 1}, letters(cases[i].length), cases[i].value_narrow);
+        tried(20 * 4096, (Left){128, VALUE, cases[i].length, 0}, letters(cases[i].length), cases[i].value_wide);
+    }
+}
+
+/* A backslash is a code and not a byte, and only a key's name has none. */
+static void t_left_backslashes(void)
+{
+    static const struct { const char *name; uint32_t length, narrow; bool of_key; } cases[] = {
+        {"\\\0", 2, 0, false}, {"\0\\", 2, 0, true}, {"\\\\", 2, 0, true}, {"a\0\\\0", 4, 0, false}, {"a\0\0\\b\0", 6, 0, true}, {"\\", 1, 1, false},
+        {"a\\", 2, 1, false}, {"a\0b", 3, 1, true},
+    };
+    for (size_t i = 0; i < sizeof cases / sizeof cases[0]; i++) {
+        tried(4096, (Left){120, KEY, cases[i].length, cases[i].narrow}, cases[i].name, cases[i].of_key);
+        tried(4096, (Left){120, VALUE, cases[i].length, cases[i].narrow}, cases[i].name, true);
+    }
+}
+
+/* Keys that were freed one after the other, the first cell's size grown over the others; records that overlap; a record in a cell in use. */
+static void t_left_merged(void)
+{
+    static const Left keys[] = {{120, KEY, 5, 1}, {208, KEY, 3, 1}, {288, KEY, 4, 0}};
+    Made m = free_bin(4096);
+    for (int i = 0; i < 3; i++) {
+        leave(&m, keys[i], "a\0b\0c");
+        if (i > 0)
+            put32(m.file + 4096 + keys[i].at, i == 1 ? 80 : 0u - 88);
+    }
+    only(&m, keys, 3);
+    put32(data_of(&m, m.root) + 40, 120); /* the tree does not matter: a value list that is free, and a root that is none */
+    put32(data_of(&m, m.root) + 36, 1);
+    EXPECT(in(checked(m.file, made_length(&m)), 11, 120, 32));
+    only(&m, keys, 3);
+    put32(m.file + 36, 40);
+    reseal(m.file);
+    EXPECT(is(checked(m.file, made_length(&m)), 11, 40));
+    only(&m, keys, 3);
+    split(&m, 120, 0u - 88, 4096 - 208);
+    only(&m, keys + 1, 2);
+    put32(m.file + 4096 + 208, 0u - (4096 - 208));
+    only(&m, NULL, 0);
+    free(m.file);
+    static const Left both[] = {{120, KEY, 100, 1}, {208, VALUE, 7, 1}, {232, VALUE, 0, 0}};
+    m = free_bin(4096);
+    for (int i = 0; i < 3; i++) /* the second in the name of the first, the third in that of the second */
+        leave(&m, both[i], letters(both[i].length));
+    only(&m, both, 3);
+    free(m.file);
+}
+
+/* Two bins of a page, and padding behind them: what lies there is in no free cell. */
+static void t_left_bins(void)
+{
+    static const Left all[] = {{120, KEY, 1, 1}, {4096 - 24, VALUE, 0, 0}, {4096 + 32, VALUE, 2, 0}, {8192 - 80, KEY, 2, 0}};
+    Made m = free_bin(8192);
+    put32(m.file + 4096 + 8, 4096);
+    put32(m.file + 4096 + 120, 4096 - 120);
+    memcpy(m.file + 8192, m.file + 4096, 32);
+    put32(m.file + 8192 + 4, 4096);
+    put32(m.file + 8192 + 32, 4096 - 32);
+    for (int i = 0; i < 4; i++)
+        leave(&m, all[i], "ab");
+    EXPECT(is(checked(m.file, made_length(&m)), 0, 0));
+    only(&m, all, 3); /* the last ends two bytes past its bin */
+    put16(data_of(&m, 8192 - 80) + 72, 0);
+    only(&m, all, 3);
+    m.bins = 4096;
+    put32(m.file + 40, 4096);
+    reseal(m.file);
+    only(&m, all, 2);
+    m.bins = 8192; /* the same with padding */
+    only(&m, all, 2);
+    free(m.file);
+}
+
+/* Both calls refuse, as the check does, and no word is written. */
+static void left_refused(const uint8_t *file, size_t n, uint32_t number, uint32_t place)
+{
+    uint32_t before[16];
+    memset(before, 0x5a, sizeof before);
+    uint32_t *rows = (uint32_t *)lend(3, before, sizeof before);
+    EXPECT(is(checked(file, n), number, place));
+    const uint8_t *h = lend(0, file, n);
+    for (int i = 0; i < 3; i++) {
+        size_t from = (size_t[]){0, 200, (size_t)-1}[i];
+        HiveRemnant r = hive_next_remnant(h, n, from);
+        HiveRows s = hive_remnants(h, n, from, rows, 16), none = hive_remnants(h, n, from, NULL, 0);
+        EXPECT(is(r.answer, number, place) && r.state + r.kind + r.name + r.length + r.narrow == 0);
+        EXPECT(is(s.answer, number, place) && s.state + s.rows == 0 && memcmp(rows, before, sizeof before) == 0);
+        EXPECT(is(none.answer, number, place) && none.state + none.rows == 0);
+    }
+}
+
+/* Each refusal, with a record that would be found before it. */
+static void t_left_refusals(void)
+{
+    static const struct { uint32_t at, n, number, place; } changes[] = {
+        {0, 0x66676573, 2, 0}, {508, 0, 3, 0}, {24, 6, 4, 0}, {28, 1, 4, 0}, {40, 0, 5, 0}, {40, 0x80000000, 5, 0}, {40, 3 * 4096, 6, 0}, {8, 9, 7, 0},
+        {8192, 0, 9, 4096}, {8192 + 4, 0, 9, 4096}, {8192 + 8, 8192, 9, 4096}, {8192 + 8, 0, 9, 4096}, {8192 + 32, 0, 10, 4096 + 32},
+        {8192 + 32, 12, 10, 4096 + 32}, {8192 + 32, 4096, 10, 4096 + 32}, {8192 + 32, 0x80000000, 10, 4096 + 32}, {4096 + 120, 4096 - 116, 10, 120},
+        {4096, 0, 9, 0}, {4096 + 32, 0, 10, 32},
+    };
+    for (size_t i = 0; i < sizeof changes / sizeof changes[0]; i++) {
+        Made m = free_bin(8192);
+        size_t n = made_length(&m);
+        put32(m.file + 4096 + 8, 4096);
+        put32(m.file + 4096 + 120, 4096 - 120);
+        memcpy(m.file + 8192, m.file + 4096, 32);
+        put32(m.file + 8192 + 4, 4096);
+        put32(m.file + 8192 + 32, 4096 - 32);
+        const Left x = {120, KEY, 4, 1};
+        leave(&m, x, "gone");
+        only(&m, &x, 1);
+        put32(m.file + changes[i].at, changes[i].n);
+        if (changes[i].at < 508)
+            reseal(m.file);
+        left_refused(m.file, n, changes[i].number, changes[i].place);
+        left_refused(m.file, 4095, 1, 0);
+        free(m.file);
+    }
+    Made m = free_bin(4096);
+    left_refused(m.file, made_length(&m) - 1, 6, 0);
+    free(m.file);
+}
+
+/* Random bytes in a free cell: each step goes on, what it finds is a record by its bytes, and the rows say the same. */
+static void t_left_random(void)
+{
+    static uint32_t rows[4 * 512];
+    size_t found_all = 0;
+    for (int round = 0; round < 300; round++) {
+        Made m = free_bin(4096);
+        size_t n = made_length(&m), from = 0, k = 0;
+        for (size_t i = 124; i < 4096; i++)
+            m.file[4096 + i] = (uint8_t)"vknk\0\0\1 \\n"[dice() % 10];
+        for (size_t i = 124; i + 8 <= 4096; i += 8)
+            if (dice() % 2 == 0)
+                memcpy(m.file + 4096 + i, dice() % 4 == 0 ? "nk " : "vk\1", 4);
+        const uint8_t *h = lend(0, m.file, n);
+        HiveRows s = hive_remnants(h, n, 0, rows, sizeof rows / sizeof rows[0]);
+        for (HiveRemnant r; (r = hive_next_remnant(h, n, from)).state == 2; k++) {
+            const uint8_t *d = h + 4096 + r.answer.value + 4;
+            EXPECT(r.answer.value >= from && r.answer.value % 8 == 0 && memcmp(d, r.kind == KEY ? "nk" : "vk", 2) == 0 && r.name + r.length <= n);
+            EXPECT(memcmp(rows + 4 * k, (uint32_t[]){r.answer.value, (uint32_t)r.kind, (uint32_t)r.length, (uint32_t)r.narrow}, 16) == 0);
+            from = r.answer.value + 1;
+        }
+        EXPECT(k == s.rows);
+        found_all += k;
+        free(m.file);
+    }
+    EXPECT(found_all > 1000);
+}
+
 static const uint32_t PAGES[] = {0, 3, 4, 17, 127};
 enum { COUNT = sizeof PAGES / sizeof PAGES[0] };
 
@@ -802,6 +1121,14 @@ int main(void)
     test("data of many sizes", t_sizes);
     test("the key of 11 and 12 at each kind of cell", t_keys);
     test("no key where none is asked or accepted", t_keyless);
+    test("what deletion left: the room of a record", t_left_room);
+    test("what deletion left: neighbouring cells", t_left_neighbours);
+    test("what deletion left: the lengths of names", t_left_names);
+    test("what deletion left: backslashes", t_left_backslashes);
+    test("what deletion left: merged cells, cells in use, a broken tree", t_left_merged);
+    test("what deletion left: two bins", t_left_bins);
+    test("what deletion left: each refusal", t_left_refusals);
+    test("what deletion left: random bytes", t_left_random);
     test("a repair", t_repair);
     test("a repair at once", t_repair_at_once);
     test("refusals of recovery", t_log_refusals);

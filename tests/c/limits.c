@@ -196,6 +196,40 @@ static void t_last_data(void)
     drop_made(&m);
 }
 
+/* A key that was left in the last 88 bytes of a free cell that fills the bin, and one in its start. The steps start behind the first, for they look at all between. */
+static void t_last_left(void)
+{
+    static const uint32_t last = 2147479464;
+    uint32_t rows[8];
+    Made m = one_bin();
+    for (int i = 0; i < 2; i++) {
+        uint8_t *d = data_of(&m, i == 0 ? 120 : last);
+        memcpy(d, "nk", 2);
+        put16(d + 2, 0x20);
+        put16(d + 72, 8);
+        memcpy(d + 76, "the last", 8);
+    }
+    HiveRemnant r = hive_next_remnant(m.file, FILE_LENGTH, 0);
+    EXPECT(r.state == HIVE_THERE && r.answer.value == 120 && r.name == 4096 + 200);
+    for (size_t back = 0; back < 3; back++) {
+        r = hive_next_remnant(m.file, FILE_LENGTH, last - 5000 * back);
+        EXPECT(r.answer.number == 0 && r.state == HIVE_THERE && r.answer.value == last && r.kind == HIVE_OLD_KEY && r.length == 8 && r.narrow == 1);
+        EXPECT(r.name == 2147483640 && memcmp(m.file + r.name, "the last", 8) == 0);
+        HiveRows s = hive_remnants(m.file, FILE_LENGTH, last - 5000 * back, rows, 8);
+        EXPECT(is(s.answer, 0, 0) && s.state == HIVE_THERE && s.rows == 1 && memcmp(rows, (uint32_t[]){last, 1, 8, 1}, 16) == 0);
+    }
+    for (size_t i = 0; i < 5; i++) {
+        size_t from = (size_t[]){last + 1, 2147479552, 2147483648, 0xffffffff, (size_t)-1}[i];
+        EXPECT(hive_next_remnant(m.file, FILE_LENGTH, from).state == HIVE_NO_MORE && hive_remnants(m.file, FILE_LENGTH, from, rows, 8).state == HIVE_NO_MORE);
+    }
+    EXPECT(is(hive_next_remnant(m.file, FILE_LENGTH - 1, 0).answer, 6, 0));
+    put16(data_of(&m, last) + 72, 9); /* it ends one byte past the bins data */
+    EXPECT(hive_next_remnant(m.file, FILE_LENGTH, last).state == HIVE_NO_MORE);
+    put32(m.file + 4096 + 120, 0u - 2147479432);
+    EXPECT(hive_next_remnant(m.file, FILE_LENGTH, 0).state == HIVE_NO_MORE);
+    drop_made(&m);
+}
+
 /* The first 512 bytes of a hive as a log's, in a space of that length. */
 static uint8_t *log_of(const Made *m, size_t length)
 {
@@ -290,6 +324,7 @@ int main(void)
     test("limits: a second bin at the end", t_second_bin);
     test("limits: a value list of the whole bin", t_value_list);
     test("limits: data at the end", t_last_data);
+    test("limits: what deletion left at the end", t_last_left);
     test("limits: a repair of the last page", t_repair);
     test("limits: a log of all pages", t_full_log);
     test("limits: a log longer than 2^31", t_padded_log);

@@ -224,6 +224,59 @@ static void write_longest(void)
     write_ends("longest-field", &m, n);
 }
 
+/* Frees a cell as deletion does: its bytes stay. */
+static void forget(Made *m, uint32_t cell)
+{
+    put32(m->file + 4096 + cell, 0u - get32(m->file + 4096 + cell));
+}
+
+/* Records in free cells: three that were merged into one cell, single ones, and two that are in use. Whole; before a repair of the page that they lie in, with
+ * the log; with a root that is no key; with a second bin that has no header. */
+static void write_left(void)
+{
+    static const uint32_t pages[] = {0, 1};
+    Made m = made(8192, 5);
+    m.root = new_key(&m, "R", 0);
+    uint32_t key = new_key(&m, "gone", m.root), next = new_key(&m, "\x1b[2J", m.root), value = new_value(&m, "", 1, (const uint8_t *)"x\0y", 4);
+    uint32_t kept = new_value(&m, "kept", 3, (const uint8_t *)"x", 1);
+    hang_values(&m, m.root, &kept, 1);
+    uint32_t wide = new_key(&m, "llllll", m.root), at = new_value(&m, "@", 4, (const uint8_t *)"x", 1), part = new_value(&m, "a\\b", 4, (const uint8_t *)"x", 1);
+    new_value(&m, "not freed", 4, (const uint8_t *)"x", 1);
+    uint32_t half = new_value(&m, "ffff", 4, (const uint8_t *)"x", 1);
+    rename_key(&m, wide, "\x2e\x20x\0\x28\x20", 6);
+    rename_value(&m, half, "\xe9\0\x3d\xd8", 4);
+    finish(&m);
+    put32(m.file + 4096 + 8, 4096);
+    put32(m.file + 4096 + m.next, 4096 - m.next);
+    memcpy(m.file + 8192, m.file + 4096, 32);
+    put32(m.file + 8192 + 4, 4096);
+    put32(m.file + 8192 + 32, 4096 - 32);
+    for (int i = 0; i < 5; i++)
+        forget(&m, (uint32_t[]){key, wide, at, part, half}[i]);
+    put32(m.file + 4096 + key, value + 24 - key); /* the first grew over the two behind it */
+    forget(&m, next);
+    size_t n = made_length(&m);
+    write_file("left", m.file, n);
+    Log log = made_log(&m, pages, 2);
+    write_file("left-log", log.at, log.length);
+    write_file("left-torn", spoilt(&m, pages, 2), n);
+    data_of(&m, m.root)[0] = 'x';
+    write_file("left-no-root", m.file, n);
+    m.file[8192] = 'x';
+    write_file("left-no-bin", m.file, n);
+}
+
+/* So many values without a name, one behind the other in one free cell. */
+static void write_left_many(const char *name, uint32_t count)
+{
+    Made m = made(32 * 4096, 5);
+    m.root = new_key(&m, "R", 0);
+    finish(&m);
+    for (uint32_t i = 0; i < count; i++)
+        memcpy(data_of(&m, m.next + 24 * i), "vk", 2);
+    write_file(name, m.file, made_length(&m));
+}
+
 int main(int count, char **words)
 {
     static const uint32_t pages[] = {0, 3, 4, 17, 30, 31, 64, 127};
@@ -249,6 +302,9 @@ int main(int count, char **words)
     write_letters();
     write_longest();
     write_chain();
+    write_left();
+    write_left_many("left-4096", 4096);
+    write_left_many("left-4097", 4097);
     good.file[4096 + good.root + 4] = 'x';
     write_file("no-root", good.file, n);
     return 0;

@@ -1,12 +1,12 @@
 /* orders <STREAM: the frames of the test program answered by the C face. A refusal's line says the key under examination too, and lines that start
-   with a space say what the other calls answer. tools/compare --keys compares them with the model. */
+   with a space say what the other calls answer, and what deletion left. tools/compare --keys compares them with the model. */
 #include <stdio.h>
 #include <string.h>
 #include <unistd.h>
 
 #include "../../include/kiweamotu.h"
 
-enum { LONGEST = 20480, HIVE = 1, LOG = 2, PATH = 3, MEMBERS = 4, ROOM = 3 };
+enum { LONGEST = 20480, HIVE = 1, LOG = 2, PATH = 3, MEMBERS = 4, ROOM = 3, ROWS = 3 };
 static uint8_t hive[LONGEST], payload[LONGEST];
 static size_t hive_length;
 
@@ -41,6 +41,33 @@ static void members(const char *kind, HiveMember (*nth)(const uint8_t *, size_t,
     }
 }
 
+static void say_left(const char *before, HiveRemnant x)
+{
+    if (x.state == HIVE_REFUSED)
+        say(before, x.answer);
+    else if (x.state == HIVE_NO_MORE)
+        printf("%sno more\n", before);
+    else
+        printf("%s%s at %u name %llu length %llu narrow %llu\n", before, x.kind == HIVE_OLD_KEY ? "key" : "value", x.answer.value, (unsigned long long)x.name,
+               (unsigned long long)x.length, (unsigned long long)x.narrow);
+}
+
+/* What deletion left: step by step, from the middle of the file, and by a few rows at a time. */
+static void left(size_t length)
+{
+    uint32_t rows[4 * ROWS + 2];
+    HiveRows r;
+    HiveRemnant x = {.state = HIVE_THERE};
+    for (size_t from = 0; x.state == HIVE_THERE; from = x.answer.value + 1)
+        say_left(" left: ", x = hive_next_remnant(hive, length, from));
+    say_left(" half: ", hive_next_remnant(hive, length, length / 2));
+    for (size_t from = 0; (r = hive_remnants(hive, length, from, rows, sizeof rows / sizeof rows[0])).state == HIVE_THERE; from = rows[4 * r.rows - 4] + 1)
+        for (size_t i = 0; i < r.rows; i++)
+            printf(" row: %u %u %u %u\n", rows[4 * i], rows[4 * i + 1], rows[4 * i + 2], rows[4 * i + 3]);
+    if (r.state == HIVE_REFUSED)
+        say(" row: ", r.answer);
+}
+
 static void on_hive(size_t length)
 {
     static uint8_t map[LONGEST / 64];
@@ -52,6 +79,7 @@ static void on_hive(size_t length)
     else
         printf("accepted bins %llu keys %llu values %llu used %llu free %llu\n", (unsigned long long)r.bins, (unsigned long long)r.keys,
                (unsigned long long)r.values, (unsigned long long)r.used, (unsigned long long)r.free);
+    left(length);
     uint32_t root = length < 40 ? 0 : hive[36] | hive[37] << 8 | hive[38] << 16 | (uint32_t)hive[39] << 24;
     members(" subkey: ", hive_nth_subkey, root);
     members(" value: ", hive_nth_value, root);

@@ -173,6 +173,33 @@ def damaged():
 
 
 @test
+def left():
+    """what deletion left is the tool's, also where the tree is broken and where one call has no room for all"""
+    for file, count in (("left", 7), ("left-no-root", 7), ("minimal", 0), ("left-4096", 4096), ("left-4097", 4097)):
+        lines = [json.loads(line) for line in asked("deleted", "--json", file).splitlines()]
+        found = list(Hive(file).deleted())
+        expect((len(found), [(d.kind, d.offset, d.length) for d in found]), (count, [(x["answer"], x["at"], x["length"]) for x in lines]))
+        expect([d.name for d in found if "\ud83d" not in d.name], [x["name"] for x in lines if "replaced" not in x])
+    expect([d.name for d in Hive("left").deleted()][-1], "\xe9\ud83d")
+    expect(refusal(lambda: list(Hive("left-no-bin").deleted())), (9, 4096, None))
+    expect(refusal(lambda: list(Hive("left-torn").deleted())), (7, None, None))
+    expect(list(Hive("left-torn", log="left-log").deleted()), list(Hive("left").deleted()))
+
+
+@test
+def left_at_random():
+    """what deletion left agrees with the plain reading of the request"""
+    for seed in range(100):
+        dice, file = random.Random(seed), bytearray(hives.Builder(hives.Key("root", [hives.Key("a")])).hive)
+        (cell, end), = hives.free_cells(file[4096:])
+        for at in sorted(dice.sample(range(cell, end - 600, 8), 12)):
+            raw = bytes(dice.choice(b"ab\\\0\0\xe9") for _ in range(dice.choice((0, 1, 2, 4, 6, 255, 256, 512))))
+            record = dice.choice((hives.key_record, hives.value_record))(raw, dice.random() < 0.5, dice.choice((0, 255)))
+            file[4096 + at + 4:4096 + at + 4 + len(record)] = record
+        expect([(d.offset, d.kind, d.length) for d in Hive(file).deleted()], [(x[0], {1: "key", 2: "value"}[x[1]], x[2]) for x in hives.remnants(file)])
+
+
+@test
 def lending():
     """memory is lent and not copied"""
     data = bytes_of("sample")

@@ -44,8 +44,8 @@ try 'explain' 0 "17: there is no such key. Letters a to z, and the accented lett
 try 'explain: the order' 0 "13: a key stands out of order, or its hash is wrong. Subkeys stand in the order of their names with a to z, and the accented letters of Western Europe, as capitals, none twice; an lh list holds each name's hash. Windows may not find this key." '' hive explain 13
 try 'explain: the checksum' 0 "3: the checksum of the base block is wrong. The word at byte 508 is not the XOR of the 127 words before it, with 0 stored as 1 and 0xFFFFFFFF as 0xFFFFFFFE: the first sector was changed or half written. A log may repair it." '' hive explain 3
 try 'explain: no number' 2 '' 'from 1 to 27' hive explain 28
-try 'usage: nothing' 2 '' 'a verb is wanted: check, key, ls, value, repair or explain; see: hive --help' hive
-try 'usage: no verb' 2 '' '"chekc" is none of check, key, ls, value, repair and explain; see: hive --help' hive chekc a
+try 'usage: nothing' 2 '' 'a verb is wanted: check, key, ls, value, deleted, repair or explain; see: hive --help' hive
+try 'usage: no verb' 2 '' '"chekc" is none of check, key, ls, value, deleted, repair and explain; see: hive --help' hive chekc a
 try 'usage: a word too few' 2 '' 'key wants FILE PATH, and a word is missing; see: hive --help' hive key sample
 try 'usage: a word too many' 2 '' 'key wants FILE PATH, and "b" is a word too many; see: hive --help' hive key sample a b
 try 'usage: an unknown option' 2 '' 'repair: --fast is no option' hive repair --fast spoilt log

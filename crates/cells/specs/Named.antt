@@ -54,6 +54,10 @@ dataOf d c = take (c .len) (drop (c .at .0 + 4) d)
 unfoldable pub dataAt : List ℕ → Offset → List ℕ
 dataAt d o = dataOf d (cellAt d o)
 
+-- what would be the data of a cell that starts at an offset and ends at another
+abbrev pub dataTo : List ℕ → ℕ → ℕ → List ℕ
+dataTo d o end = take (end - (o + 4)) (drop (o + 4) d)
+
 -- the bytes of such a part
 abbrev pub partIn : List ℕ → Offset → ℕ → ℕ → List ℕ
 partIn d o at len = take len (drop at (dataAt d o))

@@ -13,7 +13,7 @@ ghost use Rattle.fields.specs.Number.{u32At};
 ghost use Rattle.cells.specs.Tiling.{goodSize, tiling, rowOf, binSize, layout, surveyOf};
 ghost use Rattle.cells.specs.Steps.{Bin, Pages, Data, lengthNamed, lengthBy, Inside, PartIn};
 ghost use Rattle.cells.specs.Map.{markAt, marks, marksAll, zeros, isMarked, mapAfter};
-ghost use Rattle.cells.specs.Named.{cellOf, dataOf, dataAt, partIn, partPlace};
+ghost use Rattle.cells.specs.Named.{cellOf, dataOf, dataAt, dataTo, partIn, partPlace};
 ghost use Rattle.cells.specs.Survey.{frontFault, surveyAnswer, mapLeft};
 
 // "the absolute value is a nonzero multiple of 8 and stays inside the bin", of which room bytes are left.
@@ -308,6 +308,16 @@ pub fn cell_data(bins: &[u8], c: Cell) -> &[u8]
 {
     let start = c.at.0 as usize + SIZE_FIELD;
     let end = start + c.len;
+    &bins[start..end]
+}
+
+// What would be the data of a cell that starts at an offset and ends at another.
+pub fn data_to(bins: &[u8], at: usize, end: usize) -> &[u8]
+    requires { ⌜ at + 4 ≤ end ⌝ }
+    requires { ⌜ end ≤ length (now bins) ⌝ }
+    ensures { λ r. ⌜ now r ≡ dataTo (now (bins .entry)) at end ⌝ }
+{
+    let start = at + SIZE_FIELD;
     &bins[start..end]
 }
 

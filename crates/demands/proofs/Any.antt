@@ -19,7 +19,9 @@ use Rattle.recovery.specs.declared.Stepped.the-variants as stepped
 use Rattle.recovery.specs.Calls.{pageAnswer, pageHive, closeAnswer, closeHive}
 use Rattle.recovery.proofs.Refusals.{start-refuses, page-refuses, close-refuses, next-refuses, all-refuses, mark-refuses}
 use Rattle.recovery.specs.AtOnce.{allAnswer, allHive}
+use Rattle.remnants.proofs.Refusals.{next-refuses as remnant-refuses, rows-refuse, rows-stay}
 use Rattle.demands.specs.First.{Demand1}
+use Rattle.demands.proofs.As_check.{refuses-as-check}
 
 listed : (f : Fault) → (1 ≤ numberOf f) × (numberOf f ≤ 27)
 listed named.HiveShort = (omega arith, omega arith)
@@ -80,6 +82,9 @@ demand1 =
       at-place = λ h v r e. at-refuses h v e;
       copy-at-place = λ h v n r e. copy-at-refuses h v n e;
       facts-place = λ h o r e. facts-refuses h o e;
+      remnant-place = λ h from r e. remnant-refuses h from e;
+      rows-place = λ h from n r e. rows-refuse h from n e;
+      refuses-as-check = refuses-as-check;
       start-place = λ h l r e. start-refuses h l e;
       page-place = λ h l p r e. page-refuses h l p e;
       close-place = λ h l r e. close-refuses h l e;
@@ -88,6 +93,7 @@ demand1 =
       mark-place = λ l from r e. mark-refuses l from e;
       copy-stays = λ h us x out r e. refused-untouched h us x out e;
       copy-at-stays = λ h v out r e. copy-at-stays h v out e;
+      rows-stay = λ h from rows r e. rows-stay h from rows e;
       page-stays = page-stays;
       close-stays = close-stays;
       all-stays = all-stays;

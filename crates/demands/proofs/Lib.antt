@@ -1,3 +1,4 @@
+pub mod As_check
 pub mod Any
 pub mod Exactly
 pub mod Power

@@ -29,6 +29,7 @@ use Rattle.recovery.specs.declared.Started.the-variants as started
 use Rattle.recovery.specs.Calls.{startAnswer}
 use Rattle.crash.proofs.Demand3.{until, running, finishes, landed}
 use Rattle.crash.proofs.Barrier.{barrier}
+use Rattle.remnants.proofs.Refusals.{base-stops, next-stops, rows-stop}
 use Rattle.demands.specs.Third.{Unread, Demand3}
 
 -- ---- a file that the tests 1 to 7 refuse is refused by every call of the reader
@@ -95,6 +96,8 @@ module _ (d : List ℕ) (f : Flaw) (e : baseFault d ≡ Flawed f) where
         info-at = at;
         copy-at = λ v out. (copy-at v out, copy-stays d v out (copy-at v out));
         key-facts = key-facts;
+        next-remnant = next-stops d (base-stops d e);
+        remnants = rows-stop d (base-stops d e);
       }
 
 pub demand3 : (h l : List ℕ) (n : ℕ) → startAnswer h l ≡ started.Pages n → Bytes l → Demand3 h l n

@@ -2,10 +2,11 @@
 --
 -- Every public call's contract is an equation, for all lists of bytes and with no condition on them: what it answers is `checkAnswer h m`, `findAnswer h us`,
 -- `infoAnswer h us x`, `viewAnswer h us x`, `copyAnswer h us x n`, `subkeyAnswer h o n`, `valueAnswer h o n`, `infoAt h v`, `copyAt h v n`, `factsAnswer h o`,
--- `startAnswer h l`, `pageAnswer h l p`, `closeAnswer h l`, `nextAnswer l from`, `allAnswer h l` and `markAnswer l from`. These are total functions, so there is an
--- answer. What is left to say is what a refusal is.
-use Prim.Native.Nat.{ℕ, _≤_}
+-- `remnantAnswer h from`, `rowsAnswer h from n`, `startAnswer h l`, `pageAnswer h l p`, `closeAnswer h l`, `nextAnswer l from`, `allAnswer h l` and
+-- `markAnswer l from`. These are total functions, so there is an answer. What is left to say is what a refusal is.
+use Prim.Native.Nat.{ℕ, _/_, _≤_}
 use mathlib.Core.Path.{_≡_}
+use mathlib.Core.Logic.{_↔_}
 use mathlib.Core.List.{List}
 use lib.ListN.{length, take, drop, replicate}
 use Rattle.fields.specs.declared.Fault.{Fault}
@@ -13,7 +14,7 @@ use Rattle.fields.specs.declared.Flaw.{Flaw}
 use Rattle.fields.specs.declared.Offset.{Offset}
 use Rattle.fields.specs.declared.Refusal.{Refusal}
 use Rattle.fields.specs.Faults.{numberOf, Because, Keyless}
-use Rattle.base.specs.Block.{binsData}
+use Rattle.base.specs.Block.{sector, binsOf, binsData}
 use Rattle.cells.specs.declared.Surveyed.the-variants.{Refused as Untiled}
 use Rattle.cells.specs.Survey.{surveyAnswer, mapLeft}
 use Rattle.cells.specs.Tiled.{Mapped}
@@ -33,6 +34,10 @@ use Rattle.listing.specs.declared.KeyFacts.the-variants as facts
 use Rattle.listing.specs.declared.Member.the-variants as member
 use Rattle.listing.specs.Members.{subkeyAnswer, valueAnswer, infoAt, copyAt, outAt, factsAnswer}
 use Rattle.listing.specs.Refused.{OfSubkey, OfNth, OfInfo, OfCopied, OfFacts}
+use Rattle.remnants.specs.declared.Filled.the-variants as filled
+use Rattle.remnants.specs.declared.Remnant.the-variants as remnant
+use Rattle.remnants.specs.Remnants.{remnantAnswer, rowsAnswer, rowsOut}
+use Rattle.remnants.specs.Refused.{OfTiles, OfRows}
 use Rattle.recovery.specs.declared.NextPage.the-variants as next
 use Rattle.recovery.specs.declared.Started.the-variants as started
 use Rattle.recovery.specs.declared.Stepped.the-variants as stepped
@@ -59,6 +64,11 @@ pub record Demand1 : Type 0 where
   pub at-place : (h : List ℕ) (v : Offset) (r : Refusal) → infoAt h v ≡ value.Refused r → Keyless (OfInfo h v) r
   pub copy-at-place : (h : List ℕ) (v : Offset) (n : ℕ) (r : Refusal) → copyAt h v n ≡ copied.Refused r → Keyless (OfCopied h v n) r
   pub facts-place : (h : List ℕ) (o : Offset) (r : Refusal) → factsAnswer h o ≡ facts.Refused r → Keyless (OfFacts h o) r
+  pub remnant-place : (h : List ℕ) (from : ℕ) (r : Refusal) → remnantAnswer h from ≡ remnant.Refused r → Keyless (OfTiles h) r
+  pub rows-place : (h : List ℕ) (from n : ℕ) (r : Refusal) → rowsAnswer h from n ≡ filled.Refused r → Keyless (OfRows h from n) r
+  -- "1 to 7, 9 and 10 apply": with a map that is large enough, exactly as the check refuses, with the same number and place
+  pub refuses-as-check : (h m : List ℕ) (from : ℕ) → binsOf (sector h) / 64 ≤ length m → (r : Refusal)
+      → (remnantAnswer h from ≡ remnant.Refused r) ↔ ((checkAnswer h m ≡ checked.Refused r) × (numberOf (r .fault) ≤ 10))
   pub start-place : (h l : List ℕ) (r : Refusal) → startAnswer h l ≡ started.Refused r → Keyless (OfStart h l) r
   pub page-place : (h l : List ℕ) (p : ℕ) (r : Refusal) → pageAnswer h l p ≡ stepped.Refused r → Keyless (OfPage h l p) r
   pub close-place : (h l : List ℕ) (r : Refusal) → closeAnswer h l ≡ stepped.Refused r → Keyless (OfClose h l) r
@@ -68,6 +78,7 @@ pub record Demand1 : Type 0 where
   -- "It changes no byte of hive or output"
   pub copy-stays : (h us x out : List ℕ) (r : Refusal) → copyAnswer h us x (length out) ≡ copied.Refused r → copyOut h us x out ≡ out
   pub copy-at-stays : (h : List ℕ) (v : Offset) (out : List ℕ) (r : Refusal) → copyAt h v (length out) ≡ copied.Refused r → outAt h v out ≡ out
+  pub rows-stay : (h : List ℕ) (from : ℕ) (rows : List ℕ) (r : Refusal) → rowsAnswer h from (length rows) ≡ filled.Refused r → rowsOut h from rows ≡ rows
   pub page-stays : (h l : List ℕ) (p : ℕ) (r : Refusal) → pageAnswer h l p ≡ stepped.Refused r → pageHive h l p ≡ h
   pub close-stays : (h l : List ℕ) (r : Refusal) → closeAnswer h l ≡ stepped.Refused r → closeHive h l ≡ h
   pub all-stays : (h l : List ℕ) (r : Refusal) → allAnswer h l ≡ stepped.Refused r → allHive h l ≡ h

@@ -16,6 +16,9 @@ use Rattle.lookup.specs.Answers.{infoAnswer, viewAnswer, viewStart, viewBytes, 
 use Rattle.listing.specs.declared.KeyFacts.{KeyFacts}
 use Rattle.listing.specs.declared.Member.{Member}
 use Rattle.listing.specs.Members.{subkeyAnswer, valueAnswer, infoAt, copyAt, outAt, factsAnswer}
+use Rattle.remnants.specs.declared.Filled.{Filled}
+use Rattle.remnants.specs.declared.Remnant.{Remnant}
+use Rattle.remnants.specs.Remnants.{remnantAnswer, rowsAnswer, rowsOut}
 use Rattle.recovery.specs.declared.Started.{Started}
 use Rattle.recovery.specs.declared.Stepped.{Stepped}
 use Rattle.recovery.specs.declared.NextPage.{NextPage}
@@ -41,6 +44,9 @@ Views h us x hive s part = (s ≡ viewBytes h us x) × (part ≡ (hive .0, viewS
 abbrev pub CopiesAt : List ℕ → Offset → List ℕ → Copied → List ℕ → Type 0
 CopiesAt h v out r after = (r ≡ copyAt h v (length out)) × (after ≡ outAt h v out)
 
+abbrev pub Rows : List ℕ → ℕ → List ℕ → Filled → List ℕ → Type 0
+Rows h from rows r after = (r ≡ rowsAnswer h from (length rows)) × (after ≡ rowsOut h from rows)
+
 abbrev pub Pages : List ℕ → List ℕ → ℕ → Stepped → List ℕ → Type 0
 Pages h l p r after = (r ≡ pageAnswer h l p) × (after ≡ pageHive h l p)
 
@@ -62,6 +68,8 @@ pub record Unique : Type 0 where
   pub info-at : (h : List ℕ) (v : Offset) (r r′ : ValueFound) → r ≡ infoAt h v → r′ ≡ infoAt h v → r ≡ r′
   pub copy-at : (h : List ℕ) (v : Offset) (out : List ℕ) → Determines (CopiesAt h v out)
   pub key-facts : (h : List ℕ) (o : Offset) (r r′ : KeyFacts) → r ≡ factsAnswer h o → r′ ≡ factsAnswer h o → r ≡ r′
+  pub next-remnant : (h : List ℕ) (from : ℕ) (r r′ : Remnant) → r ≡ remnantAnswer h from → r′ ≡ remnantAnswer h from → r ≡ r′
+  pub remnants : (h : List ℕ) (from : ℕ) (rows : List ℕ) → Determines (Rows h from rows)
   pub start : (h l : List ℕ) (r r′ : Started) → r ≡ startAnswer h l → r′ ≡ startAnswer h l → r ≡ r′
   pub page : (h l : List ℕ) (p : ℕ) → Determines (Pages h l p)
   pub close : (h l : List ℕ) → Determines (Closes h l)

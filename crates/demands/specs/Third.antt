@@ -21,6 +21,9 @@ use Rattle.lookup.specs.Answers.{infoAnswer, viewAnswer, viewBytes, copyAnswer,
 use Rattle.listing.specs.declared.KeyFacts.the-variants as facts
 use Rattle.listing.specs.declared.Member.the-variants as member
 use Rattle.listing.specs.Members.{subkeyAnswer, valueAnswer, infoAt, copyAt, outAt, factsAnswer}
+use Rattle.remnants.specs.declared.Filled.the-variants as filled
+use Rattle.remnants.specs.declared.Remnant.the-variants as remnant
+use Rattle.remnants.specs.Remnants.{remnantAnswer, rowsAnswer, rowsOut}
 use Rattle.logs.specs.Logs.{isLogged}
 use Rattle.recovery.specs.Calls.{closeHive}
 use Rattle.recovery.specs.Finished.{finished, afterPages, Covers}
@@ -40,6 +43,8 @@ pub record Unread (d : List ℕ) (r : Refusal) : Type 0 where
   pub info-at : (v : Offset) → infoAt d v ≡ value.Refused r
   pub copy-at : (v : Offset) (out : List ℕ) → (copyAt d v (length out) ≡ copied.Refused r) × (outAt d v out ≡ out)
   pub key-facts : (o : Offset) → factsAnswer d o ≡ facts.Refused r
+  pub next-remnant : (from : ℕ) → remnantAnswer d from ≡ remnant.Refused r
+  pub remnants : (from : ℕ) (rows : List ℕ) → (rowsAnswer d from (length rows) ≡ filled.Refused r) × (rowsOut d from rows ≡ rows)
 
 pub record Demand3 (h l : List ℕ) (n : ℕ) : Type 0 where
   -- "Until the closing sector lands, the same log is still accepted, [..] and the closing call succeeds exactly when every logged page is in."

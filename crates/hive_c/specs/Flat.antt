@@ -26,12 +26,19 @@ use Rattle.recovery.specs.declared.NextPage.{NextPage}
 use Rattle.recovery.specs.declared.NextPage.the-variants as page
 use Rattle.recovery.specs.declared.NextMark.{NextMark}
 use Rattle.recovery.specs.declared.NextMark.the-variants as mark
+use Rattle.remnants.specs.declared.Remnant.{Remnant}
+use Rattle.remnants.specs.declared.Remnant.the-variants as remnant
+use Rattle.remnants.specs.declared.Filled.{Filled}
+use Rattle.remnants.specs.declared.Filled.the-variants as filled
+use Rattle.remnants.specs.Remnants.{kindWord}
 use Rattle.hive_c.specs.declared.HiveAnswer.{HiveAnswer}
 use Rattle.hive_c.specs.declared.HiveReport.{HiveReport}
 use Rattle.hive_c.specs.declared.HiveValue.{HiveValue}
 use Rattle.hive_c.specs.declared.HiveCopy.{HiveCopy}
 use Rattle.hive_c.specs.declared.HiveKey.{HiveKey}
 use Rattle.hive_c.specs.declared.HiveMember.{HiveMember}
+use Rattle.hive_c.specs.declared.HiveRemnant.{HiveRemnant}
+use Rattle.hive_c.specs.declared.HiveRows.{HiveRows}
 use Rattle.hive_c.specs.declared.HiveRecovery.{HiveRecovery}
 use Rattle.hive_c.specs.declared.HivePage.{HivePage}
 use Rattle.hive_c.specs.declared.HiveMark.{HiveMark}
@@ -99,6 +106,24 @@ factsIn (facts.At k) =
     let e = k .entry in
     keyWith (granted (e .at .0)) (k .stamp) (k .parent .0) (k .subkeys) (k .values) (e .name .0) (e .len) (narrowIn (e .narrow))
 factsIn (facts.Refused f) = keyWith (refused f) 0 0 0 0 0 0 0
+
+abbrev pub remnantWith : HiveAnswer → ℕ → ℕ → ℕ → ℕ → ℕ → HiveRemnant
+remnantWith a s k name len narrow = record { answer = a; state = s; kind = k; name = name; length = len; narrow = narrow }
+
+-- state 0: refused; 1: done; 2: found. Kind 1: a key; 2: a value
+abbrev pub remnantIn : Remnant → HiveRemnant
+remnantIn (remnant.Refused f) = remnantWith (refused f) 0 0 0 0 0
+remnantIn remnant.Done = remnantWith (granted 0) 1 0 0 0 0
+remnantIn (remnant.At x) = remnantWith (granted (x .at .0)) 2 (kindWord (x .kind)) (x .name .0) (x .len) (narrowIn (x .narrow))
+
+abbrev pub rowsWith : HiveAnswer → ℕ → ℕ → HiveRows
+rowsWith a s n = record { answer = a; state = s; rows = n }
+
+-- state 0: refused; 1: done; 2: rows
+abbrev pub rowsIn : Filled → HiveRows
+rowsIn (filled.Refused f) = rowsWith (refused f) 0 0
+rowsIn filled.Done = rowsWith (granted 0) 1 0
+rowsIn (filled.With n) = rowsWith (granted 0) 2 n
 
 abbrev pub recoveryWith : HiveAnswer → ℕ → ℕ → HiveRecovery
 recoveryWith a s n = record { answer = a; state = s; pages = n }

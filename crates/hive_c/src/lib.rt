@@ -32,6 +32,10 @@ use recovery::NextMark;
 use recovery::NextPage;
 use recovery::Started;
 use recovery::Stepped;
+use remnants::Filled;
+use remnants::Kind;
+use remnants::Remain;
+use remnants::Remnant;
 use tree::Checked;
 use values::ValueData;
 ghost use mathlib.Core.Path.{_≡_};
@@ -43,7 +47,8 @@ ghost use Rattle.lookup.specs.Answers.{infoAnswer, viewAnswer, copyAnswer, copy
 ghost use Rattle.listing.specs.Members.{subkeyAnswer, valueAnswer, infoAt, copyAt, outAt, factsAnswer};
 ghost use Rattle.recovery.specs.Calls.{startAnswer, pageAnswer, pageHive, closeAnswer, closeHive, nextAnswer};
 ghost use Rattle.recovery.specs.AtOnce.{allAnswer, allHive, markAnswer};
-ghost use Rattle.hive_c.specs.Flat.{granted as grantedOf, refused as refusedOf, reportIn, keyIn, formOf, valueIn, copyIn, narrowIn, memberIn, factsIn, startIn, stepIn, pageIn, markIn};
+ghost use Rattle.remnants.specs.Remnants.{kindWord, remnantAnswer, rowsAnswer, rowsOut};
+ghost use Rattle.hive_c.specs.Flat.{remnantIn, rowsIn, granted as grantedOf, refused as refusedOf, reportIn, keyIn, formOf, valueIn, copyIn, narrowIn, memberIn, factsIn, startIn, stepIn, pageIn, markIn};
 
 // The states: of an answer that goes on or ends, and of a step of the repair.
 const REFUSED: u64 = 0;
@@ -63,12 +68,17 @@ const ONE_CELL: u32 = 2;
 
 const SEGMENTS: u32 = 3;
 
+// The kinds of a record that deletion left.
+const OLD_KEY: u64 = 1;
+
+const OLD_VALUE: u64 = 2;
+
 // No key is named: no cell lies there.
 const NO_KEY: u32 = 0xffff_ffff;
 
 // Part of every answer. number: 0, or the refusal's number. place: the refusal's place. key: the refusal's key, else
-// HIVE_NO_KEY. value: the offset of the key or value that hive_find_key, hive_nth_subkey, hive_nth_value or hive_key_at
-// found, else 0.
+// HIVE_NO_KEY. value: the offset of the key or value that hive_find_key, hive_nth_subkey, hive_nth_value, hive_key_at or
+// hive_next_remnant found, else 0.
 // Where number is not 0, every other field of the answer but place and key is 0.
 #[repr(C)]
 pub struct HiveAnswer {
@@ -133,6 +143,27 @@ pub struct HiveKey {
     pub name: u64,
     pub length: u64,
     pub narrow: u64,
+}
+
+// A key or value record that deletion left in a free cell. state: HIVE_REFUSED, HIVE_NO_MORE or HIVE_THERE; then answer.value is
+// its offset, that of the size field of the cell that it once had: the record starts 4 bytes further on. kind: HIVE_OLD_KEY or
+// HIVE_OLD_VALUE. name, length, narrow: as of a HiveMember. Nothing else of the record was judged.
+#[repr(C)]
+pub struct HiveRemnant {
+    pub answer: HiveAnswer,
+    pub state: u64,
+    pub kind: u64,
+    pub name: u64,
+    pub length: u64,
+    pub narrow: u64,
+}
+
+// state: HIVE_REFUSED, HIVE_NO_MORE, or HIVE_THERE where rows were written; rows: how many.
+#[repr(C)]
+pub struct HiveRows {
+    pub answer: HiveAnswer,
+    pub state: u64,
+    pub rows: u64,
 }
 
 // An answer of recovery. state: HIVE_REFUSED; HIVE_CLEAN: nothing is to be done and nothing was changed; HIVE_DONE: accepted or done.
@@ -462,6 +493,100 @@ pub extern "C" fn hive_key_at(hive: &[u8], key: u32) -> HiveKey
     ensures { λ r. ⌜ r ≡ factsIn (factsAnswer (now (hive .entry)) (record { 0 = key })) ⌝ }
 {
     key_told(listing::key_facts(hive, Offset(key)))
+}
+
+fn kind_of(k: Kind) -> u64
+    ensures { λ r. ⌜ r ≡ kindWord k ⌝ }
+{
+    match k {
+        Kind::Key => OLD_KEY,
+        Kind::Value => OLD_VALUE,
+        Kind::Neither => 0,
+    }
+}
+
+fn remain_facts(x: Remain) -> HiveRemnant
+    ensures { λ r. ⌜ r ≡ remnantIn (Remnant.At x) ⌝ }
+{
+    let kind = x.kind;
+    HiveRemnant {
+        answer: granted(x.at.0),
+        state: THERE,
+        kind: kind_of(kind),
+        name: x.name.0 as u64,
+        length: x.len as u64,
+        narrow: narrow_of(x.narrow),
+    }
+}
+
+fn remnant(n: Remnant) -> HiveRemnant
+    ensures { λ r. ⌜ r ≡ remnantIn n ⌝ }
+{
+    match n {
+        Remnant::At(x) => remain_facts(x),
+        Remnant::Done => HiveRemnant {
+            answer: granted(0),
+            state: NO_MORE,
+            kind: 0,
+            name: 0,
+            length: 0,
+            narrow: 0,
+        },
+        Remnant::Refused(f) => HiveRemnant {
+            answer: refused(f),
+            state: REFUSED,
+            kind: 0,
+            name: 0,
+            length: 0,
+            narrow: 0,
+        },
+    }
+}
+
+// The first record that deletion left in a free cell, at or past an offset in the bins data: at a multiple of 8 inside the cell
+// (its start counts), with "nk" or "vk" 4 bytes further on, ending inside the cell, with an admissible name. Start with 0, and go
+// on with its offset + 1 until HIVE_NO_MORE. The tree is not walked, so it may be broken. Refuses 1 to 7, 9 and 10, and tests all
+// bins and cells each time: hive_remnants does it once for many.
+#[no_mangle]
+pub extern "C" fn hive_next_remnant(hive: &[u8], from: usize) -> HiveRemnant
+    ensures { λ r. ⌜ r ≡ remnantIn (remnantAnswer (now (hive .entry)) from) ⌝ }
+{
+    remnant(remnants::next(hive, from))
+}
+
+fn filled(f: Filled) -> HiveRows
+    ensures { λ r. ⌜ r ≡ rowsIn f ⌝ }
+{
+    match f {
+        Filled::With(n) => HiveRows {
+            answer: granted(0),
+            state: THERE,
+            rows: n as u64,
+        },
+        Filled::Done => HiveRows {
+            answer: granted(0),
+            state: NO_MORE,
+            rows: 0,
+        },
+        Filled::Refused(f) => HiveRows {
+            answer: refused(f),
+            state: REFUSED,
+            rows: 0,
+        },
+    }
+}
+
+// All that hive_next_remnant would find from an offset on, in one pass: four words for each, its offset, HIVE_OLD_KEY or
+// HIVE_OLD_VALUE, the length of its name in bytes, 1 where a byte is a character or 0 in UTF-16LE; as many whole rows as there is
+// room for. The name stands at 4096 + offset + 80 of the file for a key, + 24 for a value. With as many rows as there was room for,
+// go on with the last offset + 1. Refuses 1 to 7, 9 and 10, then 20 where one is left and `rows` has fewer than four words. The
+// words behind the last row stay; a refusal and HIVE_NO_MORE leave all of them.
+#[no_mangle]
+pub extern "C" fn hive_remnants(hive: &[u8], from: usize, rows: &mut [u32]) -> HiveRows
+    ensures { λ r. ⌜ r ≡ rowsIn (rowsAnswer (now (hive .entry)) from (length (now (rows .entry)))) ⌝ }
+    ensures { λ _. ⌜ now (rows .exit) ≡ rowsOut (now (hive .entry)) from (now (rows .entry)) ⌝ }
+{
+    filled(remnants::rows(hive, from, rows))
 }
 
 fn started(s: Started) -> HiveRecovery

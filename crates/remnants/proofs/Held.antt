@@ -1,0 +1,78 @@
+-- What a position holds, and the fields that are read of it.
+use Prim.Native.Nat.{ℕ, _≤_}
+use native.Mathlib.Omega.{arith}
+use mathlib.Core.Path.{_≡_, refl}
+use mathlib.Core.Bool.{Bool, true, false, cond}
+use mathlib.Core.List.{List, []}
+use lib.ListN.{length}
+use Rattle.records.specs.Keys.{isKey}
+use Rattle.records.proofs.LawsKey.{is-key-facts}
+use Rattle.values.specs.Records.{isOldValue}
+use Rattle.values.proofs.Tests.{old}
+use Rattle.remnants.specs.declared.Kind.{Kind}
+use Rattle.remnants.specs.declared.Kind.the-variants as kind
+use Rattle.remnants.specs.declared.Remain.{Remain}
+use Rattle.remnants.specs.Remnants.{restOf, kindOf, kindAt, remainOf, remainAt, spot}
+use Rattle.remnants.specs.Steps.{isSome}
+
+module _ (r : List ℕ) where
+  pub a-key : isKey r ≡ true → kindOf r ≡ kind.Key
+  unfolding kindOf
+  a-key e = rw e
+
+  pub a-value : isKey r ≡ false → isOldValue r ≡ true → kindOf r ≡ kind.Value
+  unfolding kindOf
+  a-value e f = rw (e, f)
+
+  pub no-kind : isKey r ≡ false → isOldValue r ≡ false → kindOf r ≡ kind.Neither
+  unfolding kindOf
+  no-kind e f = rw (e, f)
+
+  pub key-is : kindOf r ≡ kind.Key → isKey r ≡ true
+  unfolding kindOf
+  key-is = by (isKey r) refl (isOldValue r)
+    where
+      by : (t : Bool) → isKey r ≡ t → (v : Bool) → cond t kind.Key (cond v kind.Value kind.Neither) ≡ kind.Key → isKey r ≡ true
+      by true p v e = p
+      by false p true e = absurd (let z : _≡_ {A = ℕ} 0 1 = cc in omega arith)
+      by false p false e = absurd (let z : _≡_ {A = ℕ} 0 1 = cc in omega arith)
+
+  pub value-is : kindOf r ≡ kind.Value → isOldValue r ≡ true
+  unfolding kindOf
+  value-is = by (isKey r) (isOldValue r) refl
+    where
+      by : (t v : Bool) → isOldValue r ≡ v → cond t kind.Key (cond v kind.Value kind.Neither) ≡ kind.Value → isOldValue r ≡ true
+      by true v p e = absurd (let z : _≡_ {A = ℕ} 0 1 = cc in omega arith)
+      by false true p e = p
+      by false false p e = absurd (let z : _≡_ {A = ℕ} 0 1 = cc in omega arith)
+
+  pub key-long : kindOf r ≡ kind.Key → 76 ≤ length r
+  key-long e = let k = is-key-facts r (key-is e) in omega arith
+
+  pub value-long : kindOf r ≡ kind.Value → 20 ≤ length r
+  value-long e = old r (value-is e) .long
+
+module _ (d : List ℕ) (o end : ℕ) where
+  pub kind-of-rest : kindAt d o end ≡ kindOf (restOf d o end)
+  unfolding kindAt
+  kind-of-rest = refl
+
+  pub remain-of-rest : {k : Kind} → k ≡ kindAt d o end → remainOf k (restOf d o end) o ≡ remainAt d o end
+  unfolding remainAt
+  remain-of-rest e = rw e
+
+  offset-of : (k : Kind) (r : List ℕ) → remainOf k r o .at .0 ≡ o
+  unfolding remainOf
+  offset-of kind.Key r = refl
+  offset-of kind.Value r = refl
+  offset-of kind.Neither r = refl
+
+  -- a record is reported at its offset
+  pub remain-offset : remainAt d o end .at .0 ≡ o
+  unfolding remainAt
+  remain-offset = offset-of (kindAt d o end) (restOf d o end)
+
+pub spot-none : (k : Kind) (x : Remain) → isSome k ≡ false → spot k x ≡ []
+spot-none kind.Key x e = absurd (let z : _≡_ {A = ℕ} 0 1 = cc in omega arith)
+spot-none kind.Value x e = absurd (let z : _≡_ {A = ℕ} 0 1 = cc in omega arith)
+spot-none kind.Neither x e = refl

@@ -1,0 +1,11 @@
+pub mod Held
+pub mod Tests
+pub mod Spots
+pub mod Cells
+pub mod Seeks
+pub mod Stores
+pub mod Rising
+pub mod Walks
+pub mod Exact
+pub mod Apart
+pub mod Refusals

@@ -1,0 +1,57 @@
+use Prim.Native.Nat.{_-_}
+use native.Mathlib.Omega.{arith}
+use mathlib.Core.Path.{sym, ap, _∙_}
+use borrow.Author.Needs.{needs}
+use Rattle.remnants.specs.Steps.{isSome, Going}
+use Rattle.remnants.proofs.Spots.{going, going-on, hit, missed}
+use Rattle.remnants.proofs.find.Statement.{statement}
+use Rattle.remnants.proofs.find.Tie as tie
+
+abbrev Inv-loop : tie.InvT-loop
+Inv-loop bins at end from o₀ o = Going bins at end from o
+
+abbrev μ-loop : tie.MeasureT-loop
+μ-loop bins at end from o₀ o = end - o
+
+skip-requires : tie.Need-skip-requires Inv-loop μ-loop
+skip-requires c κs = search needs
+
+loop-holds : tie.Need-loop-holds Inv-loop μ-loop
+loop-holds c = going _ _ _ (c .before .before .pre) (c .skip .ensures)
+
+kind-at-requires : tie.Need-kind-at-requires Inv-loop μ-loop
+kind-at-requires c κs = let f = c .before .loop .inv .free in (omega (arith, f .eights, f .ends), f .inside)
+
+is-some-requires : tie.Need-is-some-requires Inv-loop μ-loop
+is-some-requires c κs = search needs
+
+returns : tie.Need-returns Inv-loop μ-loop
+returns c = hit _ _ _ (c .before .before .before .before .loop .inv) (c .before .before .before .loop-test .taken) (c .before .before .kind-at .ensures) (sym (c .before .is-some .ensures) ∙ c .if1 .taken)
+
+add-o : tie.Need-add-o Inv-loop μ-loop
+add-o c = let f = c .before .before .before .before .loop .inv .free in omega (arith, f .inside, f .small)
+
+loop-less : tie.Need-loop-less Inv-loop μ-loop
+loop-less c = omega arith
+
+loop-again : tie.Need-loop-again Inv-loop μ-loop
+loop-again c = going-on _ _ _ (c .before .before .before .before .loop .inv) (c .before .before .before .loop-test .taken) (ap isSome (sym (c .before .before .kind-at .ensures)) ∙ sym (c .before .is-some .ensures) ∙ c .if1 .left)
+
+returns-2 : tie.Need-returns-2 Inv-loop μ-loop
+returns-2 c = missed _ _ _ (c .before .loop .inv) (c .loop-test .left)
+
+pub find-spec : {M : Type 1} → statement M
+find-spec =
+    tie.close
+    (tie.spec
+    Inv-loop
+    μ-loop
+    skip-requires
+    loop-holds
+    kind-at-requires
+    is-some-requires
+    returns
+    add-o
+    loop-less
+    loop-again
+    returns-2)

@@ -1,0 +1,46 @@
+use mathlib.Core.Path.{sym, ap, _∙_}
+use Rattle.remnants.specs.declared.Remnant.the-variants.{Refused}
+use Rattle.remnants.specs.Remnants.{remnantAnswer}
+use Rattle.remnants.proofs.Tests.{base-sound, stands}
+use borrow.Author.Needs.{needs}
+use Rattle.remnants.proofs.next.Statement.{statement}
+use Rattle.remnants.proofs.next.Tie as tie
+
+tiles-flaw-requires : tie.Need-tiles-flaw-requires
+tiles-flaw-requires c κs = search needs
+
+enum-known-f : tie.Need-enum-known-f
+enum-known-f c = search needs
+
+refused-requires : tie.Need-refused-requires
+refused-requires c κs = search needs
+
+enum-told : tie.Need-enum-told
+enum-told c = search needs
+
+bins-of-requires : tie.Need-bins-of-requires
+bins-of-requires c κs = base-sound _ (sym (c .before .before .tiles-flaw .ensures) ∙ c .enum-told .given .1)
+
+next-in-requires : tie.Need-next-in-requires
+next-in-requires c κs = rw (c .bins-of .ensures) (stands _ (sym (c .before .before .before .tiles-flaw .ensures) ∙ c .before .enum-told .given .1))
+
+returns : tie.Need-returns
+unfolding remnantAnswer
+returns c = ap Refused (c .refused .ensures) ∙ rw (← c .before .before .before .before .tiles-flaw .ensures, c .before .before .f .given .1)
+
+returns-2 : tie.Need-returns-2
+unfolding remnantAnswer
+returns-2 c = c .next-in .ensures ∙ rw (← c .before .before .before .before .tiles-flaw .ensures, c .before .before .enum-told .given .1, c .before .bins-of .ensures)
+
+pub next-spec : {M : Type 1} → statement M
+next-spec =
+    tie.close
+    (tie.spec
+    tiles-flaw-requires
+    enum-known-f
+    refused-requires
+    enum-told
+    bins-of-requires
+    next-in-requires
+    returns
+    returns-2)

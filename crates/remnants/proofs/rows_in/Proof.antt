@@ -1,0 +1,54 @@
+use denote.Ref.{now}
+use mathlib.Core.Path.{sym, ap, _∙_}
+use borrow.Author.Needs.{needs}
+use borrow.Author.Tests.{not-true, not-false}
+use Rattle.remnants.specs.declared.Filled.the-variants as filled
+use Rattle.remnants.proofs.Seeks.{none-left, one-left, from-start}
+use Rattle.remnants.proofs.Stores.{rows-none, rows-short, rows-some}
+use Rattle.remnants.proofs.rows_in.Statement.{statement}
+use Rattle.remnants.proofs.rows_in.Tie as tie
+
+first-requires : tie.Need-first-requires
+first-requires c κs = search needs
+
+is-some-requires : tie.Need-is-some-requires
+is-some-requires c κs = search needs
+
+returns : tie.Need-returns
+returns c =
+    rows-none (now (c .before .before .before .before .before .args .rows)) (none-left (c .before .before .first .ensures) (sym (c .before .is-some .ensures) ∙ not-true _ (c .if1 .taken)))
+
+returns-2 : tie.Need-returns-2
+returns-2 c =
+    let short =
+    rows-short (now (c .before .before .before .before .before .before .before .args .rows)) (c .before .if2 .taken)
+    (one-left (c .before .before .before .before .first .ensures) (sym (c .before .before .before .is-some .ensures) ∙ not-false _ (c .before .before .if1 .left))) in
+    (ap filled.Refused (c .refused .ensures) ∙ short .0, short .1)
+
+refused-requires : tie.Need-refused-requires
+refused-requires c κs = search needs
+
+fill-requires : tie.Need-fill-requires
+fill-requires c κs = c .before .before .before .before .first .ensures .sought
+
+same-length : tie.Need-same-length
+same-length c = search needs
+
+returns-3 : tie.Need-returns-3
+returns-3 c =
+    let v = c .before .before .before .before .before .before .before .first .ensures in
+    let f = c .before .before .fill .ensures in
+    rows-some (now (c .before .before .before .before .before .before .before .before .before .before .args .rows)) (c .before .before .before .before .if2 .left) (one-left v (sym (c .before .before .before .before .before .before .is-some .ensures) ∙ not-false _ (c .before .before .before .before .before .if1 .left))) (from-start v) (f .0) (f .1)
+
+pub rows-in-spec : {M : Type 1} → statement M
+rows-in-spec =
+    tie.close
+    (tie.spec
+    first-requires
+    is-some-requires
+    returns
+    refused-requires
+    returns-2
+    fill-requires
+    same-length
+    returns-3)

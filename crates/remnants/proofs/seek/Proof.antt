@@ -1,0 +1,53 @@
+use Prim.Native.Nat.{_+_, _-_}
+use mathlib.Core.Path.{refl, sym, _∙_}
+use lib.ListN.{length}
+use borrow.Author.Needs.{needs}
+use Rattle.remnants.specs.Steps.{cursor, soughtLeft}
+use Rattle.remnants.proofs.Seeks.{Looked, looking, looked-free, seen, closer, looked-on, unseen}
+use Rattle.remnants.proofs.seek.Statement.{statement}
+use Rattle.remnants.proofs.seek.Tie as tie
+
+abbrev Inv-loop : tie.InvT-loop
+Inv-loop bins from at₀ cell₀ bin₀ at cell bin = Looked bins (soughtLeft bins from (cursor at₀ cell₀ bin₀)) from at cell bin
+
+abbrev μ-loop : tie.MeasureT-loop
+μ-loop bins from at₀ cell₀ bin₀ at cell bin = length bins - at + (length bins - cell)
+
+loop-holds : tie.Need-loop-holds Inv-loop μ-loop
+loop-holds c = looking (c .before .pre)
+
+find-requires : tie.Need-find-requires Inv-loop μ-loop
+find-requires c κs = looked-free (c .before .loop .inv)
+
+is-some-requires : tie.Need-is-some-requires Inv-loop μ-loop
+is-some-requires c κs = search needs
+
+returns : tie.Need-returns Inv-loop μ-loop
+returns c = seen (c .before .before .before .before .loop .inv) refl (c .before .before .find .ensures) (sym (c .before .is-some .ensures) ∙ c .if1 .taken)
+
+forward-requires : tie.Need-forward-requires Inv-loop μ-loop
+forward-requires c κs = c .before .before .before .before .loop .inv .here .stands
+
+loop-less : tie.Need-loop-less Inv-loop μ-loop
+loop-less c = closer (c .before .before .before .before .before .loop .inv) (c .before .before .before .before .loop-test .taken) (c .forward .ensures)
+
+loop-again : tie.Need-loop-again Inv-loop μ-loop
+loop-again c = looked-on (c .before .before .before .before .before .loop .inv) (c .before .before .before .find .ensures) (sym (c .before .before .is-some .ensures) ∙ c .before .if1 .left) (c .forward .ensures)
+
+returns-2 : tie.Need-returns-2 Inv-loop μ-loop
+returns-2 c = unseen (c .before .loop .inv) refl (c .loop-test .left)
+
+pub seek-spec : {M : Type 1} → statement M
+seek-spec =
+    tie.close
+    (tie.spec
+    Inv-loop
+    μ-loop
+    loop-holds
+    find-requires
+    is-some-requires
+    returns
+    forward-requires
+    loop-less
+    loop-again
+    returns-2)

@@ -1,0 +1,54 @@
+use mathlib.Core.Path.{sym, ap, _∙_}
+use Rattle.fields.proofs.Firsts.{stop}
+use Rattle.cells.proofs.Fronts.{base-pages}
+use Rattle.remnants.specs.Remnants.{flawIn, tilesFault}
+use Rattle.remnants.proofs.Tests.{tiled}
+use borrow.Author.Needs.{needs}
+use Rattle.remnants.proofs.tiles_flaw.Statement.{statement}
+use Rattle.remnants.proofs.tiles_flaw.Tie as tie
+
+base-flaw-requires : tie.Need-base-flaw-requires
+base-flaw-requires c κs = search needs
+
+enum-known-f : tie.Need-enum-known-f
+enum-known-f c = search needs
+
+enum-told : tie.Need-enum-told
+enum-told c = search needs
+
+bins-of-requires : tie.Need-bins-of-requires
+bins-of-requires c κs = sym (c .before .before .base-flaw .ensures) ∙ c .enum-told .given .1
+
+count-tiles-requires : tie.Need-count-tiles-requires
+count-tiles-requires c κs = rw (c .bins-of .ensures) (base-pages _ (sym (c .before .before .before .base-flaw .ensures) ∙ c .before .enum-told .given .1))
+
+enum-told-2 : tie.Need-enum-told-2
+enum-told-2 c = search needs
+
+enum-known-f-2 : tie.Need-enum-known-f-2
+enum-known-f-2 c = search needs
+
+returns : tie.Need-returns
+unfolding tilesFault
+returns c = sym (stop _ _ (sym (c .before .before .before .base-flaw .ensures) ∙ c .before .f .given .1))
+
+returns-2 : tie.Need-returns-2
+returns-2 c = sym (tiled _ _ (sym (c .before .before .before .before .before .before .base-flaw .ensures) ∙ c .before .before .before .before .enum-told .given .1) (c .before .before .before .bins-of .ensures) (c .before .before .count-tiles .ensures) ∙ ap flawIn (c .enum-told2 .given .1))
+
+returns-3 : tie.Need-returns-3
+returns-3 c = sym (tiled _ _ (sym (c .before .before .before .before .before .before .before .base-flaw .ensures) ∙ c .before .before .before .before .before .enum-told .given .1) (c .before .before .before .before .bins-of .ensures) (c .before .before .before .count-tiles .ensures) ∙ ap flawIn (c .before .f2 .given .1))
+
+pub tiles-flaw-spec : {M : Type 1} → statement M
+tiles-flaw-spec =
+    tie.close
+    (tie.spec
+    base-flaw-requires
+    enum-known-f
+    enum-told
+    bins-of-requires
+    count-tiles-requires
+    enum-told-2
+    enum-known-f-2
+    returns
+    returns-2
+    returns-3)

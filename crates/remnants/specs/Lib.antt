@@ -1,0 +1,4 @@
+pub mod Remnants
+pub mod Found
+pub mod Refused
+pub mod Steps
