@@ -1,6 +1,7 @@
 // bench ROW SIDE FOLDER: runs one row of docs/BENCHMARKS.md once. bench times FOLDER [ROW..]: best of 20 of each row. bench make FOLDER: writes the hives.
 mod check;
 mod make;
+mod new_log;
 use check::{Flaw, Idiom, Plain, Report, Style};
 use std::fs::{read, write};
 use std::hint::black_box;
@@ -51,6 +52,14 @@ struct HiveRows {
     state: u64,
     rows: u64,
 }
+#[repr(C)]
+struct HiveLog {
+    answer: HiveAnswer,
+    entries: u64,
+    numbers: [u64; 2],
+    end: u64,
+    bins: u64,
+}
 unsafe extern "C" {
     fn hive_check(h: *const u8, n: usize, m: *mut u8, k: usize) -> HiveReport;
     fn hive_find_key(h: *const u8, n: usize, p: *const u16, k: usize) -> HiveAnswer;
@@ -62,6 +71,8 @@ unsafe extern "C" {
     fn hive_recover_start(h: *const u8, n: usize, l: *const u8, k: usize) -> HiveRecovery;
     fn hive_recover_all(h: *mut u8, n: usize, l: *const u8, k: usize) -> HiveRecovery;
     fn hive_recover_mark(l: *const u8, k: usize, from: usize) -> HiveMark;
+    fn hive_recover_mark_pages(l: *const u8, k: usize, m: *mut u8, j: usize) -> HiveRecovery;
+    fn hive_recover_log(l: *const u8, k: usize) -> HiveLog;
 }
 
 fn answer<T>(a: HiveAnswer, x: T) -> Result<T, Flaw> {
@@ -87,6 +98,8 @@ enum Kind {
     Repair,
     Sample,
     All,
+    New,
+    Hash,
 }
 
 // The pages that a sample of a repair asks for: 100 of 64 MiB, evenly spread.
@@ -100,6 +113,13 @@ enum Outcome {
     Deleted(Result<usize, Flaw>),
     Repair(Result<usize, Flaw>),
     All(Result<(usize, usize), Flaw>),
+    Hash(Result<(usize, usize), Flaw>),
+}
+
+// How many pages a map has, and the places where they go, as the host that stores them would go over it.
+fn marked(map: &[u8]) -> (usize, usize) {
+    let pages = map.iter().enumerate().filter(|(_, b)| **b != 0).flat_map(|(j, b)| (0..8).filter(move |i| b >> i & 1 == 1).map(move |i| 8 * j + i));
+    pages.fold((0, 0), |(n, places), p| (n + 1, places ^ (4096 + 512 * p)))
 }
 
 const LARGE: [u16; 5] = [76, 97, 114, 103, 101];
@@ -148,6 +168,17 @@ fn rattle(i: &mut Input) -> Outcome {
                 }
                 Outcome::All(answer(hive_recover_close(h, n, l, k).answer, (done, places)))
             }
+            Kind::New => {
+                hive_recover_start(h, n, l, k);
+                hive_recover_all(h, n, l, k);
+                hive_recover_mark_pages(l, k, i.out.as_mut_ptr(), i.out.len());
+                let told = marked(&i.out);
+                Outcome::All(answer(hive_recover_close(h, n, l, k).answer, told))
+            }
+            Kind::Hash => {
+                let g = hive_recover_log(l, k);
+                Outcome::Hash(answer(g.answer, (g.entries as usize, g.end as usize)))
+            }
             Kind::Sample => {
                 for from in 0..100 {
                     let p = hive_recover_next(l, k, from * STEP);
@@ -186,6 +217,14 @@ fn rust<S: Style>(i: &mut Input) -> Outcome {
             }
             Outcome::All(check::close::<S>(&mut i.hive, &i.log).map(|_| (done, places)))
         }
+        Kind::New => {
+            black_box(new_log::start::<S>(&i.hive, &i.log).is_ok());
+            new_log::all::<S>(&mut i.hive, &i.log).unwrap();
+            new_log::mark::<S>(&i.log, &mut i.out).unwrap();
+            let told = marked(&i.out);
+            Outcome::All(new_log::close::<S>(&mut i.hive, &i.log).map(|_| told))
+        }
+        Kind::Hash => Outcome::Hash(new_log::chain::<S>(&i.log).map(|c| (c.entries, c.end))),
         Kind::Sample => {
             for from in 0..100 {
                 let p = check::next::<S>(&i.log, from * STEP).unwrap();
@@ -210,6 +249,7 @@ fn measured(side: &str, i: &mut Input) -> Outcome {
 const ROWS: [&str; 22] = [
     "check-1", "check-4", "check-16", "check-64", "check-1024", "check-wide", "last-100", "absent-100", "last-5000", "absent-5000", "last-60000", "absent-60000",
     "copy", "deleted-1", "deleted-64", "clean-64", "repair-1000", "repair-1000-of-131072", "repair-100000", "all-1000", "all-1000-of-131072", "all-100000",
+    "new-1000", "new-60000", "hash-30M",
 ];
 
 fn input(row: &str, folder: &str) -> Input {
@@ -221,6 +261,8 @@ fn input(row: &str, folder: &str) -> Input {
         Some(("clean", n)) => (Kind::Deleted, format!("zeros-{n}")),
         Some(("repair", n)) => (Kind::Repair, format!("torn-{n}")),
         Some(("all", n)) => (Kind::All, format!("torn-{n}")),
+        Some(("new", n)) => (Kind::New, format!("new-{n}")),
+        Some(("hash", n)) => (Kind::Hash, format!("hash-{n}")),
         Some(("sample", n)) => (Kind::Sample, format!("torn-{n}")),
         _ => (Kind::Copy, "large".into()),
     };
@@ -231,7 +273,7 @@ fn input(row: &str, folder: &str) -> Input {
         Some(("absent", _)) => "component999999".into(),
         _ => String::new(),
     };
-    let out = vec![0; if kind == Kind::Check { hive.len() / 64 } else { 1_048_576 }];
+    let out = vec![0; if kind == Kind::Check { hive.len() / 64 } else if kind == Kind::New { hive.len() / 4096 } else { 1_048_576 }];
     let rows = vec![0; if kind == Kind::Deleted { hive.len() / 24 * 4 } else { 0 }];
     Input { kind, hive, log, path: path.encode_utf16().collect(), out, rows }
 }
@@ -278,6 +320,11 @@ fn make_all(folder: &str) {
         let (hive, log) = make::torn(bins, pages);
         write(format!("{folder}/torn-{name}"), hive).unwrap();
         write(format!("{folder}/torn-{name}.log"), log).unwrap();
+    }
+    for (name, bins, pages) in [("new-1000", 1 << 20, 1000), ("new-60000", 32 << 20, 60_000), ("hash-30M", 1 << 20, 0)] {
+        let (hive, log) = make::new_torn(bins, pages, 30 << 20);
+        write(format!("{folder}/{name}"), hive).unwrap();
+        write(format!("{folder}/{name}.log"), log).unwrap();
     }
 }
 

@@ -1,5 +1,6 @@
 // The baseline: the same algorithms in Rust. What differs by style stands in the trait: `Plain` is a translation that indexes byte by byte,
 // `Idiom` uses from_le_bytes, chunks_exact, iterators and slice copies.
+use crate::new_log::Marvin;
 use std::cmp::Ordering;
 
 #[derive(Clone, Copy, PartialEq, Debug)]
@@ -19,6 +20,7 @@ pub trait Style {
     fn copy(from: &[u8], to: &mut [u8]);
     fn same(a: &[u8], b: &[u8]) -> bool;
     fn clear(map: &mut [u8]);
+    fn marvin(m: &[u8]) -> u64;
     fn each(list: &[u8], step: usize, f: impl FnMut(u32, u32) -> Res<bool>) -> Res<()>;
     fn signed(cell: &[u8], f: impl FnMut(usize) -> bool) -> bool;
 }
@@ -138,6 +140,21 @@ impl Style for Plain {
             i += 1;
         }
     }
+    fn marvin(m: &[u8]) -> u64 {
+        let mut state = Marvin::new();
+        let mut i = 0;
+        while i + 4 <= m.len() {
+            state = state.mix(Self::u32_at(m, i));
+            i += 4;
+        }
+        let (mut last, mut by) = (0, 0);
+        while i < m.len() {
+            last |= (m[i] as u32) << by;
+            by += 8;
+            i += 1;
+        }
+        state.end(last | 0x80 << by)
+    }
     fn each(list: &[u8], step: usize, mut f: impl FnMut(u32, u32) -> Res<bool>) -> Res<()> {
         let n = Self::u16_at(list, 2) as usize;
         let mut i = 0;
@@ -209,6 +226,11 @@ impl Style for Idiom {
     fn clear(map: &mut [u8]) {
         map.fill(0);
     }
+    fn marvin(m: &[u8]) -> u64 {
+        let words = m.chunks_exact(4);
+        let last = words.remainder().iter().rev().fold(0x80, |x, &b| x << 8 | b as u32);
+        words.fold(Marvin::new(), |state, w| state.mix(u32::from_le_bytes(w.try_into().unwrap()))).end(last)
+    }
     fn each(list: &[u8], step: usize, mut f: impl FnMut(u32, u32) -> Res<bool>) -> Res<()> {
         let n = Self::u16_at(list, 2) as usize;
         for e in list[4..].chunks_exact(step).take(n) {
@@ -252,7 +274,7 @@ pub fn stored(xor: u32) -> u32 {
     }
 }
 
-fn usable<S: Style>(s: &[u8], types: &[u32]) -> Res<()> {
+pub fn usable<S: Style>(s: &[u8], types: &[u32]) -> Res<()> {
     if &s[0..4] != b"regf" {
         return Err(Flaw(2, 0));
     }

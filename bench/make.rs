@@ -1,5 +1,5 @@
 // Hives and logs for the measurements.
-use crate::check::{stored, upper};
+use crate::check::{Idiom, Style, stored, upper};
 
 pub struct Maker {
     pub file: Vec<u8>,
@@ -256,5 +256,55 @@ pub fn torn(bins: usize, pages: usize) -> (Vec<u8>, Vec<u8>) {
     }
     hive[4] = 2;
     seal(&mut hive);
+    (hive, log)
+}
+
+fn rehash(e: &mut [u8]) {
+    let first = Idiom::marvin(&e[40..]);
+    e[24..32].copy_from_slice(&first.to_le_bytes());
+    let second = Idiom::marvin(&e[..32]);
+    e[32..40].copy_from_slice(&second.to_le_bytes());
+}
+
+fn entry(number: usize, bins: usize, size: usize, count: usize) -> Vec<u8> {
+    let mut e = vec![0; size];
+    e[..4].copy_from_slice(b"HvLE");
+    for (at, n) in [(4, size), (12, number), (16, bins), (20, count)] {
+        put32(&mut e, at, n as u32);
+    }
+    e
+}
+
+// The same with a log of Windows 8.1 and later, a hundred pages to an entry; with no pages, one entry of that many bytes and no reference.
+pub fn new_torn(bins: usize, pages: usize, padding: usize) -> (Vec<u8>, Vec<u8>) {
+    const EACH: usize = 100;
+    let (hive, _) = torn(bins, 0);
+    let n = hive.len() - 4096;
+    let mut log = hive[..512].to_vec();
+    log[4] = 1;
+    log[28] = 6;
+    seal(&mut log);
+    for from in (0..pages).step_by(EACH) {
+        let count = EACH.min(pages - from);
+        let mut e = entry(1 + from / EACH, n, (40 + 520 * count).div_ceil(512) * 512, count);
+        for k in 0..count {
+            let p = (from + k) * (n / 512) / pages;
+            let at = 40 + 8 * count + 512 * k;
+            put32(&mut e, 40 + 8 * k, 512 * p as u32);
+            put32(&mut e, 44 + 8 * k, 512);
+            e[at..at + 512].copy_from_slice(&hive[4096 + 512 * p..4608 + 512 * p]);
+            e[at + 100] ^= 0x55;
+        }
+        rehash(&mut e);
+        log.extend(e);
+    }
+    if pages == 0 {
+        let mut e = entry(1, n, padding, 0);
+        for (i, b) in e[40..].iter_mut().enumerate() {
+            *b = (i * 7 + i / 251) as u8;
+        }
+        rehash(&mut e);
+        log.extend(e);
+    }
     (hive, log)
 }

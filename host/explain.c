@@ -1,6 +1,5 @@
 /* What a refusal's number means, and the check's answer. */
 #include <stdlib.h>
-#include <string.h>
 
 #include "host.h"
 
@@ -31,11 +30,11 @@ static const Reason REASONS[] = {
     [HIVE_FAULT_NO_VALUE] = {false, false, "the key has no such value", "The unnamed value is called @ here."},
     [HIVE_FAULT_SEGMENTED] = {true, false, "the data lie in segments and have no view", "A program asked to see them in one piece; a copy joins them."},
     [HIVE_FAULT_OUTPUT_SHORT] = {false, false, "the output is too short for the data", "A program lent less than the data's length; this tool always lends enough."},
-    [HIVE_FAULT_LOG_BASE] = {false, true, "the start of the log is not sound", "It has fewer than 512 bytes, its base block is damaged or of another type than 1 or 2, or its sequence numbers differ: the log itself was not finished. Logs of Windows 8.1 and later (type 6) are not read."},
-    [HIVE_FAULT_LOG_SHORT] = {false, true, "the log is too short for its bitmap or its pages", "It was cut off. Copy it again."},
+    [HIVE_FAULT_LOG_BASE] = {false, true, "the start of the log is not sound", "It has fewer than 512 bytes, its base block is damaged or of another type than 1, 2 or 6, or its sequence numbers differ: the log itself was not finished."},
+    [HIVE_FAULT_LOG_SHORT] = {false, true, "the log is too short for its bitmap or its pages, or none of its entries counts", "An old-format log was cut off: copy it again. Of a log of Windows 8.1 or later the first entry is torn, has a wrong hash or another number than the log, or its pages cannot lie where it says."},
     [HIVE_FAULT_NO_DIRT] = {false, true, "the log has no \"DIRT\" at byte 512", "It is no log of the old format, or holds nothing to repair with."},
-    [HIVE_FAULT_HIVE_CUT] = {false, false, "the hive is shorter than the log says", "4096 bytes and the log's size at byte 40 should be there. The hive was cut off, or this is not its log."},
-    [HIVE_FAULT_STAMPS] = {false, true, "the time stamps of hive and log differ", "This log belongs to another hive, or to another state of this one."},
+    [HIVE_FAULT_HIVE_CUT] = {false, false, "the hive is shorter than the log says", "4096 bytes and the log's bins size should be there (of Windows 8.1 or later: the largest of its entries'). The hive was cut off, or it had grown and only the log knows: then --grow lengthens it with zeros. Or this is not its log."},
+    [HIVE_FAULT_STAMPS] = {false, true, "the time stamps or the numbers of hive and log differ", "This log belongs to another hive, or to another state of this one. A log of Windows 8.1 or later must have the hive's second sequence number; its time stamp is compared where the hive's first sector is damaged, as an old log's always is. If there are two logs, give both."},
     [HIVE_FAULT_NOT_DIRTY] = {false, true, "the page is not marked in the log", "A program asked for a page that the log does not hold; this tool asks only for those it holds."},
     [HIVE_FAULT_NOT_IN] = {false, false, "a logged page is not in the hive yet", "A program asked to close the repair too early; this tool installs all pages first."},
 };
@@ -57,18 +56,11 @@ int explain_verb(const Order *o)
     return GOOD;
 }
 
-/* A log that starts as those of Windows 8.1 and later do, type 6, is not damaged for that. */
-static bool is_new_log(Bytes log)
-{
-    return log.length >= 512 && memcmp(log.at, "regf", 4) == 0 && memcmp(log.at + 28, "\6\0\0", 4) == 0;
-}
-
 static void put_words(FILE *to, const Hive *h, HiveAnswer a, const Path *path)
 {
-    if (a.number == HIVE_FAULT_LOG_BASE && is_new_log(h->logged))
-        fputs("this is a log of Windows 8.1 or later (file type 6), which this version does not read", to);
-    else
-        fputs(reason_of(a.number)->what, to);
+    fputs(reason_of(a.number)->what, to);
+    if (a.number == HIVE_FAULT_HIVE_CUT && h->wanted > 0)
+        fprintf(to, ": it has %zu bytes and needs %llu; --grow lengthens it with zeros", h->bytes.length, (unsigned long long)h->wanted);
     if (reason_of(a.number)->placed) {
         unsigned long long at = 4096ull + a.place;
         fprintf(to, ", at offset %u (0x%x), which is byte %llu (0x%llx) of the file", a.place, a.place, at, at);

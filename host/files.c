@@ -128,16 +128,26 @@ int read_file(const char *path, Bytes *out)
     return status;
 }
 
+static int from_input(const Order *o, const char *file)
+{
+    int n = strcmp(file, "-") == 0;
+    for (int i = 0; i < o->log_count; i++)
+        n += strcmp(o->logs[i], "-") == 0;
+    return n;
+}
+
 /* The hive as its file is, or, where a log was given, as the repair would leave it. The file is opened for reading only. */
 int read_hive(const Order *o, const char *file, Hive *out)
 {
-    *out = (Hive){file, o->log, {NULL, 0}, {NULL, 0}};
-    if (o->log != NULL && strcmp(file, "-") == 0 && strcmp(o->log, "-") == 0)
+    *out = (Hive){.file = file};
+    if (from_input(o, file) > 1)
         return misused("FILE and LOG cannot both be standard input");
+    if (o->grow && o->log_count == 0)
+        return misused("--grow goes with --log");
     int status = read_file(file, &out->bytes);
-    if (status == GOOD && o->log != NULL)
-        status = read_file(o->log, &out->logged);
-    return status == GOOD && o->log != NULL ? recover(out) : status;
+    if (status == GOOD && o->log_count > 0)
+        status = take_logs(out, o->logs, o->log_count, o->grow);
+    return status == GOOD && o->log_count > 0 ? recover(out) : status;
 }
 
 void drop_hive(Hive *h)

@@ -35,15 +35,20 @@ enum Style { VALUE_NAME, KEY_NAME };
 typedef struct {
     char **words;
     int count;
-    const char *log, *backup;
+    const char *logs[2], *backup;
+    int log_count;
     size_t nth; /* 0: none was given */
-    bool json, wide, dry, anyway;
+    bool json, wide, dry, anyway, grow;
 } Order;
 
-/* A hive in memory, and the log that was given with it; log is NULL where none was. */
+/* A hive in memory, and the log that it is read or repaired with; log is its name, NULL where none was given, and started what hive_recover_start says of the two.
+ * wanted: how long the log wants the file to be, where it is shorter, else 0. grown: the memory is that long already, with zeros at the end. */
 typedef struct {
     const char *file, *log;
     Bytes bytes, logged;
+    HiveRecovery started;
+    uint64_t wanted;
+    bool grown;
 } Hive;
 
 /* A path as it was given, and its units. */
@@ -113,10 +118,14 @@ int read_open(int fd, const char *path, Bytes *out);
 int read_hive(const Order *o, const char *file, Hive *out);
 void drop_hive(Hive *h);
 
+/* logs.c. GOOD, TROUBLE or REFUSED, after a message: one log, or two that are one or of which one fits. */
+int take_logs(Hive *h, const char *const *names, int count, bool grow);
+
 /* store.c. The same. */
 int open_locked(const char *path);
 int store(int fd, const char *path, const uint8_t *from, size_t length, uint64_t at);
 int settle(int fd, const char *path);
+int lengthen(int fd, const char *path, uint64_t length);
 int write_new(const char *path, Bytes bytes);
 int copy_new(const char *path, int from, const char *from_path);
 

@@ -24,7 +24,7 @@ static int check_one(const Order *o, const char *file)
 int check_verb(const Order *o)
 {
     int worst = GOOD;
-    if (o->log != NULL && o->count > 1)
+    if (o->log_count > 0 && o->count > 1)
         return misused("check --log wants one FILE, the log's own");
     for (int i = 0; i < o->count; i++) {
         int status = check_one(o, o->words[i]);

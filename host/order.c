@@ -5,7 +5,7 @@
 
 #include "host.h"
 
-enum { LOG = 1, JSON = 2, WIDE = 4, NTH = 8, DRY_RUN = 16, BACKUP = 32, ANYWAY = 64, NO_END = 1 << 30 };
+enum { LOG = 1, JSON = 2, WIDE = 4, NTH = 8, DRY_RUN = 16, BACKUP = 32, ANYWAY = 64, GROW = 128, NO_END = 1 << 30 };
 
 static const struct {
     const char *name, *wants;
@@ -13,12 +13,12 @@ static const struct {
     unsigned options;
     Verb *go;
 } VERBS[] = {
-    {"check", "FILE..", 1, NO_END, LOG | JSON, check_verb},
-    {"key", "FILE PATH", 2, 2, LOG | JSON | WIDE, key_verb},
-    {"ls", "FILE [PATH]", 1, 2, LOG | JSON | WIDE, list_verb},
-    {"value", "FILE PATH NAME [OUT]", 3, 4, LOG | JSON | NTH, value_verb},
-    {"deleted", "FILE", 1, 1, LOG | JSON, deleted_verb},
-    {"repair", "FILE LOG", 2, 2, JSON | DRY_RUN | BACKUP | ANYWAY, repair_verb},
+    {"check", "FILE..", 1, NO_END, LOG | GROW | JSON, check_verb},
+    {"key", "FILE PATH", 2, 2, LOG | GROW | JSON | WIDE, key_verb},
+    {"ls", "FILE [PATH]", 1, 2, LOG | GROW | JSON | WIDE, list_verb},
+    {"value", "FILE PATH NAME [OUT]", 3, 4, LOG | GROW | JSON | NTH, value_verb},
+    {"deleted", "FILE", 1, 1, LOG | GROW | JSON, deleted_verb},
+    {"repair", "FILE LOG [LOG2]", 2, 3, GROW | JSON | DRY_RUN | BACKUP | ANYWAY, repair_verb},
     {"explain", "N", 1, 1, 0, explain_verb},
 };
 enum { VERB_COUNT = sizeof VERBS / sizeof VERBS[0] };
@@ -29,7 +29,7 @@ static const struct {
     unsigned bit;
 } OPTIONS[] = {
     {"--log", "a LOG", LOG}, {"--json", NULL, JSON}, {"-l", NULL, WIDE}, {"--nth", "a number", NTH},
-    {"--dry-run", NULL, DRY_RUN}, {"--backup", "a COPY", BACKUP}, {"--anyway", NULL, ANYWAY},
+    {"--dry-run", NULL, DRY_RUN}, {"--backup", "a COPY", BACKUP}, {"--anyway", NULL, ANYWAY}, {"--grow", NULL, GROW},
 };
 enum { OPTION_COUNT = sizeof OPTIONS / sizeof OPTIONS[0] };
 
@@ -44,17 +44,24 @@ static int take_number(const char *text, size_t *out)
     return GOOD;
 }
 
+static int take_log(const char *word, Order *o)
+{
+    if (o->log_count == 2)
+        return misused("--log may stand twice, and \"%s\" is the third", word);
+    o->logs[o->log_count++] = word;
+    return GOOD;
+}
+
 static int take(Order *o, unsigned bit, const char *word)
 {
     o->json |= bit == JSON;
     o->wide |= bit == WIDE;
     o->dry |= bit == DRY_RUN;
     o->anyway |= bit == ANYWAY;
-    if (bit == LOG)
-        o->log = word;
+    o->grow |= bit == GROW;
     if (bit == BACKUP)
         o->backup = word;
-    return bit == NTH ? take_number(word, &o->nth) : GOOD;
+    return bit == NTH ? take_number(word, &o->nth) : bit == LOG ? take_log(word, o) : GOOD;
 }
 
 /* The option words[*i], of a verb that takes those in `options`. */

@@ -1,22 +1,13 @@
 /* Repair in place. A power failure at any moment leaves a file that the same command repairs. */
 #include <errno.h>
 #include <fcntl.h>
+#include <stdlib.h>
 #include <string.h>
 #include <unistd.h>
 
 #include "host.h"
 
 enum { SECTOR = 512 };
-
-static HiveMark mark_from(const Hive *h, size_t from)
-{
-    return hive_recover_mark(h->logged.at, h->logged.length, from);
-}
-
-static HiveRecovery start(const Hive *h)
-{
-    return hive_recover_start(h->bytes.at, h->bytes.length, h->logged.at, h->logged.length);
-}
 
 static HiveRecovery close_in_memory(const Hive *h)
 {
@@ -32,10 +23,9 @@ static HiveAnswer install_all(const Hive *h)
 /* The repair in memory alone, for those who only read. */
 int recover(const Hive *h)
 {
-    HiveRecovery s = start(h);
-    if (s.state == HIVE_CLEAN)
+    if (h->started.state == HIVE_CLEAN)
         return GOOD;
-    HiveAnswer a = s.state == HIVE_DONE ? install_all(h) : s.answer;
+    HiveAnswer a = install_all(h);
     if (a.number == 0)
         a = close_in_memory(h).answer;
     return a.number == 0 ? GOOD : refusal(h, a, NULL);
@@ -56,13 +46,28 @@ static int rehearse(const Hive *h, HiveReport *out)
     return status;
 }
 
-static int store_pages(int fd, const Hive *h, uint64_t pages)
+/* Which pages the log holds: a bit for each. No log that is accepted has more pages than the hive. */
+static int mark_pages(const Hive *h, Bytes *map)
+{
+    map->length = h->bytes.length / 4096;
+    map->at = malloc(map->length + 1);
+    if (map->at == NULL)
+        return trouble(h->file, "no memory for the marks");
+    memset(map->at, 0, map->length);
+    HiveAnswer a = hive_recover_mark_pages(h->logged.at, h->logged.length, map->at, map->length).answer;
+    return a.number == 0 ? GOOD : refusal(h, a, NULL);
+}
+
+static int store_pages(int fd, const Hive *h, Bytes map)
 {
     int status = GOOD;
     uint64_t done = 0;
-    work_starts("storing page", pages);
-    for (HiveMark p = mark_from(h, 0); p.state == HIVE_THERE && status == GOOD; p = mark_from(h, p.page + 1)) {
-        status = store(fd, h->file, h->bytes.at + p.to, SECTOR, p.to);
+    work_starts("storing page", h->started.pages);
+    for (size_t page = 0; page < 8 * map.length && status == GOOD; page++) {
+        size_t to = 4096 + SECTOR * page;
+        if ((map.at[page / 8] >> page % 8 & 1) == 0)
+            continue;
+        status = store(fd, h->file, h->bytes.at + to, SECTOR, to);
         work_did(++done);
     }
     return status == GOOD ? settle(fd, h->file) : status;
@@ -84,9 +89,15 @@ static int cut_off(const Hive *h)
 }
 
 /* The closing sector goes out only when all pages are on the disk: before that "the file looks clean and is half old". */
-static int write_out(int fd, const Hive *h, uint64_t pages)
+static int write_out(int fd, const Hive *h)
 {
-    if (store_pages(fd, h, pages) != GOOD)
+    Bytes map;
+    int status = mark_pages(h, &map);
+    if (status != GOOD)
+        return status;
+    if (h->grown && lengthen(fd, h->file, h->bytes.length) != GOOD)
+        return cut_off(h);
+    if (store_pages(fd, h, map) != GOOD)
         return cut_off(h);
     HiveAnswer a = close_in_memory(h).answer;
     if (a.number != 0)
@@ -119,20 +130,19 @@ static int back_up(int fd, const Order *o, const Hive *h)
 /* fd: the file to repair, or -1 for a dry run. */
 static int run(int fd, const Order *o, const Hive *h)
 {
-    HiveRecovery s = start(h);
-    if (s.state == HIVE_REFUSED)
-        return refusal(h, s.answer, NULL);
-    if (s.state == HIVE_CLEAN)
+    if (h->started.state == HIVE_CLEAN)
         return clean(fd, h);
     HiveReport r;
     int status = rehearse(h, &r);
     if (status != GOOD)
         return status;
     bool sound = r.answer.number == 0, write = fd >= 0 && (sound || o->anyway);
-    if (write && ((status = back_up(fd, o, h)) != GOOD || (status = write_out(fd, h, s.pages)) != GOOD))
+    if (write && ((status = back_up(fd, o, h)) != GOOD || (status = write_out(fd, h)) != GOOD))
         return status;
     say(h->file, write ? "repaired" : "would repair");
-    say_bare("pages", s.pages);
+    say_bare("pages", h->started.pages);
+    if (h->grown)
+        say_number("lengthened", h->bytes.length);
     say_end();
     report(h, r);
     if (!sound)
@@ -142,15 +152,17 @@ static int run(int fd, const Order *o, const Hive *h)
 
 int repair_verb(const Order *o)
 {
-    Hive h = {o->words[0], o->words[1], {NULL, 0}, {NULL, 0}};
-    if (strcmp(h.file, "-") == 0 || strcmp(h.log, "-") == 0)
-        return misused("repair wants a FILE and a LOG that stay, not standard input");
+    Hive h = {.file = o->words[0]};
+    for (int i = 0; i < o->count; i++)
+        if (strcmp(o->words[i], "-") == 0)
+            return misused("repair wants a FILE and a LOG that stay, not standard input");
     int fd = o->dry ? open(h.file, O_RDONLY | O_CLOEXEC) : open_locked(h.file);
     if (fd < 0)
         return o->dry ? trouble(h.file, "%s", strerror(errno)) : TROUBLE;
     if (lseek(fd, 0, SEEK_END) < 0)
         return trouble(h.file, "it is a pipe or a terminal; repair wants a file");
-    if (read_open(fd, h.file, &h.bytes) != GOOD || read_file(h.log, &h.logged) != GOOD)
-        return TROUBLE;
-    return run(o->dry ? -1 : fd, o, &h);
+    int status = read_open(fd, h.file, &h.bytes);
+    if (status == GOOD)
+        status = take_logs(&h, (const char *const *)o->words + 1, o->count - 1, o->grow);
+    return status == GOOD ? run(o->dry ? -1 : fd, o, &h) : status;
 }

@@ -49,6 +49,15 @@ int settle(int fd, const char *path)
     return GOOD;
 }
 
+/* The file is so long from now on, with zeros at its end, and that is on the disk. */
+int lengthen(int fd, const char *path, uint64_t length)
+{
+    while (ftruncate(fd, (off_t)length) != 0)
+        if (errno != EINTR)
+            return trouble(path, "cannot make it %llu bytes long: %s", (unsigned long long)length, strerror(errno));
+    return settle(fd, path);
+}
+
 /* The entry of a new file lies in its folder, which is synced too. */
 static int settle_folder(const char *path)
 {

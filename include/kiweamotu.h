@@ -59,12 +59,12 @@ enum HiveFault {
     HIVE_FAULT_NO_VALUE = 18, /* no such value */
     HIVE_FAULT_SEGMENTED = 19, /* view asked of segmented data */
     HIVE_FAULT_OUTPUT_SHORT = 20, /* output too short */
-    HIVE_FAULT_LOG_BASE = 21, /* log under 512 bytes, its base block not usable (type 1 or 2), or its sequence numbers differ */
-    HIVE_FAULT_LOG_SHORT = 22, /* log too short for bitmap or pages */
+    HIVE_FAULT_LOG_BASE = 21, /* log under 512 bytes, its base block not usable (type 1, 2 or 6), or its sequence numbers differ */
+    HIVE_FAULT_LOG_SHORT = 22, /* log too short for bitmap or pages, or none of its entries counts */
     HIVE_FAULT_NO_DIRT = 23, /* no "DIRT" */
-    HIVE_FAULT_HIVE_CUT = 24, /* hive shorter than 4096 + the log's bins size */
-    HIVE_FAULT_STAMPS = 25, /* stamps differ */
-    HIVE_FAULT_NOT_DIRTY = 26, /* page not marked dirty, or past the bitmap */
+    HIVE_FAULT_HIVE_CUT = 24, /* hive shorter than 4096 + the log's bins size (type 6: the largest counted) */
+    HIVE_FAULT_STAMPS = 25, /* stamps differ (type 6, usable hive: numbers) */
+    HIVE_FAULT_NOT_DIRTY = 26, /* page not marked dirty, or past the bitmap (type 6: in no counted entry) */
     HIVE_FAULT_NOT_IN = 27, /* closing, but a logged page is not in yet */
 };
 
@@ -229,7 +229,7 @@ HIVE_ASSERT(offsetof(HiveRows, rows) == 24);
 HIVE_ASSERT(sizeof(HiveRows) == 32);
 
 /* An answer of recovery. state: HIVE_REFUSED; HIVE_CLEAN: nothing is to be done and nothing was changed; HIVE_DONE: accepted or done.
- * pages: the number of pages that the log holds, where hive_recover_start accepts it, else 0.
+ * pages: the number of pages that the log holds, where hive_recover_start accepts it or hive_recover_mark_pages is done, else 0.
  */
 typedef struct {
     HiveAnswer answer;
@@ -272,6 +272,26 @@ HIVE_ASSERT(offsetof(HiveMark, state) == 16);
 HIVE_ASSERT(offsetof(HiveMark, page) == 24);
 HIVE_ASSERT(offsetof(HiveMark, to) == 32);
 HIVE_ASSERT(sizeof(HiveMark) == 40);
+
+/* What a log says of itself. entries: how many entries of a log of type 6 count. first, last: the numbers of the first and the last
+ * of them. end: where the last ends in the log. bins: the largest bins size, so that the hive needs 4096 + bins bytes. A log of type 1
+ * or 2 has no entries: entries is 0, first and last are its own number, and end is 512.
+ */
+typedef struct {
+    HiveAnswer answer;
+    uint64_t entries;
+    uint64_t first;
+    uint64_t last;
+    uint64_t end;
+    uint64_t bins;
+} HiveLog;
+HIVE_ASSERT(offsetof(HiveLog, answer) == 0);
+HIVE_ASSERT(offsetof(HiveLog, entries) == 16);
+HIVE_ASSERT(offsetof(HiveLog, first) == 24);
+HIVE_ASSERT(offsetof(HiveLog, last) == 32);
+HIVE_ASSERT(offsetof(HiveLog, end) == 40);
+HIVE_ASSERT(offsetof(HiveLog, bins) == 48);
+HIVE_ASSERT(sizeof(HiveLog) == 56);
 
 /* The version of this interface: 2. Structs and functions of one version never change. Version 2 names the key of a refusal,
  * which was HIVE_NO_KEY, always, in version 1.
@@ -349,13 +369,13 @@ HiveRemnant hive_next_remnant(const uint8_t *hive, size_t hive_len, size_t from)
  */
 HiveRows hive_remnants(const uint8_t *hive, size_t hive_len, size_t from, uint32_t *rows, size_t rows_len);
 
-/* Whether an old-format log (file type 1 or 2) repairs this hive. A hive that needs no repair answers HIVE_CLEAN, whatever
- * the log. Refuses 1, 21, 22, 23, 22, 24, 25, in this order.
+/* Whether a log repairs this hive: one of the old format (file type 1 or 2), or one of Windows 8.1 and later (type 6). A hive that
+ * needs no repair answers HIVE_CLEAN, whatever the log. Refuses 1, 21, 22, 23, 22, 24, 25, in this order; 23 never for type 6.
  *
- * A repair: start; hive_recover_all; for each page of hive_recover_mark store its 512 bytes in the file; wait until they are on
- * the disk; hive_recover_close; store the first 512 bytes; wait again. After a power failure, or in doubt, do all of it again
- * with the file as it is: the outcome is the same file, byte for byte. One page at a time does as well, by hive_recover_page for
- * each page of hive_recover_next, but each of these calls makes all tests anew.
+ * A repair: start; hive_recover_all; for each page that hive_recover_mark_pages marks store its 512 bytes in the file; wait until
+ * they are on the disk; hive_recover_close; store the first 512 bytes; wait again. After a power failure, or in doubt, do all of it
+ * again with the file as it is: the outcome is the same file, byte for byte. One page at a time does as well, by hive_recover_page
+ * for each page of hive_recover_next, but each of these calls makes all tests anew.
  *
  * In all calls of the repair the hive is private memory, never a shared mapping of the file: hive_recover_close writes the first
  * sector in two steps, and the file must see them as one.
@@ -369,7 +389,7 @@ HiveRecovery hive_recover_start(const uint8_t *hive, size_t hive_len, const uint
 HiveRecovery hive_recover_page(uint8_t *hive, size_t hive_len, const uint8_t *log, size_t log_len, size_t page);
 
 /* Writes the closing sector to the first 512 bytes of the hive in memory, once every logged page is in: the log's first 512
- * bytes with file type 0 and a new checksum. No other byte changes. Makes all tests of hive_recover_start first and refuses as
+ * bytes with file type 0 and a new checksum; for type 6 also with the last entry's number and bins size. No other byte changes. Makes all tests of hive_recover_start first and refuses as
  * it does, then 27. A refusal, and HIVE_CLEAN, leave the hive as it was. Store these bytes only when all pages are on the disk.
  */
 HiveRecovery hive_recover_close(uint8_t *hive, size_t hive_len, const uint8_t *log, size_t log_len);
@@ -389,6 +409,18 @@ HiveRecovery hive_recover_all(uint8_t *hive, size_t hive_len, const uint8_t *log
  * 23, in this order. Start with 0, and go on with page + 1 until HIVE_NO_MORE.
  */
 HiveMark hive_recover_mark(const uint8_t *log, size_t log_len, size_t from);
+
+/* Marks every page that the log holds in a lent map, lowest bit first: page n is bit n % 8 of byte n / 8, and it goes to
+ * 4096 + 512 x n in the hive. The map needs bins size / 4096 bytes (see hive_recover_log); those beyond stay. HIVE_DONE where it
+ * did, with the number of pages. Reads the log once, where hive_recover_mark reads it for each page. Refuses 21, 22, 23, 22, in
+ * this order, then 8. A refusal leaves the map as it was.
+ */
+HiveRecovery hive_recover_mark_pages(const uint8_t *log, size_t log_len, uint8_t *map, size_t map_len);
+
+/* What a log says of itself. Where the first number of one log of type 6 follows the last of another, the one up to its end with the
+ * other from 512 on is a log. Refuses 21, 22, 23, 22, in this order.
+ */
+HiveLog hive_recover_log(const uint8_t *log, size_t log_len);
 
 #ifdef __cplusplus
 }

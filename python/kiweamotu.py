@@ -23,12 +23,13 @@ import contextlib
 import ctypes
 import datetime
 import fcntl
+import mmap
 import os
 import stat
 from ctypes import c_size_t, c_uint32, c_uint64, c_void_p
-from typing import Any, Callable, Iterator, List, NamedTuple, Optional, Tuple, Union
+from typing import Any, Callable, Iterator, List, NamedTuple, Optional, Sequence, Tuple, Union
 
-__all__ = ["Hive", "Key", "Value", "Deleted", "Report", "Repair", "Refused", "Unsound", "repair"]
+__all__ = ["Hive", "Key", "Value", "Deleted", "Report", "Repair", "Log", "Refused", "Unsound", "log_facts", "repair"]
 
 SECTOR = 512
 INTERFACES = (2, 1)  # those that this file knows: their structs and calls are the same, and in 1 no refusal names a key
@@ -63,15 +64,15 @@ WORDS = {
     19: "the data lie in segments and have no view",
     20: "the output is too short for the data",
     21: "the start of the log is not sound",
-    22: "the log is too short for its bitmap or its pages",
+    22: "the log is too short for its bitmap or its pages, or none of its entries counts",
     23: 'the log has no "DIRT" at byte 512',
     24: "the hive is shorter than the log says",
-    25: "the time stamps of hive and log differ",
+    25: "the time stamps or the numbers of hive and log differ",
     26: "the page is not marked in the log",
     27: "a logged page is not in the hive yet",
 }
 PLACED = frozenset((9, 10, 11, 12, 13, 14, 15, 19))
-ORDER, PARENT, LEVEL, SEGMENTED = 13, 14, 15, 19
+ORDER, PARENT, LEVEL, SEGMENTED, SHORT = 13, 14, 15, 19, 24
 
 # The registry's names of the types, from 0 on.
 TYPES = (
@@ -81,6 +82,7 @@ TYPES = (
 SZ, EXPAND_SZ, DWORD, DWORD_BIG_ENDIAN, LINK, MULTI_SZ, QWORD = 1, 2, 4, 5, 6, 7, 11
 
 Source = Union[str, "os.PathLike[str]", bytes, bytearray, memoryview, Any]
+Sources = Union[Source, Sequence[Source]]
 Decoded = Union[str, int, List[str], bytes]
 
 
@@ -119,8 +121,8 @@ class _Recovery(ctypes.Structure):
     _fields_ = [("answer", _Answer), ("state", c_uint64), ("pages", c_uint64)]
 
 
-class _Mark(ctypes.Structure):
-    _fields_ = [("answer", _Answer), ("state", c_uint64), ("page", c_uint64), ("to", c_uint64)]
+class _Log(ctypes.Structure):
+    _fields_ = [("answer", _Answer), ("entries", c_uint64), ("first", c_uint64), ("last", c_uint64), ("end", c_uint64), ("bins", c_uint64)]
 
 
 _MEMORY = [c_void_p, c_size_t]  # a pointer, and how many elements it has
@@ -140,7 +142,8 @@ _CALLS = {
     "hive_recover_start": (_Recovery, _MEMORY * 2),
     "hive_recover_all": (_Recovery, _MEMORY * 2),
     "hive_recover_close": (_Recovery, _MEMORY * 2),
-    "hive_recover_mark": (_Mark, _MEMORY + [c_size_t]),
+    "hive_recover_mark_pages": (_Recovery, _MEMORY * 2),
+    "hive_recover_log": (_Log, _MEMORY),
 }
 
 
@@ -164,12 +167,16 @@ def _load() -> ctypes.CDLL:
     for path in _candidates():
         try:
             library = ctypes.CDLL(path)
-            for name, (result, arguments) in _CALLS.items():
-                call = getattr(library, name)
-                call.restype, call.argtypes = result, arguments
-        except (OSError, AttributeError) as error:  # AttributeError: an older library, without a call
+        except OSError as error:
             trouble.append(str(error))
             continue
+        missing = [name for name in _CALLS if not hasattr(library, name)]
+        if missing:
+            trouble.append("%s is older than this file: it has no %s" % (path, ", ".join(missing)))
+            continue
+        for name, (result, arguments) in _CALLS.items():
+            call = getattr(library, name)
+            call.restype, call.argtypes = result, arguments
         if library.hive_abi() in INTERFACES:
             return library
         trouble.append("%s has interface %d, and this file knows %s" % (path, library.hive_abi(), INTERFACES))
@@ -302,12 +309,25 @@ class Deleted(NamedTuple):
 
 class Repair(NamedTuple):
     """What a repair did. clean: nothing was to be done. pages: how many pages the log holds. written: whether the file was repaired.
-    report: what the check says of the repaired hive, or None where it refuses it, with `refused`."""
+    report: what the check says of the repaired hive, or None where it refuses it, with `refused`. lengthened: how long the file became, or would,
+    or None. logs: of those that were given, which were used, by their positions."""
     clean: bool
     pages: int
     written: bool
     report: Optional[Report]
     refused: Optional[Refused]
+    lengthened: Optional[int] = None
+    logs: Tuple[int, ...] = (0,)
+
+
+class Log(NamedTuple):
+    """What a log says of itself. entries: how many count in a log of Windows 8.1 and later; 0 for an older format. first, last: its number, and that of the
+    last entry that counts. end: where that entry ends (512 where there are none). bins: how long the bins data of the hive have to be."""
+    entries: int
+    first: int
+    last: int
+    end: int
+    bins: int
 
 
 # ---- the hive
@@ -461,8 +481,8 @@ class Key:
 
 
 class Hive:
-    """A hive in memory: the file of that name, or bytes that are lent. With a log, also a name or bytes, it is read as its log would repair it;
-    nothing is written, not even to the bytes that were lent.
+    """A hive in memory: the file of that name, or bytes that are lent. With a log, also a name or bytes, or a list of two, it is read as its log would
+    repair it; nothing is written, not even to the bytes that were lent. `grow`: where the log wants a longer hive, it is lengthened with zeros.
 
     >>> Hive("spoilt").check()
     Traceback (most recent call last):
@@ -472,11 +492,11 @@ class Hive:
     True
     """
 
-    def __init__(self, source: Source, log: Optional[Source] = None) -> None:
+    def __init__(self, source: Source, log: Optional[Sources] = None, *, grow: bool = False) -> None:
         owner = _contents(source)
         if log is not None:
             owner = owner if isinstance(source, (str, os.PathLike)) else bytearray(owner)
-            _recover(owner, _contents(log))
+            owner = _recover(_choose(owner, log, grow))
         self._lent = _Lent(owner)
         self._memory = self._lent.memory
         self._view = memoryview(owner).cast("B").toreadonly()
@@ -580,15 +600,83 @@ class Hive:
 
 # ---- the repair
 
-def _recover(hive: bytearray, log: Any) -> None:
-    """All of the repair, in memory alone."""
-    own, lent = _Lent(hive, writable=True), _Lent(log)
-    both = own.memory + lent.memory
-    started = _library.hive_recover_start(*both)
-    _allow(started.answer)
-    if started.state == DONE:
-        _allow(_library.hive_recover_all(*both).answer)
-        _allow(_library.hive_recover_close(*both).answer)
+def log_facts(log: Source) -> Log:
+    """What a log says of itself, by the proved library; a log that is none is Refused.
+
+    >>> log_facts("new-log")[:3]
+    (4, 7, 10)
+    """
+    lent = _Lent(_contents(log))
+    facts = _library.hive_recover_log(*lent.memory)
+    _allow(facts.answer)
+    return Log(facts.entries, facts.first, facts.last, facts.end, facts.bins)
+
+
+class _Start:
+    """A hive and the log that it is to be repaired with; which of the given logs that is; whether the hive was lengthened; what the library's start says."""
+
+    def __init__(self, hive: bytearray, log: Any, logs: Tuple[int, ...], grown: bool) -> None:
+        self.hive, self.log, self.logs, self.grown = hive, log, logs, grown
+        self._own, self._lent = _Lent(hive, writable=True), _Lent(log)
+        self.both = self._own.memory + self._lent.memory
+        self.started = _library.hive_recover_start(*self.both)
+
+    def refused(self, number: Optional[int] = None) -> bool:
+        return self.started.state == REFUSED and number in (None, self.started.answer.number)
+
+
+def _own_facts(log: Any) -> Optional[Log]:
+    try:
+        return log_facts(log)
+    except Refused:
+        return None
+
+
+def _tries(logs: List[Any]) -> Iterator[Tuple[Any, Tuple[int, ...]]]:
+    """Each log to try, and which of the given ones it is. Where one goes on where the other ends: both as one log, the one up to its end and the other from
+    its first entry on, and then the later alone, for the hive may hold the earlier already. Else each alone, the later first."""
+    facts = [_own_facts(log) for log in logs]
+    order = sorted(range(len(logs)), key=lambda i: (facts[i] is None, -facts[i].last if facts[i] else 0))
+    if len(logs) == 2 and all(f is not None and f.entries > 0 for f in facts):
+        later, earlier = order
+        if facts[earlier].last + 1 == facts[later].first:
+            head, more = memoryview(logs[earlier]).cast("B")[:facts[earlier].end], memoryview(logs[later]).cast("B")[SECTOR:facts[later].end]
+            yield bytes(head) + bytes(more), (earlier, later)
+            order = [later]
+    for i in order:
+        yield logs[i], (i,)
+
+
+def _lengthened(start: _Start) -> _Start:
+    """Of a start that is refused for the hive's length: that of a copy with zeros behind it, which take no memory until they are written."""
+    longer: Any = mmap.mmap(-1, 4096 + log_facts(start.log).bins)
+    longer[:len(start.hive)] = start.hive
+    return _Start(longer, start.log, start.logs, True)
+
+
+def _choose(hive: bytearray, log: Sources, grow: bool) -> _Start:
+    """The first log that the library's start accepts; with `grow` also on a hive that is lengthened with zeros. Where none is, Refused, for the first."""
+    first: Optional[_Answer] = None
+    for data, logs in _tries([_contents(one) for one in (log if isinstance(log, (list, tuple)) else [log])]):
+        start = _Start(hive, data, logs, False)
+        answer = start.started.answer
+        if start.refused(SHORT):
+            longer = _lengthened(start)
+            if not longer.refused() and not grow:
+                raise _refusal(answer.number, answer.place, answer.key)
+            start, answer = (longer, longer.started.answer) if grow else (start, answer)
+        if not start.refused():
+            return start
+        first = first or answer
+    raise _refusal(first.number, first.place, first.key) if first is not None else ValueError("no log")
+
+
+def _recover(start: _Start) -> bytearray:
+    """All of the repair, in memory alone: the hive, lengthened where that was asked for."""
+    if start.started.state == DONE:
+        _allow(_library.hive_recover_all(*start.both).answer)
+        _allow(_library.hive_recover_close(*start.both).answer)
+    return start.hive
 
 
 def _store(fd: int, data: Any, at: int) -> None:
@@ -651,54 +739,61 @@ def _checked(hive: bytearray) -> Tuple[Optional[Report], Optional[Refused]]:
         return None, refused
 
 
-def _rehearse(hive: bytearray, both: Tuple[Any, ...]) -> Tuple[Optional[Report], Optional[Refused]]:
+def _rehearse(start: _Start) -> Tuple[Optional[Report], Optional[Refused]]:
     """What will come out, before the first write: all pages in, closed, checked; then open again, for no page is stored after a closing call."""
-    _allow(_library.hive_recover_all(*both).answer)
-    first = bytes(hive[:SECTOR])
-    _allow(_library.hive_recover_close(*both).answer)
-    answer = _checked(hive)
-    hive[:SECTOR] = first
+    _allow(_library.hive_recover_all(*start.both).answer)
+    first = bytes(start.hive[:SECTOR])
+    _allow(_library.hive_recover_close(*start.both).answer)
+    answer = _checked(start.hive)
+    start.hive[:SECTOR] = first
     return answer
 
 
-def _write_out(fd: int, hive: bytearray, both: Tuple[Any, ...]) -> None:
-    """The pages, a sync, the closing sector, a sync: the closing sector goes out only when all pages are on the disk."""
-    mark = _library.hive_recover_mark(*both[2:], 0)
-    while mark.state == THERE:
-        _store(fd, hive[mark.to:mark.to + SECTOR], mark.to)
-        mark = _library.hive_recover_mark(*both[2:], mark.page + 1)
+def _marked(start: _Start) -> Iterator[int]:
+    """The pages that the log holds, rising. No log that is accepted has more pages than the hive."""
+    marks = bytearray(len(start.hive) // 4096)
+    lent = _Lent(marks, writable=True)
+    _allow(_library.hive_recover_mark_pages(*start.both[2:], *lent.memory).answer)
+    return (8 * at + bit for at, byte in enumerate(marks) if byte for bit in range(8) if byte >> bit & 1)
+
+
+def _write_out(fd: int, start: _Start) -> None:
+    """Where it is to grow, the file's length and a sync; the pages, a sync, the closing sector, a sync: it goes out only when all pages are on the disk."""
+    pages = _marked(start)
+    if start.grown:
+        os.ftruncate(fd, len(start.hive))
+        os.fsync(fd)
+    for page in pages:
+        at = 4096 + SECTOR * page
+        _store(fd, start.hive[at:at + SECTOR], at)
     os.fsync(fd)
-    _allow(_library.hive_recover_close(*both).answer)
-    _store(fd, hive[:SECTOR], 0)
+    _allow(_library.hive_recover_close(*start.both).answer)
+    _store(fd, start.hive[:SECTOR], 0)
     os.fsync(fd)
 
 
-def _run(fd: int, hive: bytearray, log: Any, backup: Optional[str], dry_run: bool, anyway: bool) -> Repair:
-    own, lent = _Lent(hive, writable=True), _Lent(log)
-    both = own.memory + lent.memory
-    started = _library.hive_recover_start(*both)
-    _allow(started.answer)
-    if started.state == CLEAN:
+def _run(fd: int, start: _Start, backup: Optional[str], dry_run: bool, anyway: bool) -> Repair:
+    if start.started.state == CLEAN:
         if not dry_run:  # the run before may have been cut before its last sync
-            _store(fd, hive[:SECTOR], 0)
+            _store(fd, start.hive[:SECTOR], 0)
             os.fsync(fd)
-        return Repair(True, 0, False, Hive(hive).check(), None)
-    report, refused = _rehearse(hive, both)
+        return Repair(True, 0, False, Hive(start.hive).check(), None, None, ())
+    report, refused = _rehearse(start)
     if refused is not None and (dry_run or not anyway):
         raise Unsound(*refused.args)
     if not dry_run:
         if backup is not None:
             _back_up(fd, backup)
-        _write_out(fd, hive, both)
-    return Repair(False, started.pages, not dry_run, report, refused)
+        _write_out(fd, start)
+    return Repair(False, start.started.pages, not dry_run, report, refused, len(start.hive) if start.grown else None, start.logs)
 
 
-def repair(path: Union[str, "os.PathLike[str]"], log: Source, *, backup: Optional[Union[str, "os.PathLike[str]"]] = None, dry_run: bool = False,
-           anyway: bool = False) -> Repair:
-    """Repairs the hive in place with its old-format log, as `hive repair` does: the whole repair in memory first; then, under a lock, the pages are
-    stored and synced, and the first sector is stored and synced. A power failure at any moment leaves a file that the same call repairs: after
-    an OSError, or in doubt, keep the log and call again. `backup` names a new file that the hive is copied to first. What the check would
-    refuse afterwards raises Unsound, and nothing is written, unless `anyway`.
+def repair(path: Union[str, "os.PathLike[str]"], log: Sources, *, backup: Optional[Union[str, "os.PathLike[str]"]] = None, dry_run: bool = False,
+           anyway: bool = False, grow: bool = False) -> Repair:
+    """Repairs the hive in place with its log, of either format, or with its two logs in a list, as `hive repair` does: the whole repair in memory first;
+    then, under a lock, the pages are stored and synced, and the first sector is stored and synced. A power failure at any moment leaves a file that the
+    same call repairs: after an OSError, or in doubt, keep the log and call again. `backup` names a new file that the hive is copied to first. What the check
+    would refuse afterwards raises Unsound, and nothing is written, unless `anyway`. `grow`: where the log wants a longer file, it is lengthened with zeros.
 
     >>> repair("spoilt", "log", dry_run=True).pages
     8
@@ -710,6 +805,6 @@ def repair(path: Union[str, "os.PathLike[str]"], log: Source, *, backup: Optiona
             fcntl.flock(fd, fcntl.LOCK_EX | fcntl.LOCK_NB)
         if not stat.S_ISREG(os.fstat(fd).st_mode) and not stat.S_ISBLK(os.fstat(fd).st_mode):
             raise OSError("%s is a pipe or a terminal; repair wants a file" % name)
-        return _run(fd, _read(fd), _contents(log), None if backup is None else os.fspath(backup), dry_run, anyway)
+        return _run(fd, _choose(_read(fd), log, grow), None if backup is None else os.fspath(backup), dry_run, anyway)
     finally:
         os.close(fd)

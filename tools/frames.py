@@ -8,7 +8,7 @@ import os
 import struct
 
 import hives
-from hives import BASE, Builder, Key, Refused, Value, edited, old_log, torn, u32, with_xor
+from hives import BASE, Builder, Key, Refused, Value, changed, edited, entry, new_log, old_log, torn, u32, with_xor
 
 LONGEST = 20480
 HIVE, LOG, PATH = 1, 2, 3
@@ -578,6 +578,225 @@ def bad_logs(good, dirty, whole, page0):
     log(old_log(edited(large, (40, word(4096))), {}), "repaired 0")
 
 
+# ---- logs of Windows 8.1 and later
+
+NUMBER = 9
+
+
+def pages_of(good, *numbers):
+    """References to pages of a hive, each with its bytes."""
+    return [(512 * p, bytes(good[BASE + 512 * p:BASE + 512 * p + 512])) for p in numbers]
+
+
+def numbered(hive, first, second):
+    return edited(hive, (4, word(first)), (8, word(second)))
+
+
+def broken_entries(number, bins, refs):
+    """An entry with one clause of the ruling broken, its hashes renewed where it is not they: (what, entry). refs has two pages or more."""
+    e = entry(number, bins, refs, size=2048)
+    yield "signature", changed(e, (0, b"Hvle"))
+    yield "size 0", bytes(e[:4]) + word(0) + bytes(e[8:])
+    yield "size not a multiple", changed(e + bytes(8), (4, word(len(e) + 8)))
+    yield "size half a sector more", changed(e + bytes(256), (4, word(len(e) + 256)))
+    yield "size too small for its pages", changed(e[:1024], (4, word(1024)))
+    yield "size past the log", changed(e, (4, word(len(e) + 512)))
+    yield "size near 2^32", changed(e, (4, word(2**32 - 512)))
+    yield "Hash-1", bytes(e[:24]) + bytes([e[24] ^ 1]) + bytes(e[25:32]) + struct.pack("<Q", hives.marvin(bytes(e[:24]) + bytes([e[24] ^ 1]) + bytes(e[25:32]))) + bytes(e[40:])
+    yield "Hash-2", bytes(e[:39]) + bytes([e[39] ^ 0x80]) + bytes(e[40:])
+    yield "a byte of a page", bytes(e[:700]) + bytes([e[700] ^ 1]) + bytes(e[701:])
+    yield "a byte of padding", bytes(e[:-1]) + b"?"
+    yield "number one less", changed(e, (12, word(number - 1)))
+    yield "number one more", changed(e, (12, word(number + 1)))
+    for size in (0, 4095, 4096 + 512, 0x80000000, 0xFFFFF000):
+        yield "bins size %d" % size, changed(e, (16, word(size)))
+    for count in (3, 252, 0x20000000 + len(refs), 0xFFFFFFFF):
+        yield "count %d" % count, changed(e, (20, word(count)), *([(56, word(0) + word(1024))] if count == 3 else []))
+    yield "offset not aligned", changed(e, (40, word(256)))
+    yield "size not aligned", changed(e, (44, word(256)))
+    yield "past the bins by a page", changed(e, (48, word(bins)))
+    yield "past the bins with its end", changed(entry(number, bins, [(bins - 512, bytes(1024))], size=2048))
+    yield "offset near 2^32", changed(e, (48, word(2**32 - 512)))
+    yield "the same page twice", changed(e, (48, e[40:44]))
+    yield "overlap, not neighbours", entry(number, bins, [refs[0], refs[1], refs[0]])
+    yield "overlap by the second page of one", entry(number, bins, [(0, bytes(1024)), (512, bytes(512))])
+    yield "overlap inside one, falling", entry(number, bins, [(1024, bytes(512)), (0, bytes(2048))])
+
+
+def new_logs():
+    root = Key("Root", [Key("kept")])
+    good = Builder(root, stamp=0x1122334455667788).hive
+    bins = u32(good, 40)
+    dirty = numbered(good, NUMBER + 1, NUMBER)
+    lost = edited(dirty, (BASE + 32, bytes(300)))
+    kept = "key at %d" % root.subkeys[0].at
+    first = entry(NUMBER, bins, pages_of(good, 0, 7))
+    whole = new_log(good, [first])
+    # a clean hive answers clean, whatever the log
+    hive(good, "accepted bins 1 keys 2 values 0 used 192 free 3872")
+    log(whole, "clean")
+    # page 0 brings a tree back
+    refused(7, lost)
+    path("kept", "refused 7 at 0")
+    log(whole, "repaired 2")
+    path("kept", kept)
+    log(whole, "clean")
+    path("KEPT", kept)
+    # the vectors' entries: one without references, one of one page
+    refused(7, numbered(good, 6, 5))
+    log(new_log(good, [entry(5, 4096), entry(6, 4096, [(512, b"\xaa" * 512)])], 5), "repaired 1")
+    path("kept", kept)
+    for what, bad in broken_entries(NUMBER, bins, pages_of(good, 0, 7)):
+        refused(7, lost)
+        log(new_log(good, [bad]), "refused 22 at 0")
+        log(whole, "repaired 2")
+    for what, bad in broken_entries(NUMBER + 1, bins, pages_of(good, 1, 2)):
+        behind = [] if what == "size past the log" else [entry(NUMBER + 1, bins, pages_of(good, 3)), entry(NUMBER + 2, bins, pages_of(good, 4))]
+        refused(7, lost)
+        log(new_log(good, [first, bad] + behind), "repaired 2")
+        path("kept", kept)
+    not_faults(good, dirty, first)
+    new_numbers(good, lost, kept)
+    new_sizes(good)
+    new_stamps(good)
+    new_bases(good, dirty, whole)
+
+
+def not_faults(good, dirty, first):
+    """What the request lists no fault for."""
+    bins, second = u32(good, 40), NUMBER + 1
+    page, none = pages_of(good, 3)[0], (1024, b"")
+    two = [pages_of(good, 1)[0], pages_of(good, 2)[0]]
+    for refs, count in (([], 2), ([none], 2), ([page, (1536, b"")], 3), ([(0, bytes(good[BASE:BASE + 1024])), (512, b""), (0, b"")], 3), ([(bins, b"")], 2),
+                        (list(reversed(two)), 4), ([(512, two[0][1] + two[1][1])], 4), (pages_of(good, 0, 7), 2), ([none] * 58 + [page], 3),
+                        ([page] + [none] * 58, 3), ([none] * 57 + [page], 3), ([none] * 59, 2)):
+        refused(7, dirty)
+        log(new_log(good, [first, entry(second, bins, refs)]), "repaired %d" % count)
+    for offset in (256, bins + 512, 2**32 - 512):
+        refused(7, dirty)
+        log(new_log(good, [first, entry(second, bins, [page, (offset, b"")])]), "repaired 2")
+    for made in (entry(second, bins, two, flags=0xFFFFFFFF), entry(second, bins, two, padding=b"\xa5"), entry(second, bins, two, size=4096, padding=b"H")):
+        refused(7, dirty)
+        log(new_log(good, [first, made]), "repaired 4")
+        refused(7, dirty)
+        log(new_log(good, [first, bytes(made[:-1]) + b"?"]), "repaired 2")
+    # old entries behind, and a gap
+    for behind in ([entry(NUMBER - 1, bins, two)], [entry(NUMBER, bins, two)], [bytes(512), entry(second, bins, two)], [b"HvLE"], [bytes(39)], [b"HvLE" + word(512)]):
+        refused(7, dirty)
+        log(new_log(good, [first] + behind), "repaired 2")
+    # cut: here at each length about a boundary
+    both = new_log(good, [first, entry(second, bins, two)])
+    ends = (512, 512 + len(first), len(both))
+    for end in sorted({max(0, e + d) for e in ends for d in (-513, -512, -511, -1, 0, 1, 4, 39, 40, 41, 511) if e + d <= len(both)}):
+        refused(7, dirty)
+        log(both[:end], "refused 21 at 0" if end < 512 else "refused 22 at 0" if end < ends[1] else "repaired %d" % (2 if end < ends[2] else 4))
+
+
+def new_numbers(good, lost, kept):
+    """The log's number, and the hive's second one. Its first is not read."""
+    bins = u32(good, 40)
+    for number in (NUMBER - 1, NUMBER, NUMBER + 1, 0, 2**32 - 1):
+        h = numbered(lost, 12345, number)
+        refused(7, h)
+        log(new_log(good, [entry(NUMBER, bins, pages_of(good, 0)), entry(NUMBER + 1, bins, pages_of(good, 1))]), "repaired 2" if number == NUMBER else "refused 25 at 0")
+        path("kept", kept if number == NUMBER else "refused 7 at 0")
+        refused(7, numbered(lost, NUMBER, number ^ 1 << 31))
+        log(new_log(good, [entry(NUMBER, bins, pages_of(good, 0))]), "refused 25 at 0")
+    # nothing follows 2^32 - 1
+    last = 2**32 - 1
+    refused(7, numbered(lost, 0, last))
+    log(new_log(good, [entry(last, bins, pages_of(good, 0)), entry(0, bins, pages_of(good, 1))], last), "repaired 1")
+    path("kept", kept)
+    refused(7, numbered(lost, 0, last - 1))
+    log(new_log(good, [entry(last - 1, bins, pages_of(good, 0)), entry(last, bins, pages_of(good, 1)), entry(0, bins, pages_of(good, 2))], last - 1), "repaired 2")
+    # the stamps are not read where the hive is usable
+    refused(7, edited(numbered(lost, 1, NUMBER), (12, b"?"), (BASE + 20, b"?")))
+    log(new_log(good, [entry(NUMBER, bins, pages_of(good, 0))]), "repaired 1")
+    path("kept", kept)
+
+
+def new_sizes(good):
+    """Growth and shrinkage: 24 reads the largest counted bins size, the closing sector has the last."""
+    root = Key("R", values=[Value("v", b"x" * 4000)])
+    large = Builder(root, stamp=0x1122334455667788).hive
+    assert u32(large, 40) == 8192
+    small = numbered(edited(good, (40, word(4096))), 1, NUMBER)
+    grown = [entry(NUMBER, 4096, pages_of(large, 0)), entry(NUMBER + 1, 8192, pages_of(large, *range(1, 16)))]
+    for h in (small, bytes(small) + bytes(4095)):
+        refused(7, h)
+        log(new_log(good, grown), "refused 24 at 0")
+        log(new_log(good, [grown[0]]), "repaired 1")
+    refused(7, bytes(small) + bytes(4096))
+    log(new_log(edited(large, (40, word(4096))), grown), "repaired 16")
+    path("", "key at %d" % root.at)
+    path("kept", "refused 17 at 0")
+    # the base block's own size is only tested by 21
+    for size in (4096, 8192, 12288, 0x7FFFF000):
+        refused(7, bytes(small) + bytes(4096))
+        log(new_log(edited(large, (40, word(size))), grown), "repaired 16")
+    # a page past the last bins size counts and goes in
+    shrunk = [entry(NUMBER, 8192, [(7680, b"y" * 512)]), entry(NUMBER + 1, 4096, pages_of(good, 0))]
+    refused(7, bytes(small) + bytes(4095))
+    log(new_log(large, shrunk), "refused 24 at 0")
+    refused(7, bytes(small) + bytes(4096))
+    log(new_log(large, shrunk), "repaired 2")
+    path("kept", "key at 120")
+    # outside this entry's bins, inside another's
+    refused(7, bytes(small) + bytes(4096))
+    log(new_log(large, [shrunk[0], entry(NUMBER + 1, 4096, pages_of(large, 8))]), "repaired 1")
+    path("kept", "key at 120")
+
+
+def new_stamps(good):
+    """A hive that is not usable: the first bin's stamp, and that of every version of page 0."""
+    bins, page = u32(good, 40), bytes(good[BASE:BASE + 512])
+    other = page[:20] + bytes([page[20] ^ 1]) + page[21:]
+    spoilt = bytearray(numbered(good, NUMBER + 1, NUMBER))
+    spoilt[508] ^= 1
+    usable = numbered(good, NUMBER + 1, NUMBER)
+    for wrong in (None, 0, 1, 2):
+        made = new_log(good, [entry(NUMBER + k, bins, [(0, other if k == wrong else page), (512 * (k + 1), bytes(512))]) for k in range(3)])
+        refused(3, spoilt)
+        log(made, "repaired 4" if wrong is None else "refused 25 at 0")
+        refused(2, bytes(BASE) + spoilt[BASE:])
+        log(made, "repaired 4" if wrong is None else "refused 25 at 0")
+        refused(7, usable)
+        log(made, "repaired 4")
+        refused(3, spoilt[:BASE + 27] + bytes([spoilt[BASE + 27] ^ 1]) + spoilt[BASE + 28:])
+        log(made, "refused 25 at 0")
+    # page 0 is not logged; its bytes are part of a longer reference
+    refused(3, spoilt)
+    log(new_log(good, [entry(NUMBER, bins, [(512, other)])]), "repaired 1")
+    refused(3, spoilt)
+    log(new_log(good, [entry(NUMBER, bins, [(0, other + page)])]), "refused 25 at 0")
+    refused(3, spoilt)
+    log(new_log(good, [entry(NUMBER, bins, [(0, page + other)])]), "repaired 2")
+    # the number is not read then
+    refused(3, spoilt)
+    log(new_log(good, [entry(77, bins, [(0, page)])], 77), "repaired 1")
+
+
+def new_bases(good, dirty, whole):
+    """21, and what the closing sector keeps."""
+    bins = u32(good, 40)
+    refused(7, dirty)
+    for l in (whole[:511], edited(whole, (0, b"x")), whole[:508] + b"????" + whole[512:], edited(whole, (28, word(7))), edited(whole, (28, word(0x106))), edited(whole, (24, word(9))),
+              edited(whole, (40, word(0))), edited(whole, (40, word(100))), edited(whole, (40, word(0x80000000))), edited(whole, (4, word(1))), edited(whole, (8, word(1)))):
+        log(l, "refused 21 at 0")
+    log(whole[:512], "refused 22 at 0")
+    for kind in (1, 2):
+        log(edited(whole, (28, word(kind))), "refused 23 at 0")
+    log(edited(old_log(good, {0: bytes(512)}), (28, word(6))), "refused 22 at 0")
+    path("", "refused 7 at 0")
+    # entries before the log's own number are none of its own
+    log(edited(whole, (4, word(NUMBER + 1)), (8, word(NUMBER + 1))), "refused 22 at 0")
+    log(edited(whole, (36, word(120))), "repaired 2")
+    path("", "key at 120")
+    for xor, stored, right in STORED:
+        refused(7, dirty)
+        log(with_xor(whole, xor, stored), "repaired 2" if right else "refused 21 at 0")
+
+
 def sum_used(h):
     _, _, used, free = hives.tile(hives.open_hive(h))
     return used, free
@@ -629,7 +848,7 @@ def hold(name, data, said):
 
 
 def main():
-    for part in (begin, bases, checksums, tilings, keys, lists, values, paths, logs):
+    for part in (begin, bases, checksums, tilings, keys, lists, values, paths, logs, new_logs):
         part()
     stream.extend(struct.pack("<IH", 0xFFFFFFFF, PATH))
     lines.append("bad frame")

@@ -1,9 +1,10 @@
-"""Hives and old logs in plain Python: a builder, and a reading of document 01 that owes nothing to the Rattle code.
+"""Hives and logs in plain Python: a builder, and a reading of document 01 that owes nothing to the Rattle code.
 
 The other scripts of this folder import it. "The paper" is document 01; a number in brackets is the ruling of
 docs/DECISIONS.md that a line follows. Standard library only."""
 import struct
 import sys
+from collections import namedtuple
 
 sys.setrecursionlimit(10000)
 
@@ -21,6 +22,10 @@ def u16(b, i):
 
 def u32(b, i):
     return b[i] | b[i + 1] << 8 | b[i + 2] << 16 | b[i + 3] << 24
+
+
+def u64(b, i):
+    return u32(b, i) | u32(b, i + 4) << 32
 
 
 def xor_of(block):
@@ -88,10 +93,11 @@ def block_fault(block, types):
         return 4
     if u32(block, 32) != 1 or u32(block, 44) != 1:
         return 4
-    size = u32(block, 40)
-    if size == 0 or size % 4096 or size > BINS_MOST:
-        return 5
-    return 0
+    return 0 if is_bins_size(u32(block, 40)) else 5
+
+
+def is_bins_size(size):
+    return 0 < size <= BINS_MOST and size % 4096 == 0
 
 
 def open_hive(hive):
@@ -479,10 +485,11 @@ def nth_value(hive, at, n):
     return reader.value(offsets[n])["at"] if n < len(offsets) else None
 
 
-# ---- the model: recovery from an old log
+# ---- the model: logs by themselves
 
-def is_clean(hive):
-    return block_fault(hive, (0,)) == 0 and u32(hive, 4) == u32(hive, 8)
+# What a log says: its first and last number; how many entries count, and where the last of them ends (of an old log, where they would start: 512); the bins size that 24 reads;
+# for each logged page the places of its versions in the log, in their order; the closing sector.
+Log = namedtuple("Log", "first last entries end bins versions closing")
 
 
 def set_bits(log):
@@ -494,48 +501,220 @@ def pages_start(log):
     return (516 + u32(log, 40) // 4096 + 511) // 512 * 512
 
 
-def start(hive, log):
-    """"clean" or the logged pages, or Refused."""
-    if len(hive) < BASE:
-        raise Refused(1)
-    if is_clean(hive):
-        return "clean"
-    if len(log) < 512 or block_fault(log, (1, 2)) or u32(log, 4) != u32(log, 8):
-        raise Refused(21)
+def closing(log, number, bins):
+    """The log's first sector with a number in both sequence fields, type 0, a bins size and the right checksum."""
+    block = bytearray(log[:512])
+    struct.pack_into("<II", block, 4, number, number)
+    struct.pack_into("<I", block, 28, 0)
+    struct.pack_into("<I", block, 40, bins)
+    return seal(block)
+
+
+def old_head(log):
+    """22 for the bitmap, and 23."""
     if len(log) < 516 + u32(log, 40) // 4096:
         raise Refused(22)
     if bytes(log[512:516]) != b"DIRT":
         raise Refused(23)
-    pages = set_bits(log)
-    if pages and len(log) < pages_start(log) + 512 * len(pages):
+
+
+def old_read(log):
+    old_head(log)
+    pages, at, number, bins = set_bits(log), pages_start(log), u32(log, 4), u32(log, 40)
+    if pages and len(log) < at + 512 * len(pages):
         raise Refused(22)
-    if len(hive) < BASE + u32(log, 40):
-        raise Refused(24)
+    return Log(number, number, 0, 512, bins, {p: [at + 512 * i] for i, p in enumerate(pages)}, closing(log, number, bins))
+
+
+SEED = 0x82EF4D887A4E55C5
+WORD = 2**32 - 1
+
+
+def rotl(x, n):
+    return (x << n | x >> (32 - n)) & WORD
+
+
+def marvin(data):
+    """Marvin32 with the seed of the logs: high word x 2^32 + low word."""
+    low, high, data = SEED & WORD, SEED >> 32, bytes(data)
+    whole = len(data) // 4
+    last = int.from_bytes(data[4 * whole:] + b"\x80", "little")
+    for word in struct.unpack_from("<%dI" % whole, data) + (last, 0):
+        low = (low + word) & WORD
+        high ^= low
+        low = (rotl(low, 20) + high) & WORD
+        high = rotl(high, 9) ^ low
+        low = (rotl(low, 27) + high) & WORD
+        high = rotl(high, 19)
+    return high << 32 | low
+
+
+def references(log, at):
+    """The page references of the entry at a place: (offset, size)."""
+    return [(u32(log, at + 40 + 8 * i), u32(log, at + 44 + 8 * i)) for i in range(u32(log, at + 20))]
+
+
+def are_placed(refs, bins):
+    """Aligned, inside the bins data, and no two with a byte in common; one of size 0 has none."""
+    if any(o % 512 or n % 512 or o + n > bins for o, n in refs):
+        return False
+    taken = sorted((o, o + n) for o, n in refs if n)
+    return all(end <= start for (_, end), (start, _) in zip(taken, taken[1:]))
+
+
+def is_entry(log, at, number):
+    """Whether an entry of that number stands at a place of a log, by every clause of the ruling."""
+    if len(log) < at + 40 or bytes(log[at:at + 4]) != b"HvLE":
+        return False
+    size, bins = u32(log, at + 4), u32(log, at + 16)
+    if size == 0 or size % 512 or len(log) < at + size:
+        return False
+    if u64(log, at + 24) != marvin(log[at + 40:at + size]) or u64(log, at + 32) != marvin(log[at:at + 32]):
+        return False
+    if u32(log, at + 12) != number or not is_bins_size(bins) or 40 + 8 * u32(log, at + 20) > size:
+        return False
+    refs = references(log, at)
+    return 40 + 8 * len(refs) + sum(n for _, n in refs) <= size and are_placed(refs, bins)
+
+
+def new_read(log):
+    at, number, bins, largest, versions = 512, u32(log, 4), 0, 0, {}
+    while is_entry(log, at, number):
+        bins, place = u32(log, at + 16), at + 40 + 8 * u32(log, at + 20)
+        for offset, size in references(log, at):
+            for i in range(0, size, 512):
+                versions.setdefault((offset + i) // 512, []).append(place + i)
+            place += size
+        at, number, largest = at + u32(log, at + 4), number + 1, max(largest, bins)
+    if at == 512:
+        raise Refused(22)
+    return Log(u32(log, 4), number - 1, number - u32(log, 4), at, largest, versions, closing(log, number - 1, bins))
+
+
+def log_type(log):
+    """21, and the log's type: 1 or 2, or 6 from Windows 8.1 on."""
+    if len(log) < 512 or block_fault(log, (1, 2, 6)) or u32(log, 4) != u32(log, 8):
+        raise Refused(21)
+    return u32(log, 28)
+
+
+def read_log(log):
+    """What a log says by itself, or Refused: 21, 22, 23, 22 for an old log, 21, 22 for a new one."""
+    return new_read(log) if log_type(log) == 6 else old_read(log)
+
+
+def logged(log, page, version=-1):
+    at = read_log(log).versions[page][version]
+    return bytes(log[at:at + 512])
+
+
+def log_facts(log):
+    """First and last number, entries that count, where the last ends, the bins size that 24 reads."""
+    return read_log(log)[:5]
+
+
+def next_page(log, start):
+    """The least logged page from one on and where its last version lies, None past the last, or Refused."""
+    versions = read_log(log).versions
+    page = min((p for p in versions if p >= start), default=None)
+    return None if page is None else (page, versions[page][-1])
+
+
+def next_mark(log, start):
+    """The least logged page from one on. An old log needs no pages for that."""
+    if log_type(log) == 6:
+        return (next_page(log, start) or (None,))[0]
+    old_head(log)
+    return min((p for p in set_bits(log) if p >= start), default=None)
+
+
+def mark_pages(log, marks):
+    """Sets the bits of the logged pages in `marks`, a bytearray, and clears the others; bytes past the log's pages stay. How many there are."""
+    read = read_log(log)
+    if len(marks) < read.bins // 4096:
+        raise Refused(8)
+    marks[:read.bins // 4096] = bytes(read.bins // 4096)
+    for page in read.versions:
+        marks[page // 8] |= 1 << page % 8
+    return len(read.versions)
+
+
+# ---- the model: recovery
+
+def is_clean(hive):
+    return block_fault(hive, (0,)) == 0 and u32(hive, 4) == u32(hive, 8)
+
+
+def applies(hive, log, read):
+    """25. A usable hive: an old log's stamp is its stamp, a new log's number its second number. Else the first bin's stamp is the log's, and so is that
+    of every version of page 0."""
     stamp = bytes(log[12:20])
     if block_fault(hive, (0,)) == 0:
-        if bytes(hive[12:20]) != stamp:
-            raise Refused(25)
-    else:
-        if bytes(hive[4116:4124]) != stamp:
-            raise Refused(25)
-        first = pages_start(log)
-        if pages and pages[0] == 0 and bytes(log[first + 20:first + 28]) != stamp:
-            raise Refused(25)
-    return pages
+        return u32(hive, 8) == u32(log, 4) if u32(log, 28) == 6 else bytes(hive[12:20]) == stamp
+    return bytes(hive[4116:4124]) == stamp and all(bytes(log[at + 20:at + 28]) == stamp for at in read.versions.get(0, []))
+
+
+def accepted(hive, log):
+    """"clean" or what the log says, or Refused."""
+    if len(hive) < BASE:
+        raise Refused(1)
+    if is_clean(hive):
+        return "clean"
+    read = read_log(log)
+    if len(hive) < BASE + read.bins:
+        raise Refused(24)
+    if not applies(hive, log, read):
+        raise Refused(25)
+    return read
+
+
+def start(hive, log):
+    """"clean" or the logged pages, rising, or Refused."""
+    read = accepted(hive, log)
+    return read if read == "clean" else sorted(read.versions)
+
+
+def put_page(hive, log, page, at):
+    hive[BASE + 512 * page:BASE + 512 * page + 512] = log[at:at + 512]
+
+
+def install(hive, log, page):
+    """The page call: "clean" or "done", or Refused."""
+    read = accepted(hive, log)
+    if read == "clean":
+        return read
+    if page not in read.versions:
+        raise Refused(26)
+    put_page(hive, log, page, read.versions[page][-1])
+    return "done"
+
+
+def all_pages(hive, log):
+    read = accepted(hive, log)
+    if read == "clean":
+        return read
+    for page, places in read.versions.items():
+        put_page(hive, log, page, places[-1])
+    return "done"
+
+
+def close(hive, log):
+    read = accepted(hive, log)
+    if read == "clean":
+        return read
+    if any(hive[BASE + 512 * p:BASE + 512 * p + 512] != log[at[-1]:at[-1] + 512] for p, at in read.versions.items()):
+        raise Refused(27)
+    hive[:512] = read.closing
+    return "done"
 
 
 def repair(hive, log):
-    """A whole repair of a bytearray: "clean" or the number of set bits, or Refused and nothing changed."""
+    """A whole repair of a bytearray: "clean" or the number of logged pages, or Refused and nothing changed."""
     pages = start(hive, log)
     if pages == "clean":
         return pages
-    at = pages_start(log)
-    for page in pages:
-        hive[BASE + 512 * page:BASE + 512 * page + 512] = log[at:at + 512]
-        at += 512
-    block = bytearray(log[:512])
-    struct.pack_into("<I", block, 28, 0)
-    hive[:512] = seal(block)
+    all_pages(hive, log)
+    close(hive, log)
     return len(pages)
 
 
@@ -749,3 +928,43 @@ def old_log(hive, pages, kind=1, sequence=9):
     for p in sorted(pages):
         log += pages[p]
     return bytearray(log)
+
+
+def rehash(entry):
+    """Puts the right hashes into an entry, or into the start of a part of a log that is one."""
+    struct.pack_into("<Q", entry, 24, marvin(entry[40:u32(entry, 4)]))
+    struct.pack_into("<Q", entry, 32, marvin(entry[:32]))
+    return entry
+
+
+def entry(number, bins, refs=(), size=None, flags=0, padding=b"\0"):
+    """An entry of a new log: refs are (offset in the bins data, bytes). Its size is the least, unless said."""
+    body = b"".join(struct.pack("<II", offset, len(data)) for offset, data in refs) + b"".join(data for _, data in refs)
+    size = (40 + len(body) + 511) // 512 * 512 if size is None else size
+    body += padding * (size - 40 - len(body))
+    return rehash(bytearray(struct.pack("<4sIIIII16x", b"HvLE", size, flags, number, bins, len(refs)) + body))
+
+
+def changed(made, *changes):
+    """A copy of an entry with (place, bytes) written, and its hashes renewed."""
+    e = bytearray(made)
+    for place, data in changes:
+        e[place:place + len(data)] = data
+    return rehash(e)
+
+
+def new_log(hive, entries, sequence=9):
+    """A log of Windows 8.1 and later for a hive, with its stamp: entries one behind the other."""
+    head = bytearray(hive[:512])
+    struct.pack_into("<II", head, 4, sequence, sequence)
+    struct.pack_into("<I", head, 28, 6)
+    return bytearray(seal(head) + b"".join(bytes(e) for e in entries))
+
+
+# Vectors: the empty message, short ones, the head of an entry that Windows wrote, and two whole entries.
+for message, wanted in ((b"", 0xB39EFCA403966E08), (b"a", 0x21A013C726F292F4), (b"HvLE", 0x914527932CF336DD),
+                        (bytes.fromhex("48764C45002E0000000000008300000000000700020000001DD9B16DB892AE9E"), 0xB41DC2E43017E264)):
+    assert marvin(message) == wanted
+for made, wanted in ((entry(5, 4096), (0xB16122D0C0639ACC, 0x8AA092E04C7D61E9)),
+                     (entry(6, 4096, [(512, b"\xaa" * 512)]), (0x7DF148EB5A4FB095, 0xEE6A3A14EBB3F2A6))):
+    assert (u64(made, 24), u64(made, 32)) == wanted and is_entry(bytes(512) + made, 512, u32(made, 12))

@@ -1,4 +1,5 @@
-"""The hives of docs/COMING-FROM.md: python3 tools/samples.py DIR makes SYSTEM; TORN with its TORN.LOG, a store that was cut; BAD, a cell of an
+"""The hives of docs/COMING-FROM.md: python3 tools/samples.py DIR makes SYSTEM; TORN with its TORN.LOG, a store that was cut; NEW with its NEW.LOG1 and
+NEW.LOG2, the same with logs of Windows 8.1 and later; BAD, a cell of an
 impossible size; CUT, a file that ends early; DELETED, whose key `gone` and its value lie in free cells. Other readers ask for what the paper does
 not: a security item for every key, and a mark on the root. Standard library only."""
 import os
@@ -67,7 +68,10 @@ def main(folder):
     bad = bytearray(good)
     struct.pack_into("<i", bad, 4096 + 32, -13)
     log = hives.old_log(good, {page: bytes(good[4096 + 512 * page:4608 + 512 * page]) for page in (0, 1, 2)})
-    for name, data in (("SYSTEM", good), ("TORN", torn), ("TORN.LOG", log), ("BAD", bad), ("CUT", good[:-1024]), ("DELETED", deleted())):
+    pages = [(512 * page, bytes(good[4096 + 512 * page:4608 + 512 * page])) for page in range(3)]
+    new = hives.edited(torn, (4, struct.pack("<II", 9, 5)))
+    logs = [hives.new_log(good, [hives.entry(5, 4096, [(512, bytes(512))]), hives.entry(6, 4096, pages[:2])], 5), hives.new_log(good, [hives.entry(7, 4096, pages[1:])], 7)]
+    for name, data in (("SYSTEM", good), ("TORN", torn), ("TORN.LOG", log), ("NEW", new), ("NEW.LOG1", logs[0]), ("NEW.LOG2", logs[1]), ("BAD", bad), ("CUT", good[:-1024]), ("DELETED", deleted())):
         with open(os.path.join(folder, name), "wb") as file:
             file.write(data)
 

@@ -299,3 +299,79 @@ uint8_t *spoilt(const Made *good, const uint32_t *pages, size_t count)
     reseal(old);
     return old;
 }
+
+static uint32_t turned(uint32_t x, int by)
+{
+    return x << by | x >> (32 - by);
+}
+
+static void mix(uint32_t *low, uint32_t *high, uint32_t word)
+{
+    *low += word;
+    *high ^= *low;
+    *low = turned(*low, 20) + *high;
+    *high = turned(*high, 9) ^ *low;
+    *low = turned(*low, 27) + *high;
+    *high = turned(*high, 19);
+}
+
+uint64_t marvin(const uint8_t *message, size_t length)
+{
+    uint32_t low = 0x7a4e55c5, high = 0x82ef4d88, last = 0x80;
+    for (size_t i = 0; i + 4 <= length; i += 4)
+        mix(&low, &high, get32(message + i));
+    for (size_t i = length; i > length / 4 * 4; i--)
+        last = last << 8 | message[i - 1];
+    mix(&low, &high, last);
+    mix(&low, &high, 0);
+    return (uint64_t)high << 32 | low;
+}
+
+static void put64(uint8_t *at, uint64_t n)
+{
+    put32(at, (uint32_t)n);
+    put32(at + 4, (uint32_t)(n >> 32));
+}
+
+void rehash(uint8_t *entry)
+{
+    put64(entry + 24, marvin(entry + 40, get32(entry + 4) - 40));
+    put64(entry + 32, marvin(entry, 32));
+}
+
+Log new_log(const Made *good, uint32_t number)
+{
+    Log log = {malloc(512), 512};
+    if (log.at == NULL)
+        abort();
+    memcpy(log.at, good->file, 512);
+    put32(log.at + 4, number);
+    put32(log.at + 8, number);
+    put32(log.at + 28, 6);
+    reseal(log.at);
+    return log;
+}
+
+void add_entry(Log *log, uint32_t number, const Made *good, const uint32_t *pages, size_t count, enum Version version)
+{
+    size_t size = (40 + 520 * count + 511) / 512 * 512;
+    uint8_t *at = log->at = realloc(log->at, log->length + size), *e = at + log->length;
+    if (at == NULL)
+        abort();
+    memset(e, 0, size);
+    memcpy(e, "HvLE", 4);
+    put32(e + 4, (uint32_t)size);
+    put32(e + 12, number);
+    put32(e + 16, (uint32_t)good->bins);
+    put32(e + 20, (uint32_t)count);
+    for (size_t i = 0; i < count; i++) {
+        uint8_t *to = e + 40 + 8 * count + 512 * i;
+        put32(e + 40 + 8 * i, 512 * pages[i]);
+        put32(e + 44 + 8 * i, 512);
+        memcpy(to, good->file + 4096 + 512 * pages[i], 512);
+        if (version == OLDER)
+            memset(to + 200, 0xdd, 100);
+    }
+    rehash(e);
+    log->length += size;
+}

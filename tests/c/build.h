@@ -44,6 +44,13 @@ typedef struct {
 } Log;
 Log made_log(const Made *good, const uint32_t *pages, size_t count);
 
+/* A log of Windows 8.1 and later: its first sector, of that number; then entries, with those pages of a file. A page of an older version differs in its middle. */
+enum Version { LAST, OLDER };
+uint64_t marvin(const uint8_t *message, size_t length);
+void rehash(uint8_t *entry);
+Log new_log(const Made *good, uint32_t number);
+void add_entry(Log *log, uint32_t number, const Made *good, const uint32_t *pages, size_t count, enum Version version);
+
 /* The state before: those pages are overwritten, and the sequence numbers differ. */
 uint8_t *spoilt(const Made *good, const uint32_t *pages, size_t count);
 

@@ -1,30 +1,10 @@
 /* Every export: nothing lent, short and random input, each refusal, and the data it gives. What is lent ends at an unreadable page. */
 #include <stdlib.h>
 #include <string.h>
-#include <sys/mman.h>
 
 #include "build.h"
 #include "expect.h"
-
-/* A copy that ends where an unreadable page starts. Each of the few slots is used again and again. */
-enum { SLOTS = 4, ROOM = 1 << 20 };
-static uint8_t *slot_end[SLOTS];
-
-static uint8_t *lend(int slot, const void *from, size_t length)
-{
-    if (slot_end[slot] == NULL) {
-        uint8_t *p = mmap(NULL, ROOM + 4096, PROT_READ | PROT_WRITE, MAP_PRIVATE | MAP_ANONYMOUS, -1, 0);
-        if (p == MAP_FAILED || mprotect(p + ROOM, 4096, PROT_NONE) != 0)
-            abort();
-        slot_end[slot] = p + ROOM;
-    }
-    if (length > ROOM)
-        abort();
-    uint8_t *p = slot_end[slot] - length;
-    if (length > 0)
-        memcpy(p, from, length);
-    return p;
-}
+#include "lend.h"
 
 static size_t units(const char *text, uint16_t *out)
 {
@@ -167,6 +147,8 @@ static void t_nothing(void)
     EXPECT(is(hive_recover_next(NULL, 0, 0).answer, 21, 0));
     EXPECT(is(hive_recover_all(NULL, 0, NULL, 0).answer, 1, 0));
     EXPECT(is(hive_recover_mark(NULL, 0, 0).answer, 21, 0));
+    EXPECT(is(hive_recover_mark_pages(NULL, 0, NULL, 0).answer, 21, 0));
+    EXPECT(is(hive_recover_log(NULL, 0).answer, 21, 0));
     Made m = sample();
     size_t n = made_length(&m);
     EXPECT(is(hive_check(m.file, n, NULL, 0).answer, 8, 0));
@@ -200,6 +182,9 @@ static void all_calls(const uint8_t *bytes, size_t length)
     EXPECT(hive_recover_start(h, length, l, length).answer.key == NO_KEY);
     EXPECT(hive_recover_next(l, length, 0).answer.key == NO_KEY);
     EXPECT(hive_recover_mark(l, length, 0).answer.key == NO_KEY);
+    EXPECT(hive_recover_mark_pages(h, length, l, length).answer.key == NO_KEY);
+    EXPECT(hive_recover_log(h, length).answer.key == NO_KEY);
+    l = lend(1, bytes, length);
     EXPECT(hive_recover_all(h, length, l, length).answer.key == NO_KEY);
     for (size_t page = 0; page < 3; page++)
         EXPECT(hive_recover_page(h, length, l, length, page * 0x7fffffffffffffffu).answer.key == NO_KEY);
@@ -1026,7 +1011,7 @@ static void t_log_refusals(void)
     size_t n = made_length(&m);
     uint8_t *file = spoilt(&m, PAGES, COUNT);
     static const struct { uint32_t at, n, number; } changes[] = {
-        {0, 0, 21}, {28, 0, 21}, {28, 2, 0}, {28, 6, 21}, {8, 6, 21}, {40, 0, 21}, {40, 17 * 4096, 24}, {12, 0, 25}, {512, 0, 23}, {516, 0xffffffff, 22},
+        {0, 0, 21}, {28, 0, 21}, {28, 2, 0}, {28, 6, 22}, {28, 7, 21}, {8, 6, 21}, {40, 0, 21}, {40, 17 * 4096, 24}, {12, 0, 25}, {512, 0, 23}, {516, 0xffffffff, 22},
     };
     for (size_t i = 0; i < sizeof changes / sizeof changes[0]; i++) {
         Log log = made_log(&m, PAGES, COUNT);

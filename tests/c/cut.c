@@ -1,7 +1,7 @@
-/* Linked into the tool's test build in front of the C library: each open, pwrite and fsync is written to the file HIVE_TRACE.
- * HIVE_CUT=k: the process ends after k of the pwrite and fsync calls, as if it had been killed.
+/* Linked into the tool's test build in front of the C library: each open, pwrite, ftruncate and fsync is written to the file HIVE_TRACE.
+ * HIVE_CUT=k: the process ends after k of the pwrite, ftruncate and fsync calls, as if it had been killed.
  * HIVE_LOSE=k: the k-th pwrite is lost, and the process ends at the next fsync: as if the power had failed with that page not on the disk yet.
- * HIVE_FAIL=k: the k-th of the pwrite and fsync calls fails. HIVE_INTERRUPT: each second fsync, from the first on, is interrupted.
+ * HIVE_FAIL=k: the k-th of the pwrite, ftruncate and fsync calls fails. HIVE_INTERRUPT: each second fsync, from the first on, is interrupted.
  * HIVE_SLOW: each fsync takes two seconds. HIVE_TERMINAL: the outputs are taken for a terminal. */
 #include <errno.h>
 #include <fcntl.h>
@@ -13,6 +13,7 @@
 
 int open64(const char *, int, ...);
 ssize_t pwrite64(int, const void *, size_t, off_t);
+int ftruncate64(int, off_t);
 long syscall(long, ...);
 enum { SYS_FSYNC = 74, CUT = 99, FAILED = 5 /* EIO */ };
 
@@ -65,6 +66,16 @@ ssize_t pwrite(int fd, const void *from, size_t length, off_t at)
     ssize_t n = ++count == number("HIVE_LOSE") ? (ssize_t)length : pwrite64(fd, from, length, at);
     cut();
     return n;
+}
+
+int ftruncate(int fd, off_t length)
+{
+    trace("ftruncate", (long)length, 0, "");
+    if (fails())
+        return -1;
+    int status = ftruncate64(fd, length);
+    cut();
+    return status;
 }
 
 int fsync(int fd)

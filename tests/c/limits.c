@@ -315,6 +315,41 @@ static void t_padded_log(void)
     drop_made(&m);
 }
 
+/* A log of Windows 8.1 and later with pages about the multiples of 131,072, and the last; of each page the second version is the good one. */
+static void t_new_log(void)
+{
+    static const uint32_t pages[] = {1, 131071, 131072, 131073, 262143, 262144, 2097152, 4194295}, turned[] = {4194295, 262144, 131072, 1, 131073, 131071, 2097152, 262143};
+    enum { COUNT = sizeof pages / sizeof pages[0] };
+    Made m = one_bin();
+    for (int i = 0; i < COUNT; i++)
+        memset(m.file + 4096 + 512 * (size_t)pages[i], 'a' + i, 512);
+    Log log = new_log(&m, 7);
+    add_entry(&log, 7, &m, pages, COUNT, OLDER);
+    add_entry(&log, 8, &m, turned, COUNT, LAST);
+    for (int i = 0; i < COUNT; i++)
+        memset(m.file + 4096 + 512 * (size_t)pages[i], 0xee, 512);
+    put32(m.file + 4, 9);
+    reseal(m.file);
+    HiveRecovery s = hive_recover_start(m.file, FILE_LENGTH, log.at, log.length);
+    EXPECT(s.state == HIVE_DONE && s.pages == COUNT && is(hive_recover_start(m.file, FILE_LENGTH - 1, log.at, log.length).answer, 24, 0));
+    EXPECT(is(hive_recover_mark_pages(log.at, log.length, map, MARKS - 1).answer, 8, 0));
+    memset(map, 0xff, MARKS + 1);
+    EXPECT(hive_recover_mark_pages(log.at, log.length, map, MARKS + 1).pages == COUNT && map[MARKS] == 0xff);
+    for (int i = 0; i < COUNT; i++)
+        EXPECT((map[pages[i] / 8] >> pages[i] % 8 & 1) == 1 && (map[(pages[i] ^ 64) / 8] >> pages[i] % 8 & 1) == 0);
+    for (int i = 0; i < COUNT; i++) {
+        HivePage p = hive_recover_next(log.at, log.length, i == 0 ? 0 : pages[i - 1] + 1);
+        EXPECT(p.page == pages[i] && log.at[p.from + 250] == 'a' + i && p.to == 4096 + 512 * (uint64_t)pages[i]);
+        EXPECT(is(hive_recover_close(m.file, FILE_LENGTH, log.at, log.length).answer, 27, 0));
+        EXPECT(hive_recover_page(m.file, FILE_LENGTH, log.at, log.length, pages[i]).state == HIVE_DONE && m.file[p.to + 250] == 'a' + i);
+    }
+    EXPECT(hive_recover_next(log.at, log.length, 4194296).state == HIVE_NO_MORE && is(hive_recover_page(m.file, FILE_LENGTH, log.at, log.length, 4194296).answer, 26, 0));
+    EXPECT(hive_recover_all(m.file, FILE_LENGTH, log.at, log.length).state == HIVE_DONE && hive_recover_close(m.file, FILE_LENGTH, log.at, log.length).state == HIVE_DONE);
+    EXPECT(get32(m.file + 4) == 8 && get32(m.file + 8) == 8 && get32(m.file + 40) == BINS && is(check(&m), 0, 0));
+    free(log.at);
+    drop_made(&m);
+}
+
 int main(void)
 {
     map = space(MAP);
@@ -328,5 +363,6 @@ int main(void)
     test("limits: a repair of the last page", t_repair);
     test("limits: a log of all pages", t_full_log);
     test("limits: a log longer than 2^31", t_padded_log);
+    test("limits: a log of Windows 8.1 and later", t_new_log);
     return counts();
 }

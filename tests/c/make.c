@@ -151,7 +151,7 @@ static void write_chain(void)
     write_file("chain", m.file, made_length(&m));
 }
 
-/* Logs for the spoilt sample: one whose pages hold a bin without its signature, and one as Windows 8.1 writes them. */
+/* Logs for the spoilt sample: one whose pages hold a bin without its signature, and one of type 6 that has no entry. */
 static void write_logs(const Made *good, const uint32_t *pages, size_t count)
 {
     Log log = made_log(good, pages, count);
@@ -159,11 +159,54 @@ static void write_logs(const Made *good, const uint32_t *pages, size_t count)
     write_file("short-log", log.at, log.length - 1);
     put32(log.at + 28, 6);
     reseal(log.at);
-    write_file("new-log", log.at, log.length);
+    write_file("no-entry", log.at, log.length);
     good->file[4096] = 'x';
     log = made_log(good, pages, count);
     write_file("bad-log", log.at, log.length);
     good->file[4096] = 'h';
+}
+
+/* Logs of Windows 8.1 and later for it: in one file, in two, one that goes on after a gap; with a broken tree; with the last pages of a hive that has grown.
+ * Of each page the last version is the good one. What comes out has the last entry's number. */
+static void write_new_logs(const Made *good, const uint32_t *pages)
+{
+    static const uint32_t again[] = {127, 0, 3}, end[] = {120, 121, 122, 123, 124, 125, 126, 127};
+    Log whole = new_log(good, 7), first = new_log(good, 7), second = new_log(good, 8), gap = new_log(good, 11), bad = new_log(good, 7), grown = new_log(good, 7);
+    Log *both[] = {&whole, &first, &second};
+    for (int i = 0; i < 2; i++)
+        add_entry(both[i], 7, good, pages, 6, OLDER);
+    for (int i = 0; i < 3; i += 2) {
+        add_entry(both[i], 8, good, pages, 8, OLDER);
+        add_entry(both[i], 9, good, again, 3, LAST);
+        add_entry(both[i], 10, good, pages + 2, 6, LAST);
+    }
+    add_entry(&gap, 11, good, pages, 8, LAST);
+    add_entry(&first, 6, good, pages, 8, OLDER); /* an old entry behind */
+    write_file("new-log", whole.at, whole.length);
+    write_file("new-log1", first.at, first.length);
+    write_file("new-log2", second.at, second.length);
+    write_file("new-log-gap", gap.at, gap.length);
+    add_entry(&grown, 7, good, pages, 8, LAST);
+    add_entry(&grown, 8, good, end, 8, LAST);
+    write_file("new-log-grown", grown.at, grown.length);
+    good->file[4096] = 'x';
+    add_entry(&bad, 7, good, pages, 8, LAST);
+    good->file[4096] = 'h';
+    write_file("new-log-bad", bad.at, bad.length);
+}
+
+/* The sample as a log leaves it that ends with that number, and the spoilt one with that second number. */
+static void write_numbered(const char *name, const uint8_t *file, size_t length, uint32_t first, uint32_t second)
+{
+    uint8_t *copy = malloc(length);
+    if (copy == NULL)
+        abort();
+    memcpy(copy, file, length);
+    put32(copy + 4, first);
+    put32(copy + 8, second);
+    reseal(copy);
+    write_file(name, copy, length);
+    free(copy);
 }
 
 /* Letters past z, sorted as capitals: the hash of the last is over 255. */
@@ -214,6 +257,9 @@ static void write_longest(void)
     write_ends("longest-and-more", &m, 4294967297);
     Log log = made_log(&m, pages, 2);
     write_file("longest-log", log.at, log.length);
+    log = new_log(&m, 7);
+    add_entry(&log, 7, &m, pages, 2, LAST);
+    write_file("longest-new-log", log.at, log.length);
     for (int i = 0; i < 2; i++)
         memset(m.file + 4096 + 512 * (size_t)pages[i], 0xee, 512);
     put32(m.file + 4, 8);
@@ -292,6 +338,11 @@ int main(int count, char **words)
     write_file("sample", good.file, n);
     write_file("spoilt", spoilt(&good, pages, 8), n);
     write_logs(&good, pages, 8);
+    write_new_logs(&good, pages);
+    write_numbered("sample-8", good.file, n, 8, 8);
+    write_numbered("sample-10", good.file, n, 10, 10);
+    write_numbered("spoilt-8", spoilt(&good, pages, 8), n, 9, 8);
+    write_numbered("spoilt-short", spoilt(&good, pages, 8), n - 4096, 8, 7);
     write_file("cut", good.file, n - 1);
     write_file("empty", NULL, 0);
     write_at("vast", (const uint8_t *)"x", 1, 5368709120 - 1);

@@ -86,6 +86,47 @@ static void on_hive(size_t length)
     say(" root: ", hive_key_at(hive, length, root).answer);
 }
 
+/* The bytes as one number: 37 times the number before, and the byte, wrapping at 32 bits. */
+static uint32_t sum(const uint8_t *bytes, size_t length)
+{
+    uint32_t sum = 0;
+    for (size_t i = 0; i < length; i++)
+        sum = sum * 37 + bytes[i];
+    return sum;
+}
+
+/* What the log says by itself: its facts, its pages all at once, and one by one with their places. */
+static void of_log(size_t length)
+{
+    static uint8_t map[LONGEST];
+    HiveLog g = hive_recover_log(payload, length);
+    if (g.answer.number != 0)
+        say(" log: ", g.answer);
+    else
+        printf(" log: %llu entries %llu to %llu, end %llu, bins %llu\n", (unsigned long long)g.entries, (unsigned long long)g.first, (unsigned long long)g.last,
+               (unsigned long long)g.end, (unsigned long long)g.bins);
+    memset(map, 0x5a, sizeof map);
+    HiveRecovery m = hive_recover_mark_pages(payload, length, map, g.bins < LONGEST ? g.bins / 4096 : sizeof map);
+    if (m.state == HIVE_REFUSED)
+        say(" marks: ", m.answer);
+    else
+        printf(" marks: %llu\n", (unsigned long long)m.pages);
+    printf(" map: %u\n", sum(map, sizeof map));
+    for (HivePage p = hive_recover_next(payload, length, 0); p.state == HIVE_THERE; p = hive_recover_next(payload, length, p.page + 1))
+        printf(" page %llu from %llu\n", (unsigned long long)p.page, (unsigned long long)p.from);
+}
+
+/* The same repair by page calls, in another copy of the hive. */
+static uint32_t by_pages(size_t length)
+{
+    static uint8_t copy[LONGEST];
+    memcpy(copy, hive, hive_length);
+    for (HiveMark p = hive_recover_mark(payload, length, 0); p.state == HIVE_THERE; p = hive_recover_mark(payload, length, p.page + 1))
+        hive_recover_page(copy, hive_length, payload, length, p.page);
+    hive_recover_close(copy, hive_length, payload, length);
+    return sum(copy, hive_length);
+}
+
 static void on_log(size_t length)
 {
     HiveRecovery s = hive_recover_start(hive, hive_length, payload, length);
@@ -94,10 +135,13 @@ static void on_log(size_t length)
     else if (s.state == HIVE_CLEAN)
         puts("clean");
     else {
+        uint32_t paged = by_pages(length);
         hive_recover_all(hive, hive_length, payload, length);
         hive_recover_close(hive, hive_length, payload, length);
         printf("repaired %llu\n", (unsigned long long)s.pages);
+        printf(" hive: %u, by pages %u\n", sum(hive, hive_length), paged);
     }
+    of_log(length);
 }
 
 /* The value named v of that key, in full, in place, and copied to a few bytes. */

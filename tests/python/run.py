@@ -76,7 +76,7 @@ def examples():
 def layouts():
     """the header's structs and calls are its own"""
     header = bytes_of(os.path.join(release, "include", "kiweamotu.h")).decode()
-    mine = {"Hive" + name[1:]: kind for name, kind in vars(kiweamotu).items() if re.fullmatch("_[A-Z][a-z]+", name) and name not in ("_Lent", "_View")}
+    mine = {"Hive" + name[1:]: kind for name, kind in vars(kiweamotu).items() if re.fullmatch("_[A-Z][a-z]+", name) and name not in ("_Lent", "_View", "_Start")}
     for struct_name, kind in mine.items():
         expect(re.findall(r"sizeof\(%s\) == (\d+)" % struct_name, header), [str(ctypes.sizeof(kind))])
         expect(re.findall(r"offsetof\(%s, (\w+)\) == (\d+)" % struct_name, header), [(f, str(getattr(kind, f).offset)) for f, _ in kind._fields_])
@@ -275,7 +275,7 @@ class Cut(Exception):
 @contextlib.contextmanager
 def traced(steps, cut=None):
     """Notes every store and sync, and raises Cut in place of the one of that number."""
-    pwrite, fsync = os.pwrite, os.fsync
+    pwrite, fsync, ftruncate = os.pwrite, os.fsync, os.ftruncate
 
     def note(step):
         if len(steps) == cut:
@@ -290,7 +290,11 @@ def traced(steps, cut=None):
         note("fsync")
         return fsync(fd)
 
-    with mock.patch("os.pwrite", stored), mock.patch("os.fsync", synced):
+    def lengthened(fd, length):
+        note("ftruncate %d" % length)
+        return ftruncate(fd, length)
+
+    with mock.patch("os.pwrite", stored), mock.patch("os.fsync", synced), mock.patch("os.ftruncate", lengthened):
         yield
 
 
@@ -375,6 +379,65 @@ def logs():
     expect(bytes(data), bytes_of("spoilt"))
     expect(Hive("sample", b"").check(), Hive("sample").check())
     expect(refusal(Hive, "spoilt", "short-log"), (22, None, None))
+
+
+@test
+def new_logs():
+    """logs of Windows 8.1 and later: one, two in either order, the later alone, one that does not fit"""
+    for log, logs in (("new-log", (0,)), (["new-log1", "new-log2"], (0, 1)), (["new-log2", "new-log1"], (1, 0)), (["empty", "new-log"], (1,))):
+        expect(Hive("spoilt", log).check(), Hive("sample").check())
+        shutil.copy("spoilt", "python-file")
+        steps = []
+        with traced(steps):
+            done = repair("python-file", log)
+        expect((done.pages, done.written, done.logs, done.lengthened, done.report), (8, True, logs, None, Hive("sample").check()))
+        expect(steps, PAGES + ["fsync", "pwrite 0 512", "fsync"])
+        expect(bytes_of("python-file"), bytes_of("sample-10"))
+        expect(repair("python-file", log).clean, True)
+    shutil.copy("spoilt-8", "python-file")
+    expect(repair("python-file", ["new-log1", "new-log2"]).logs, (1,))
+    expect(bytes_of("python-file"), bytes_of("sample-10"))
+    expect(refusal(Hive, "spoilt", "new-log2"), (25, None, None))
+    expect(refusal(Hive, "spoilt-8", ["new-log1", "new-log-gap"]), (25, None, None))
+    expect(refusal(Hive, "spoilt", ["empty", "minimal"]), (21, None, None))
+    expect(refusal(Hive, "spoilt", "no-entry"), (22, None, None))
+
+
+@test
+def facts():
+    """what a log says of itself agrees with the plain reading"""
+    for name in ("new-log", "new-log1", "new-log2", "new-log-gap", "new-log-grown", "log"):
+        log = bytes_of(name)
+        read = hives.read_log(log)
+        found = kiweamotu.log_facts(name)
+        expect((found.entries, found.first, found.last, found.end, found.bins), (read.entries, read.first, read.last, read.end, read.bins))
+        data = bytearray(bytes_of("spoilt"))
+        start = kiweamotu._Start(data, log, (0,), False)
+        expect(list(kiweamotu._marked(start)), sorted(read.versions))
+    expect(refusal(kiweamotu.log_facts, b"regf"), (21, None, None))
+
+
+@test
+def grow():
+    """repair: a hive that is shorter than its log wants it is lengthened where that is asked for, and cut before each step"""
+    expect(refusal(Hive, "spoilt-short", "new-log-grown"), (24, None, None))
+    expect(Hive("spoilt-short", "new-log-grown", grow=True).check(), Hive("sample").check())
+    expect(refusal(Hive, "spoilt-short", "new-log-gap", grow=True), (25, None, None))
+    shutil.copy("spoilt-short", "python-file")
+    expect(refusal(repair, "python-file", "new-log-grown"), (24, None, None))
+    expect(repair("python-file", "new-log-grown", dry_run=True, grow=True).lengthened, 69632)
+    expect(bytes_of("python-file"), bytes_of("spoilt-short"))
+    steps = []
+    with traced(steps):
+        expect(repair("python-file", "new-log-grown", grow=True).lengthened, 69632)
+    expect(steps[:3], ["ftruncate 69632", "fsync", PAGES[0]])
+    for cut in range(len(steps)):
+        shutil.copy("spoilt-short", "python-file")
+        with contextlib.suppress(Cut), traced([], cut):
+            repair("python-file", "new-log-grown", grow=True)
+            raise AssertionError("not cut")
+        repair("python-file", "new-log-grown", grow=True)
+        expect(bytes_of("python-file"), bytes_of("sample-8"))
 
 
 os.remove("python-file")

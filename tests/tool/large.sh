@@ -10,6 +10,8 @@ try 'large: a byte short' 1 'refused 6 at 0' 'the file ends before its bins do' 
 try 'large: bins size 0x80000000' 1 'refused 5 at 0' 'the size of the bins data is not possible' within check longest-field
 try 'large: before its repair' 1 'refused 7 at 0' 'give its log with --log' within check longest-spoilt
 try 'large: as its log would repair it' 0 "$longest" '' within check --log longest-log longest-spoilt
+try 'large: as a log of Windows 8.1 would repair it' 0 "$longest" '' within check --log longest-new-log longest-spoilt
+try 'large: dry run with it' 0 "$(printf 'would repair 2\n%s' "$longest")" '' within repair --dry-run longest-spoilt longest-new-log
 try 'large: repair' 0 "$(printf 'repaired 2\n%s' "$longest")" '' within repair longest-spoilt longest-log
 ends() { dd if="$1" bs=4096 count=2 && dd if="$1" bs=4096 skip=524287; } 2>/dev/null
 ends longest >ends

@@ -8,7 +8,10 @@ try 'log: value' 0 '258 (0x102)' '' hive value --log log file "$print" Big
 try 'log: a clean hive, whatever the log' 0 "$(hive check sample)" '' hive check --log empty sample
 try 'log: a tree that is not sound' 1 'refused 9 at 0' 'the header of a bin' hive check --log bad-log file
 try 'log: cut short' 1 'refused 22 at 0' 'short-log: the log is too short' hive ls --log short-log file
-try 'log: of Windows 8.1' 1 'refused 21 at 0' 'new-log: this is a log of Windows 8.1 or later (file type 6)' hive ls --log new-log file
+try 'log: of Windows 8.1, without an entry' 1 'refused 22 at 0' 'none of its entries counts' hive ls --log no-entry file
+try 'log: of Windows 8.1' 0 "$(hive check sample)" '' hive check --log new-log file
+try 'log: two of them' 0 "$(hive ls sample)" '' hive ls --log new-log2 file --log new-log1
+try 'log: three' 2 '' '--log may stand twice, and "log" is the third' hive ls --log new-log1 --log new-log2 --log log file
 try 'log: an empty one' 1 'refused 21 at 0' 'empty: the start of the log is not sound' hive check --log empty file
 try 'log: none there' 2 '' 'hive: none: No such file' hive check --log none file
 from_log() { hive check --log - file <log; }

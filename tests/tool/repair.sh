@@ -19,7 +19,7 @@ try 'repair: json' 0 "$(printf '%s\n' '{"file":"file","answer":"repaired","pages
 cp spoilt file
 try 'repair: a log cut short' 1 'refused 22 at 0' 'short-log: the log is too short' hive repair file short-log
 try 'repair: a hive for a log' 1 'refused 21 at 0' 'sample: the start of the log' hive repair file sample
-try 'repair: a log of Windows 8.1' 1 'refused 21 at 0' 'new-log: this is a log of Windows 8.1 or later' hive repair file new-log
+try 'repair: a log of Windows 8.1 without an entry' 1 'refused 22 at 0' 'no-entry: the log is too short for its bitmap or its pages, or none of its entries counts' hive repair file no-entry
 try 'repair: an empty log' 1 'refused 21 at 0' 'empty: the start of the log' hive repair file empty
 same 'repair: a refusal changes nothing' file spoilt
 

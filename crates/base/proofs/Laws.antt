@@ -6,7 +6,7 @@ use mathlib.Core.Bool.{Bool, true, false, cond, not}
 use mathlib.Core.List.{List}
 use lib.Dec.{eqb, leb, lit<}
 use lib.ListN.{length}
-use borrow.Author.Tests.{le-leb, leb-true, eqb-true, eqb-false, not-true}
+use borrow.Author.Tests.{le-leb, leb-true, eqb-true, eqb-false, eq-eqb, ne-eqb, not-true}
 use Rattle.fields.specs.declared.Flaw.{Flaw}
 use Rattle.fields.specs.declared.Verdict.{Verdict}
 use Rattle.fields.specs.declared.Fault.the-variants.{HiveShort, NoRegf, Checksum, Version, BinsSize, BinsCut, Sequences}
@@ -39,6 +39,11 @@ sized n e =
     let b = and-inv (eqb (n % 4096) 0) _ (a .1) in
     let z = eqb-false n 0 (not-true (eqb n 0) (a .0)) in
     record { some = omega arith; pages = eqb-true (n % 4096) 0 (b .0); limit = leb-true n binsLimit (b .1) }
+
+pub sized-bins : {n : ℕ} → Sized n → isBinsSize n ≡ true
+unfolding isBinsSize
+sized-bins {n} f =
+    and-both (ap not (ne-eqb n 0 (λ z. omega (arith, f .some)))) (and-both (eq-eqb (n % 4096) 0 (f .pages)) (le-leb n binsLimit (f .limit)))
 
 module _ (s : List ℕ) (type : ℕ) where
   -- the tests 2 to 5 pass exactly when the block is usable

@@ -85,7 +85,7 @@ fn is_version(s: &[u8], kind: u32) -> bool
     fields::u32_at(s, 44) == 1
 }
 
-fn is_bins_size(n: u32) -> bool
+pub fn is_bins_size(n: u32) -> bool
     ensures { λ r. ⌜ r ≡ isBinsSize n ⌝ }
 {
     if n == 0 {

@@ -2,7 +2,7 @@
 ghost use mathlib.Core.Path.{_≡_};
 ghost use Prim.Native.Nat.{_+_, _*_, _/_, _%_, _^_, _≤_, _<_};
 ghost use lib.ListN.{length};
-ghost use Rattle.bitmap.specs.Bits.{bit, isMarked, bitsBefore, nextMarked};
+ghost use Rattle.bitmap.specs.Bits.{bit, isMarked, bitsBefore, nextMarked, zeros, turned, withBit};
 
 // The bit at an index, 0 past the map's end.
 pub fn bit_of(map: &[u8], index: usize) -> usize
@@ -111,4 +111,45 @@ pub fn next_marked(map: &[u8], from: usize) -> Next
         }
     }
     Next::Nothing
+}
+
+// ---- maps that are made
+
+// Clears the first n bytes of the map.
+pub fn clear(map: &mut [u8], n: usize)
+    requires { ⌜ n ≤ length (now map) ⌝ }
+    ensures { λ _. ⌜ now (map .exit) ≡ zeros n (now (map .entry)) ⌝ }
+{
+    let mut i: usize = 0;
+    while i < n {
+        map[i] = 0;
+        i += 1;
+    }
+}
+
+fn turn(map: &mut [u8], index: usize)
+    requires { ⌜ index < 8 * length (now map) ⌝ }
+    ensures { λ _. ⌜ now (map .exit) ≡ turned (now (map .entry)) index ⌝ }
+{
+    let j = index / 8;
+    let k = index % 8;
+    map[j] = map[j] ^ 1u8 << k;
+}
+
+// Sets a bit, or clears it.
+pub fn put_bit(map: &mut [u8], index: usize, on: bool)
+    requires { ⌜ index < 8 * length (now map) ⌝ }
+    ensures { λ _. ⌜ now (map .exit) ≡ withBit (now (map .entry)) index on ⌝ }
+{
+    let was = is_marked(map, index);
+    if on {
+        if was {
+            return;
+        }
+        turn(map, index);
+        return;
+    }
+    if was {
+        turn(map, index);
+    }
 }

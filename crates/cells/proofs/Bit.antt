@@ -1,17 +1,15 @@
 -- The map, bit by bit: bit k is set exactly when a cell in use starts at offset 8 k.
 use Prim.Native.Nat.{ℕ, zero, suc, _+_, _-_, _*_, _/_, _%_, _^_, _≤_, _<_, max}
-use native.Mathlib.Nat.{div-eq-of-lt, max-zero, div-div-eq-div-mul, div-one, pow-suc, mul-mod-left, mul-div-mul-right}
+use native.Mathlib.Nat.{max-zero, div-div-eq-div-mul}
 use native.Mathlib.Omega.{arith}
-use mathlib.Core.Path.{_≡_, refl, sym, ap, _∙_}
+use mathlib.Core.Path.{_≡_, refl, sym, _∙_}
 use mathlib.Core.List.{List}
-use mathlib.Core.Bool.{Bool, true, false, cond, _||_}
-use lib.Dec.{eqb, eqb·zero-suc, eqb·suc-zero, eqb·suc-suc, lit<}
+use mathlib.Core.Bool.{Bool, true, false, _||_}
+use lib.Dec.{eqb}
 use lib.ListN.{length, getD}
 use lib.Seq.{getD-set-same, getD-set-other}
-use lib.Bits.{bitOr, or-step, or-shr}
-use lib.Arith.{digits-mod}
-use lib.Pow.{pow-lt}
-use borrow.Author.Tests.{eq-eqb, ne-eqb, eqb-true, eqb-false, ltb-true}
+use lib.Bits.{bitOr}
+use borrow.Author.Tests.{ne-eqb, eqb-true, eqb-false, ltb-true}
 use lib.Dec.{ltb}
 use Rattle.fields.specs.Number.{sizeAt}
 use Rattle.cells.specs.Tiling.{tilingN, tiling, goodSize}
@@ -19,30 +17,8 @@ use Rattle.cells.specs.Tiled.{Good}
 use Rattle.cells.proofs.Steps.{good, length-mark}
 use Rattle.cells.specs.Tiling.{Tiling, whole, bad, cell}
 use Rattle.bitmap.specs.Bits.{bit}
+use Rattle.bitmap.proofs.Marks.{or-bit, flag, pow-bit, eqb-cong}
 use Rattle.cells.specs.Map.{markAt, marks, starts}
-
--- a bit of an or
-or-bit : (x y i : ℕ) → bitOr x y / 2 ^ i % 2 ≡ max (x / 2 ^ i % 2) (y / 2 ^ i % 2)
-or-bit x y i =
-    ap (λ (n : ℕ). n % 2) (or-shr x y i ∙ or-step (x / 2 ^ i) (y / 2 ^ i))
-    ∙ digits-mod _ {m = 2} (omega arith)
-
-abbrev pub flag : Bool → ℕ
-flag b = cond b 1 0
-
--- a bit of a power
-pow-bit : (b i : ℕ) → 2 ^ b / 2 ^ i % 2 ≡ flag (eqb b i)
-pow-bit zero zero = refl
-pow-bit zero (suc i) = rw (div-eq-of-lt (pow-lt {i = 0} {j = suc i} (omega arith)), eqb·zero-suc i)
-pow-bit (suc b) zero = rw (div-one (2 ^ suc b), pow-suc 2 b, mul-mod-left (2 ^ b) 2, eqb·suc-zero b)
-pow-bit (suc b) (suc i) = rw (pow-suc 2 b, pow-suc 2 i, mul-div-mul-right (2 ^ b) (2 ^ i) (lit< tt), eqb·suc-suc b i) (pow-bit b i)
-
-eqb-cong : (a b c d : ℕ) → (a ≡ b → c ≡ d) → (c ≡ d → a ≡ b) → eqb a b ≡ eqb c d
-eqb-cong a b c d f g = by (eqb a b) refl
-  where
-    by : (t : Bool) → eqb a b ≡ t → eqb a b ≡ eqb c d
-    by true e = e ∙ sym (eq-eqb c d (f (eqb-true a b e)))
-    by false e = e ∙ sym (ne-eqb c d (λ q. eqb-false a b e (g q)))
 
 -- one mark: the bit of its offset is set, and every other is as it was
 mark-bit : (m : List ℕ) (at k : ℕ) → at % 8 ≡ 0 → at < length m * 64 → bit (markAt m at) k ≡ max (bit m k) (flag (eqb at (k * 8)))

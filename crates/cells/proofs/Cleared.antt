@@ -9,7 +9,8 @@ use lib.ListN.{length, drop, replicate, length-replicate}
 use lib.Seq.{drop-at}
 use borrow.Author.Tests.{ltb-true, ltb-false, eqb-true, eqb-false}
 use Rattle.cells.specs.Tiling.{Tiling, tiling, rowOf, binSize, layoutN, layout}
-use Rattle.cells.specs.Map.{marks, isBad, marksAll, zeros}
+use Rattle.bitmap.specs.Bits.{zeros}
+use Rattle.cells.specs.Map.{marks, isBad, marksAll}
 use Rattle.cells.proofs.Bit.{tiling-placed}
 use Rattle.cells.proofs.Beyond.{drop-marks}
 use Rattle.cells.proofs.Turns.{Sized, sized, atN, faultN, stepN}

@@ -20,12 +20,13 @@ use Rattle.cells.specs.declared.Rule.the-variants.{Map, Header}
 use Rattle.cells.specs.declared.Tally.{Tally}
 use Rattle.cells.specs.declared.Surveyed.the-variants.{Tiled}
 use Rattle.cells.specs.Tiling.{tiling, layout, surveyOf}
-use Rattle.bitmap.specs.Bits.{bit}
-use Rattle.cells.specs.Map.{marks, isBad, marksAll, zeros, mapAfter, isMarked, startsIn}
+use Rattle.bitmap.specs.Bits.{bit, zeros}
+use Rattle.cells.specs.Map.{marks, isBad, marksAll, mapAfter, isMarked, startsIn}
 use Rattle.cells.specs.Survey.{frontFault, surveyAnswer, mapLeft}
 use Rattle.cells.specs.Named.{isNamed, cellAt, byHeader, cellOf, cellFault}
 use Rattle.cells.specs.Tiled.{Good, BinsTile, bins-end, bin-on, InUse, Mapped}
-use Rattle.cells.proofs.Bit.{flag, flag-or, marks-bit, placed, placed-more, tiling-placed}
+use Rattle.bitmap.proofs.Marks.{flag}
+use Rattle.cells.proofs.Bit.{flag-or, marks-bit, placed, placed-more, tiling-placed}
 use Rattle.cells.proofs.Steps.{of-good}
 use Rattle.cells.proofs.Total.{length-marks}
 use Rattle.cells.proofs.Turns.{done, step}

@@ -1,12 +1,10 @@
 -- The tiling's three cases, and what a step does to the tally and to the map.
-use Prim.Native.Nat.{ℕ, zero, suc, _+_, _-_, _*_, _%_, _^_, _≤_, _<_}
-use native.Mathlib.Nat.{one-mul}
+use Prim.Native.Nat.{ℕ, zero, suc, _+_, _-_, _%_, _≤_, _<_}
 use native.Mathlib.Omega.{arith}
 use mathlib.Core.Path.{_≡_, refl, sym, ap, _∙_}
 use mathlib.Core.List.{List}
 use mathlib.Core.Bool.{Bool, true, false, not}
 use lib.Dec.{eqb, ltb}
-use lib.Pow.{shl-exact}
 use borrow.Author.Tests.{lt-ltb, le-ltb, ltb-true, ltb-false, leb-true, eqb-true, eqb-false, not-true, ne-eqb, eq-eqb, le-leb}
 use Rattle.fields.specs.declared.Size.{Size}
 use Rattle.fields.proofs.Bools.{and-inv}
@@ -15,10 +13,6 @@ use Rattle.cells.specs.Tiling.{goodSize, whole, bad, cell, tilingN, tili
 use Rattle.cells.specs.Map.{markAt, marks}
 use Rattle.cells.specs.Tiled.{Good}
 use lib.ListN.{length, length-set}
-
--- the code's 1 << b
-pub shifted : (b : ℕ) → b < 8 → 1 * 2 ^ b % 256 ≡ 2 ^ b
-shifted b h = shl-exact {a = 1} 1 b 8 (omega arith) (omega arith) ∙ one-mul (2 ^ b)
 
 pub good : (n room : ℕ) → goodSize n room ≡ true → Good n room
 unfolding goodSize

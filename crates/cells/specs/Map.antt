@@ -1,11 +1,11 @@
 -- The work map: "bit b of byte j (lowest bit first) is set exactly when a cell in use starts at offset 64j + 8b; bytes beyond bins size / 64 stay".
 use Prim.Native.Nat.{ℕ, _/_, _%_, _^_}
 use mathlib.Core.Bool.{Bool, true, false, cond, _&&_, _||_}
-use mathlib.Core.List.{List, _++_}
+use mathlib.Core.List.{List}
 use lib.Bits.{bitOr}
 use lib.Dec.{eqb}
-use lib.ListN.{length, getD, set, replicate, drop}
-use Rattle.bitmap.specs.Bits.{isMarked as isSet}
+use lib.ListN.{length, getD, set}
+use Rattle.bitmap.specs.Bits.{zeros, isMarked as isSet}
 use Rattle.cells.specs.declared.Row.{Row}
 use Rattle.cells.specs.declared.Row.the-variants.{Counted, Bad}
 use Rattle.cells.specs.declared.Surveyed.{Surveyed}
@@ -32,10 +32,6 @@ marksAll (badBin at) m = m
 marksAll (bin at t b) m =
     let after = marksAll b (marks t m) in
     cond (isBad (rowOf t 0 0)) (marks t m) after
-
--- the first n bytes zero, and those beyond as they were
-unfoldable pub zeros : ℕ → List ℕ → List ℕ
-zeros n m = replicate n 0 ++ drop n m
 
 -- "9 and 10 leave its first bins size / 64 bytes zero; later ones leave it complete"
 unfoldable pub mapAfter : List ℕ → Surveyed → List ℕ → List ℕ

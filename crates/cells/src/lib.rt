@@ -12,7 +12,7 @@ ghost use lib.ListN.{length};
 ghost use Rattle.fields.specs.Number.{u32At};
 ghost use Rattle.cells.specs.Tiling.{goodSize, tiling, rowOf, binSize, layout, surveyOf};
 ghost use Rattle.cells.specs.Steps.{Bin, Pages, Data, lengthNamed, lengthBy, Inside, PartIn};
-ghost use Rattle.cells.specs.Map.{markAt, marks, marksAll, zeros, isMarked, mapAfter};
+ghost use Rattle.cells.specs.Map.{markAt, marks, marksAll, isMarked, mapAfter};
 ghost use Rattle.cells.specs.Named.{cellOf, dataOf, dataAt, dataTo, partIn, partPlace};
 ghost use Rattle.cells.specs.Survey.{frontFault, surveyAnswer, mapLeft};
 
@@ -156,18 +156,6 @@ pub fn count_tiles(bins: &[u8]) -> Surveyed
     walk(bins, &mut map)
 }
 
-// Clears the first n bytes of the map.
-fn clear(map: &mut [u8], n: usize)
-    requires { ⌜ n ≤ length (now map) ⌝ }
-    ensures { λ _. ⌜ now (map .exit) ≡ zeros n (now (map .entry)) ⌝ }
-{
-    let mut i: usize = 0;
-    while i < n {
-        map[i] = 0;
-        i += 1;
-    }
-}
-
 // The tests 9 and 10: one pass, with the map complete where the bins are good, else cleared.
 fn scan(bins: &[u8], map: &mut [u8]) -> Surveyed
     requires { ⌜ Data (now bins) (now map) ⌝ }
@@ -175,12 +163,12 @@ fn scan(bins: &[u8], map: &mut [u8]) -> Surveyed
     ensures { λ r. ⌜ now (map .exit) ≡ mapAfter (now (bins .entry)) r (now (map .entry)) ⌝ }
 {
     let n = bins.len() / 64;
-    clear(map, n);
+    bitmap::clear(map, n);
     let r = walk(bins, map);
     match r {
         Surveyed::Tiled(_) => {}
         Surveyed::Refused(_) => {
-            clear(map, n);
+            bitmap::clear(map, n);
         }
     }
     r

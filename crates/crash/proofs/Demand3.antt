@@ -242,6 +242,15 @@ module _ (h l : List ℕ) (n : ℕ) (ok : startAnswer h l ≡ Pages n) (bytes : 
         lids = λ b u. (i .lids b u .0, λ p g. land-keeps d (disk-file e d (i .disk)) s (j .0) (j .1) p (i .lids b u .1 p g));
         disk = disk-lands e s d (j .0) (j .1) (i .disk);
       }
+  keeps (Trace.replays {d = d} p x a o) =
+      let i = keeps o in
+      record {
+        memory = i .memory;
+        closed = i .closed;
+        stores = i .stores;
+        lids = no-lid (stored d (pagePlace p) x);
+        disk = within-version h l n ok d (i .disk) p x a;
+      }
   keeps (Trace.closes {m = m} a o) =
       let i = keeps o in
       let f = closed-is m (memory-of i) a in

@@ -24,11 +24,11 @@ use Rattle.crash.specs.Demand.{Landed}
 use Rattle.crash.proofs.Demand3.{keeps, memory-within, land-in, land-keeps, until, running, may-seal, landed}
 
 -- a list of bytes, by a test that computes
-areBytes : List ℕ → Bool
+unfoldable pub areBytes : List ℕ → Bool
 areBytes [] = true
 areBytes (x ∷ s) = ltb x 256 && areBytes s
 
-bytes-of : (s : List ℕ) → areBytes s ≡ true → Bytes s
+pub bytes-of : (s : List ℕ) → areBytes s ≡ true → Bytes s
 unfolding areBytes
 bytes-of [] e i = lit< tt
 bytes-of (x ∷ s) e zero = ltb-true x 256 (and-inv (ltb x 256) (areBytes s) e .0)

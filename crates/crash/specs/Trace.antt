@@ -7,14 +7,15 @@
 -- "all page stores have landed before the closing sector is sent";
 -- what was sent may land at any later moment before the power fails, any number of times or never, and in any order;
 -- when the power fails, what has not landed is lost, and the next run reads the disk into memory;
--- a process that is killed loses no store that it has sent: what was under way stays under way, and the next run may read some of it already.
+-- a process that is killed loses no store that it has sent: what was under way stays under way, and the next run may read some of it already;
+-- until the closing sector is sent, any version of a logged page may land, as where another repair went entry by entry.
 use Prim.Native.Nat.{ℕ, suc, _+_}
 use mathlib.Core.Path.{_≡_}
 use mathlib.Core.Bool.{Bool, true, false, cond}
 use mathlib.Core.List.{List, [], _∷_, List·Memᴰ}
 use lib.Dec.{eqb}
 use Rattle.sectors.specs.Sector.{sectorAt, stored, pagePlace, page}
-use Rattle.logs.specs.Logs.{isLogged}
+use Rattle.logs.specs.Logs.{isLogged, versionsOf}
 use Rattle.recovery.specs.declared.Stepped.{Stepped}
 use Rattle.recovery.specs.declared.Stepped.the-variants.{Clean, Done, Refused}
 use Rattle.recovery.specs.Calls.{pageAnswer, pageHive, closeAnswer, closeHive}
@@ -54,6 +55,9 @@ pub data Trace (h l : List ℕ) : Bool → Bool → List ℕ → List Sent → L
   -- a page store lands; it may land again
   lands : {e c : Bool} {m : List ℕ} {q : List Sent} {k : List (List ℕ)} {d : List ℕ} (s : Sent) → List·Memᴰ s q → Trace h l e c m q k d
       → Trace h l e c m q k (land s d)
+  -- a version of a logged page lands that this repair did not send: "A page named by several entries has the bytes of the last", and it may be an older one
+  replays : {c : Bool} {m : List ℕ} {q : List Sent} {d : List ℕ} (p : ℕ) (x : List ℕ) → List·Memᴰ x (versionsOf l p) → Trace h l false c m q [] d
+      → Trace h l false c m q [] (stored d (pagePlace p) x)
   -- a closing call that is done
   closes : {e c : Bool} {m : List ℕ} {q : List Sent} {k : List (List ℕ)} {d : List ℕ} → closeAnswer m l ≡ Done → Trace h l e c m q k d
       → Trace h l e true (closeHive m l) q k d
@@ -82,11 +86,17 @@ failures (Trace.ends x r o) = failures o
 failures (Trace.calls p o) = failures o
 failures (Trace.stores p i o) = failures o
 failures (Trace.lands s i o) = failures o
+failures (Trace.replays p x i o) = failures o
 failures (Trace.closes i o) = failures o
 failures (Trace.seals i o) = failures o
 failures (Trace.shuts b i o) = failures o
 
--- the page stores that have landed
+-- some stores but those of page p
+unfoldable pub but : ℕ → List Sent → List Sent
+but p [] = []
+but p (s ∷ q) = cond (eqb (s .number) p) (but p q) (s ∷ but p q)
+
+-- the page stores that have landed, and over which no version of their page has landed that this repair did not send
 unfoldable pub landedIn : {h l : List ℕ} {e c : Bool} {m : List ℕ} {q : List Sent} {k : List (List ℕ)} {d : List ℕ} → Trace h l e c m q k d → List Sent
 landedIn Trace.begin = []
 landedIn (Trace.fails o) = landedIn o
@@ -94,6 +104,7 @@ landedIn (Trace.ends x r o) = landedIn o
 landedIn (Trace.calls p o) = landedIn o
 landedIn (Trace.stores p i o) = landedIn o
 landedIn (Trace.lands s i o) = s ∷ landedIn o
+landedIn (Trace.replays p x i o) = but p (landedIn o)
 landedIn (Trace.closes i o) = landedIn o
 landedIn (Trace.seals i o) = landedIn o
 landedIn (Trace.shuts b i o) = landedIn o
@@ -106,6 +117,7 @@ sentIn (Trace.ends x r o) = []
 sentIn (Trace.calls p o) = sentIn o
 sentIn {l = l} (Trace.stores {m = m} p i o) = send (pageHive m l p) p ∷ sentIn o
 sentIn (Trace.lands s i o) = sentIn o
+sentIn (Trace.replays p x i o) = sentIn o
 sentIn (Trace.closes i o) = sentIn o
 sentIn (Trace.seals i o) = sentIn o
 sentIn (Trace.shuts b i o) = sentIn o
@@ -124,9 +136,23 @@ doneIn (Trace.ends x r o) = []
 doneIn {l = l} (Trace.calls {m = m} p o) = whereDone (pageAnswer m l p) p (doneIn o)
 doneIn {l = l} (Trace.stores {m = m} p i o) = whereDone (pageAnswer m l p) p (doneIn o)
 doneIn (Trace.lands s i o) = doneIn o
+doneIn (Trace.replays p x i o) = doneIn o
 doneIn (Trace.closes i o) = doneIn o
 doneIn (Trace.seals i o) = doneIn o
 doneIn (Trace.shuts b i o) = doneIn o
+
+-- whether a version landed in this run that this repair did not send
+unfoldable pub replayedIn : {h l : List ℕ} {e c : Bool} {m : List ℕ} {q : List Sent} {k : List (List ℕ)} {d : List ℕ} → Trace h l e c m q k d → Bool
+replayedIn Trace.begin = false
+replayedIn (Trace.fails o) = false
+replayedIn (Trace.ends x r o) = false
+replayedIn (Trace.calls p o) = replayedIn o
+replayedIn (Trace.stores p i o) = replayedIn o
+replayedIn (Trace.lands s i o) = replayedIn o
+replayedIn (Trace.replays p x i o) = true
+replayedIn (Trace.closes i o) = replayedIn o
+replayedIn (Trace.seals i o) = replayedIn o
+replayedIn (Trace.shuts b i o) = replayedIn o
 
 -- "all page stores have landed": of every page of which a call was done in this run, a store sent in this run has landed, and so has every store under way
 pub record AllLanded {h l : List ℕ} {e c : Bool} {m : List ℕ} {q : List Sent} {k : List (List ℕ)} {d : List ℕ} (o : Trace h l e c m q k d) : Type 0 where

@@ -3,6 +3,7 @@ use Prim.Native.Nat.{ℕ, _≤_}
 use native.Mathlib.Omega.{arith}
 use mathlib.Core.Path.{_≡_}
 use mathlib.Core.List.{List}
+use lib.ListN.{length}
 use Rattle.fields.specs.declared.Fault.{Fault}
 use Rattle.fields.specs.declared.Fault.the-variants as named
 use Rattle.fields.specs.declared.Refusal.{Refusal}
@@ -15,10 +16,11 @@ use Rattle.paths.proofs.Refusals.{find-refuses}
 use Rattle.lookup.proofs.Agree.{refused-untouched}
 use Rattle.lookup.proofs.Refusals.{info-refuses, view-refuses, copy-refuses}
 use Rattle.listing.proofs.Any.{subkey-refuses, value-refuses, info-refuses as at-refuses, copy-refuses as copy-at-refuses, copy-stays as copy-at-stays, facts-refuses}
+use Rattle.recovery.specs.declared.Marked.the-variants as marked
 use Rattle.recovery.specs.declared.Stepped.the-variants as stepped
 use Rattle.recovery.specs.Calls.{pageAnswer, pageHive, closeAnswer, closeHive}
-use Rattle.recovery.proofs.Refusals.{start-refuses, page-refuses, close-refuses, next-refuses, all-refuses, mark-refuses}
-use Rattle.recovery.specs.AtOnce.{allAnswer, allHive}
+use Rattle.recovery.proofs.Refusals.{start-refuses, page-refuses, close-refuses, next-refuses, all-refuses, mark-refuses, marked-refuses, facts-refuses as log-refuses}
+use Rattle.recovery.specs.AtOnce.{allAnswer, allHive, markedAnswer, markedMap}
 use Rattle.remnants.proofs.Refusals.{next-refuses as remnant-refuses, rows-refuse, rows-stay}
 use Rattle.demands.specs.First.{Demand1}
 use Rattle.demands.proofs.As_check.{refuses-as-check}
@@ -66,6 +68,10 @@ all-stays : (h l : List ℕ) (r : Refusal) → allAnswer h l ≡ stepped.Refused
 unfolding allHive
 all-stays h l r e = rw e
 
+marked-stays : (l m : List ℕ) (r : Refusal) → markedAnswer l (length m) ≡ marked.Refused r → markedMap l m ≡ m
+unfolding markedMap
+marked-stays l m r e = rw e
+
 pub demand1 : Demand1
 demand1 =
     record {
@@ -91,12 +97,15 @@ demand1 =
       next-place = λ l from r e. next-refuses l from e;
       all-place = λ h l r e. all-refuses h l e;
       mark-place = λ l from r e. mark-refuses l from e;
+      marked-place = λ l room r e. marked-refuses l room e;
+      log-place = λ l r e. log-refuses l e;
       copy-stays = λ h us x out r e. refused-untouched h us x out e;
       copy-at-stays = λ h v out r e. copy-at-stays h v out e;
       rows-stay = λ h from rows r e. rows-stay h from rows e;
       page-stays = page-stays;
       close-stays = close-stays;
       all-stays = all-stays;
+      marked-stays = marked-stays;
       map-untouched = λ h m r e p. map-untouched h m e p;
       map-zero = λ h m r e p q. map-zero h m e p q;
       map-complete = λ h m r e p. map-complete h m e p;

@@ -10,7 +10,8 @@ use Rattle.fields.specs.Bytes.{sameBytes, standsAt}
 use Rattle.fields.specs.Faults.{_next_, faultOver, flaw, nowhere, noKey, refusalOf}
 use Rattle.base.specs.Block.{xors, asStored, storedChecksum, isVersion, isBinsSize, blockFault, baseFault}
 use Rattle.cells.specs.Tiling.{goodSize, tilingN, tiling, rowOf, binSize, layoutN, layout, addRow, surveyOf}
-use Rattle.cells.specs.Map.{markAt, marks, isBad, marksAll, zeros, mapAfter, isMarked}
+use Rattle.bitmap.specs.Bits.{zeros}
+use Rattle.cells.specs.Map.{markAt, marks, isBad, marksAll, mapAfter, isMarked}
 use Rattle.cells.specs.Survey.{frontFault, surveyAnswer, mapLeft}
 use Rattle.cells.specs.Named.{isNamed, byHeader, cellOf, cellFault, dataOf, dataAt}
 use Rattle.names.specs.Codes.{codes, charactersIn, hasCode}

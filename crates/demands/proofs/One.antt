@@ -27,4 +27,6 @@ unique =
       next-page = λ l from r r′ p q. one p q;
       all-pages = λ h l a a′ b b′ p q. (one (p .0) (q .0), one (p .1) (q .1));
       next-mark = λ l from r r′ p q. one p q;
+      mark-pages = λ l m a a′ b b′ p q. (one (p .0) (q .0), one (p .1) (q .1));
+      log-facts = λ l r r′ p q. one p q;
     }

@@ -27,7 +27,7 @@ use Rattle.listing.specs.Members.{subkeyAnswer, valueAnswer, infoAt, copyAt, fa
 use Rattle.listing.proofs.Any.{copy-stays}
 use Rattle.recovery.specs.declared.Started.the-variants as started
 use Rattle.recovery.specs.Calls.{startAnswer}
-use Rattle.crash.proofs.Demand3.{until, running, finishes, landed}
+use Rattle.crash.proofs.Demand3.{until, running, finishes, may-seal, landed}
 use Rattle.crash.proofs.Barrier.{barrier}
 use Rattle.remnants.proofs.Refusals.{base-stops, next-stops, rows-stop}
 use Rattle.demands.specs.Third.{Unread, Demand3}
@@ -107,6 +107,7 @@ demand3 h l n ok b =
       unread = λ c m q k d o. let r = until h l n ok b o .refused in (refusalOf noKey (r .0), unread d (r .0) (r .1));
       running = λ m q d o. running h l n ok b o;
       finishes = λ e c m q k d o ps g. finishes h l n ok b o ps g;
-      barrier = λ e m q k d o a. barrier h l n ok b o a;
+      barrier = λ e m q k d o own a. barrier h l n ok b o own a;
+      may-seal = λ m q k d o a. may-seal h l n ok b o a;
       landed = λ c m q k d o. landed h l n ok b o;
     }

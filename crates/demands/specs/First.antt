@@ -2,8 +2,9 @@
 --
 -- Every public call's contract is an equation, for all lists of bytes and with no condition on them: what it answers is `checkAnswer h m`, `findAnswer h us`,
 -- `infoAnswer h us x`, `viewAnswer h us x`, `copyAnswer h us x n`, `subkeyAnswer h o n`, `valueAnswer h o n`, `infoAt h v`, `copyAt h v n`, `factsAnswer h o`,
--- `remnantAnswer h from`, `rowsAnswer h from n`, `startAnswer h l`, `pageAnswer h l p`, `closeAnswer h l`, `nextAnswer l from`, `allAnswer h l` and
--- `markAnswer l from`. These are total functions, so there is an answer. What is left to say is what a refusal is.
+-- `remnantAnswer h from`, `rowsAnswer h from n`, `startAnswer h l`, `pageAnswer h l p`, `closeAnswer h l`, `nextAnswer l from`, `allAnswer h l`,
+-- `markAnswer l from`, `markedAnswer l n` and `factsAnswer l` of a log. These are total functions, so there is an answer. What is left to say is what a
+-- refusal is.
 use Prim.Native.Nat.{ℕ, _/_, _≤_}
 use mathlib.Core.Path.{_≡_}
 use mathlib.Core.Logic.{_↔_}
@@ -42,10 +43,12 @@ use Rattle.recovery.specs.declared.NextPage.the-variants as next
 use Rattle.recovery.specs.declared.Started.the-variants as started
 use Rattle.recovery.specs.declared.Stepped.the-variants as stepped
 use Rattle.recovery.specs.declared.NextMark.the-variants as mark
+use Rattle.recovery.specs.declared.Marked.the-variants as marked
+use Rattle.recovery.specs.declared.LogFacts.the-variants as log
 use Rattle.recovery.specs.Calls.{startAnswer, pageAnswer, pageHive, closeAnswer, closeHive, nextAnswer}
 use Rattle.logs.specs.Refused.{OfHead, OfLog}
-use Rattle.recovery.specs.Refused.{OfStart, OfPage, OfClose}
-use Rattle.recovery.specs.AtOnce.{allAnswer, allHive, markAnswer}
+use Rattle.recovery.specs.Refused.{OfStart, OfPage, OfClose, OfMarked}
+use Rattle.recovery.specs.AtOnce.{allAnswer, allHive, markAnswer, markedAnswer, markedMap, factsAnswer as logAnswer}
 
 pub record Demand1 : Type 0 where
   -- "A refusal is a number from the listed set": the table has 1 to 27
@@ -75,6 +78,8 @@ pub record Demand1 : Type 0 where
   pub next-place : (l : List ℕ) (from : ℕ) (r : Refusal) → nextAnswer l from ≡ next.Refused r → Keyless (OfLog l) r
   pub all-place : (h l : List ℕ) (r : Refusal) → allAnswer h l ≡ stepped.Refused r → Keyless (OfStart h l) r
   pub mark-place : (l : List ℕ) (from : ℕ) (r : Refusal) → markAnswer l from ≡ mark.Refused r → Keyless (OfHead l) r
+  pub marked-place : (l : List ℕ) (room : ℕ) (r : Refusal) → markedAnswer l room ≡ marked.Refused r → Keyless (OfMarked l room) r
+  pub log-place : (l : List ℕ) (r : Refusal) → logAnswer l ≡ log.Refused r → Keyless (OfLog l) r
   -- "It changes no byte of hive or output"
   pub copy-stays : (h us x out : List ℕ) (r : Refusal) → copyAnswer h us x (length out) ≡ copied.Refused r → copyOut h us x out ≡ out
   pub copy-at-stays : (h : List ℕ) (v : Offset) (out : List ℕ) (r : Refusal) → copyAt h v (length out) ≡ copied.Refused r → outAt h v out ≡ out
@@ -82,6 +87,7 @@ pub record Demand1 : Type 0 where
   pub page-stays : (h l : List ℕ) (p : ℕ) (r : Refusal) → pageAnswer h l p ≡ stepped.Refused r → pageHive h l p ≡ h
   pub close-stays : (h l : List ℕ) (r : Refusal) → closeAnswer h l ≡ stepped.Refused r → closeHive h l ≡ h
   pub all-stays : (h l : List ℕ) (r : Refusal) → allAnswer h l ≡ stepped.Refused r → allHive h l ≡ h
+  pub marked-stays : (l m : List ℕ) (r : Refusal) → markedAnswer l (length m) ≡ marked.Refused r → markedMap l m ≡ m
   -- "the work map afterwards is the one the list states": "Refusals 1 to 8 leave the map untouched; 9 and 10 leave its first bins size / 64 bytes zero; later
   -- ones leave it complete", as does the check that accepts; and "bytes beyond bins size / 64 stay"
   pub map-untouched : (h m : List ℕ) (r : Refusal) → checkAnswer h m ≡ checked.Refused r → numberOf (r .fault) ≤ 8 → mapLeft h m ≡ m

@@ -23,8 +23,10 @@ use Rattle.recovery.specs.declared.Started.{Started}
 use Rattle.recovery.specs.declared.Stepped.{Stepped}
 use Rattle.recovery.specs.declared.NextPage.{NextPage}
 use Rattle.recovery.specs.declared.NextMark.{NextMark}
+use Rattle.recovery.specs.declared.Marked.{Marked}
+use Rattle.recovery.specs.declared.LogFacts.{LogFacts}
 use Rattle.recovery.specs.Calls.{startAnswer, pageAnswer, pageHive, closeAnswer, closeHive, nextAnswer}
-use Rattle.recovery.specs.AtOnce.{allAnswer, allHive, markAnswer}
+use Rattle.recovery.specs.AtOnce.{allAnswer, allHive, markAnswer, markedAnswer, markedMap, factsAnswer as logAnswer}
 
 -- a promise that no two outcomes satisfy
 abbrev pub Determines : {A B : Type 0} → (A → B → Type 0) → Type 0
@@ -56,6 +58,9 @@ Closes h l r after = (r ≡ closeAnswer h l) × (after ≡ closeHive h l)
 abbrev pub AllPages : List ℕ → List ℕ → Stepped → List ℕ → Type 0
 AllPages h l r after = (r ≡ allAnswer h l) × (after ≡ allHive h l)
 
+abbrev pub MarkPages : List ℕ → List ℕ → Marked → List ℕ → Type 0
+MarkPages l m r after = (r ≡ markedAnswer l (length m)) × (after ≡ markedMap l m)
+
 pub record Unique : Type 0 where
   pub check : (h m : List ℕ) → Determines (Checks h m)
   pub find-key : (h us : List ℕ) (r r′ : KeyFound) → r ≡ findAnswer h us → r′ ≡ findAnswer h us → r ≡ r′
@@ -76,3 +81,5 @@ pub record Unique : Type 0 where
   pub next-page : (l : List ℕ) (from : ℕ) (r r′ : NextPage) → r ≡ nextAnswer l from → r′ ≡ nextAnswer l from → r ≡ r′
   pub all-pages : (h l : List ℕ) → Determines (AllPages h l)
   pub next-mark : (l : List ℕ) (from : ℕ) (r r′ : NextMark) → r ≡ markAnswer l from → r′ ≡ markAnswer l from → r ≡ r′
+  pub mark-pages : (l m : List ℕ) → Determines (MarkPages l m)
+  pub log-facts : (l : List ℕ) (r r′ : LogFacts) → r ≡ logAnswer l → r′ ≡ logAnswer l → r ≡ r′

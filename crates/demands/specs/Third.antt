@@ -25,9 +25,10 @@ use Rattle.remnants.specs.declared.Filled.the-variants as filled
 use Rattle.remnants.specs.declared.Remnant.the-variants as remnant
 use Rattle.remnants.specs.Remnants.{remnantAnswer, rowsAnswer, rowsOut}
 use Rattle.logs.specs.Logs.{isLogged}
-use Rattle.recovery.specs.Calls.{closeHive}
+use Rattle.recovery.specs.declared.Stepped.the-variants.{Done}
+use Rattle.recovery.specs.Calls.{closeAnswer, closeHive}
 use Rattle.recovery.specs.Finished.{finished, afterPages, Covers}
-use Rattle.crash.specs.Trace.{Sent, Trace, Open, Closed, AllLanded}
+use Rattle.crash.specs.Trace.{Sent, Trace, Open, Closed, replayedIn, AllLanded}
 use Rattle.crash.specs.Demand.{Until, Running, Landed}
 
 -- "the reader refuses the file": each of its calls gives that refusal, whatever else it is given, and writes nothing
@@ -57,7 +58,11 @@ pub record Demand3 (h l : List ℕ) (n : ℕ) : Type 0 where
   pub finishes : (e c : Bool) (m : List ℕ) (q : List Sent) (k : List (List ℕ)) (d : List ℕ) → Trace h l e c m q k d → (ps : List ℕ) → Covers l ps
       → closeHive (afterPages m l ps) l ≡ finished h l
   -- "all page stores have landed before the closing sector is sent": then the disk holds every logged page as memory does, and the sector may be sent
-  pub barrier : (e : Bool) (m : List ℕ) (q : List Sent) (k : List (List ℕ)) (d : List ℕ) (o : Trace h l e true m q k d) → AllLanded o
+  -- where no version of a page landed in this run that the repair did not send
+  pub barrier : (e : Bool) (m : List ℕ) (q : List Sent) (k : List (List ℕ)) (d : List ℕ) (o : Trace h l e true m q k d) → replayedIn o ≡ false → AllLanded o
+      → (p : ℕ) → isLogged l p ≡ true → page d p ≡ page m p
+  -- and whatever landed, a closing call that is done on the disk's own bytes shows the same
+  pub may-seal : (m : List ℕ) (q : List Sent) (k : List (List ℕ)) (d : List ℕ) → Open h l true m q k d → closeAnswer d l ≡ Done
       → (p : ℕ) → isLogged l p ≡ true → page d p ≡ page m p
   -- "Once it lands, the file is, byte for byte, that of one unbroken run, and every later repair call says "clean" and changes nothing."
   pub landed : (c : Bool) (m : List ℕ) (q : List Sent) (k : List (List ℕ)) (d : List ℕ) → Closed h l c m q k d → Landed h l d

@@ -191,17 +191,17 @@ pub enum Fault {
     Segmented,
     // 20: output too short
     OutputShort,
-    // 21: log under 512 bytes, its base block not usable (type 1 or 2), or its sequence numbers differ
+    // 21: log under 512 bytes, its base block not usable (type 1, 2 or 6), or its sequence numbers differ
     LogBase,
-    // 22: log too short for bitmap or pages
+    // 22: log too short for bitmap or pages, or none of its entries counts
     LogShort,
     // 23: no "DIRT"
     NoDirt,
-    // 24: hive shorter than 4096 + the log's bins size
+    // 24: hive shorter than 4096 + the log's bins size (type 6: the largest counted)
     HiveCut,
-    // 25: stamps differ
+    // 25: stamps differ (type 6, usable hive: numbers)
     Stamps,
-    // 26: page not marked dirty, or past the bitmap
+    // 26: page not marked dirty, or past the bitmap (type 6: in no counted entry)
     NotDirty,
     // 27: closing, but a logged page is not in yet
     NotIn,

@@ -9,7 +9,7 @@ use Rattle.fields.specs.Faults.{_next_, faultOver}
 use Rattle.fields.proofs.Bools.{and-inv}
 use Rattle.base.specs.Block.{xors, asStored, storedChecksum, isVersion, isBinsSize, usable, clean, blockFault, baseFault}
 use Rattle.cells.specs.Tiling.{goodSize, tilingN, tiling, rowOf, binSize, layoutN, layout, addRow, surveyOf}
-use Rattle.cells.specs.Map.{markAt, marks, isBad, marksAll, zeros, mapAfter, isMarked}
+use Rattle.cells.specs.Map.{markAt, marks, isBad, marksAll, mapAfter, isMarked}
 use Rattle.cells.specs.Survey.{frontFault, surveyAnswer, mapLeft}
 use Rattle.cells.specs.Named.{isNamed, byHeader, cellOf, cellFault, dataOf, dataAt}
 use Rattle.names.specs.Codes.{codes, charactersIn, hasCode}
@@ -22,10 +22,10 @@ use Rattle.values.specs.Lists.{valuesOf, valueListFault, valuesFault}
 use Rattle.tree.specs.Tree.{_after_, placeFault, hashFault, levelFault, totalFault, restFault, ownFault, keyCharge, listCharge, treeCharge, joined, keysIn, valuesIn, checkAnswer}
 use Rattle.sectors.specs.Sector.{page}
 use Rattle.sectors.proofs.Logged.{same-true}
-use Rattle.bitmap.specs.Bits.{bitsBefore, nextAmong}
+use Rattle.bitmap.specs.Bits.{bitsBefore, nextAmong, zeros}
 use Rattle.old_log.specs.Layout.{bitmap, logged}
 use Rattle.old_log.specs.Tests as old
-use Rattle.logs.specs.Logs.{logFault, logBins, loggedCount, nextLogged, loggedPlace, applies}
+use Rattle.logs.specs.Logs.{isNew, logFault, logBins, loggedCount, nextLogged, loggedPlace, applies}
 use Rattle.recovery.specs.Calls.{hiveFault, testFault, startAnswer, nextAnswer}
 use Rattle.figures.specs.Inputs.{bare, lone, header, lowest, highest, used, sized, baseBlock, rootCell, minimal}
 use Rattle.figures.specs.Table.{surveyNumbers, checkNumbers, startNumbers, nextNumbers, orderNumber, testNumber, Figure, table, Figures}
@@ -46,7 +46,7 @@ rule (g ∷ fs) e f i =
     (List·Memᴰ·cases-cons i)
 
 computed : right table ≡ true
-unfolding right table sameBytes standsAt u16At u32At u64At sizeAt _next_ faultOver storedChecksum asStored xors isVersion isBinsSize usable clean blockFault baseFault codes charactersIn hasCode upper uppers byCode compare mixed mixedAll hashOf goodSize tilingN tiling rowOf binSize layoutN layout addRow surveyOf markAt marks isBad marksAll zeros mapAfter isMarked frontFault surveyAnswer mapLeft isNamed byHeader cellOf cellFault dataOf dataAt isKeyName isKey keyFault keyIn keyOf codesOf childrenIn leavesBelow childrenBelow listsFault valuesOf valueListFault valuesFault _after_ placeFault hashFault levelFault totalFault restFault ownFault keyCharge listCharge treeCharge joined keysIn valuesIn checkAnswer page bitsBefore nextAmong bitmap logged old.isLogBase old.headFault old.logFault old.stampsAgree logFault logBins loggedCount nextLogged loggedPlace applies hiveFault testFault startAnswer nextAnswer head log hive bare lone header lowest highest used sized baseBlock rootCell minimal surveyNumbers checkNumbers startNumbers nextNumbers orderNumber testNumber
+unfolding isNew right table sameBytes standsAt u16At u32At u64At sizeAt _next_ faultOver storedChecksum asStored xors isVersion isBinsSize usable clean blockFault baseFault codes charactersIn hasCode upper uppers byCode compare mixed mixedAll hashOf goodSize tilingN tiling rowOf binSize layoutN layout addRow surveyOf markAt marks isBad marksAll zeros mapAfter isMarked frontFault surveyAnswer mapLeft isNamed byHeader cellOf cellFault dataOf dataAt isKeyName isKey keyFault keyIn keyOf codesOf childrenIn leavesBelow childrenBelow listsFault valuesOf valueListFault valuesFault _after_ placeFault hashFault levelFault totalFault restFault ownFault keyCharge listCharge treeCharge joined keysIn valuesIn checkAnswer page bitsBefore nextAmong bitmap logged old.isLogBase old.headFault old.logFault old.stampsAgree logFault logBins loggedCount nextLogged loggedPlace applies hiveFault testFault startAnswer nextAnswer head log hive bare lone header lowest highest used sized baseBlock rootCell minimal surveyNumbers checkNumbers startNumbers nextNumbers orderNumber testNumber
 computed = refl
 
 pub figures : Figures

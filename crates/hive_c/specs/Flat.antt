@@ -26,6 +26,10 @@ use Rattle.recovery.specs.declared.NextPage.{NextPage}
 use Rattle.recovery.specs.declared.NextPage.the-variants as page
 use Rattle.recovery.specs.declared.NextMark.{NextMark}
 use Rattle.recovery.specs.declared.NextMark.the-variants as mark
+use Rattle.recovery.specs.declared.Marked.{Marked}
+use Rattle.recovery.specs.declared.Marked.the-variants as marked
+use Rattle.recovery.specs.declared.LogFacts.{LogFacts}
+use Rattle.recovery.specs.declared.LogFacts.the-variants as log
 use Rattle.remnants.specs.declared.Remnant.{Remnant}
 use Rattle.remnants.specs.declared.Remnant.the-variants as remnant
 use Rattle.remnants.specs.declared.Filled.{Filled}
@@ -42,6 +46,7 @@ use Rattle.hive_c.specs.declared.HiveRows.{HiveRows}
 use Rattle.hive_c.specs.declared.HiveRecovery.{HiveRecovery}
 use Rattle.hive_c.specs.declared.HivePage.{HivePage}
 use Rattle.hive_c.specs.declared.HiveMark.{HiveMark}
+use Rattle.hive_c.specs.declared.HiveLog.{HiveLog}
 
 -- no refusal, no key, and an offset
 abbrev pub granted : ℕ → HiveAnswer
@@ -156,3 +161,15 @@ abbrev pub markIn : NextMark → HiveMark
 markIn (mark.Refused f) = markWith (refused f) 0 0 0
 markIn mark.NoMore = markWith (granted 0) 1 0 0
 markIn (mark.At n to) = markWith (granted 0) 2 n (to .0)
+
+-- state 0: refused; 2: done
+abbrev pub mapIn : Marked → HiveRecovery
+mapIn (marked.Refused f) = recoveryWith (refused f) 0 0
+mapIn (marked.Pages n) = recoveryWith (granted 0) 2 n
+
+abbrev pub logWith : HiveAnswer → ℕ → ℕ → ℕ → ℕ → ℕ → HiveLog
+logWith a n first last end bins = record { answer = a; entries = n; first = first; last = last; end = end; bins = bins }
+
+abbrev pub logIn : LogFacts → HiveLog
+logIn (log.Refused f) = logWith (refused f) 0 0 0 0 0
+logIn (log.Of x) = logWith (granted 0) (x .entries) (x .first) (x .last) (x .end) (x .bins)

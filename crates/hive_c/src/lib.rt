@@ -28,6 +28,7 @@ use lookup::Copied;
 use lookup::Info;
 use lookup::ValueFound;
 use paths::KeyFound;
+use recovery::LogFacts;
 use recovery::NextMark;
 use recovery::NextPage;
 use recovery::Started;
@@ -46,9 +47,9 @@ ghost use Rattle.paths.specs.Answers.{findAnswer};
 ghost use Rattle.lookup.specs.Answers.{infoAnswer, viewAnswer, copyAnswer, copyOut};
 ghost use Rattle.listing.specs.Members.{subkeyAnswer, valueAnswer, infoAt, copyAt, outAt, factsAnswer};
 ghost use Rattle.recovery.specs.Calls.{startAnswer, pageAnswer, pageHive, closeAnswer, closeHive, nextAnswer};
-ghost use Rattle.recovery.specs.AtOnce.{allAnswer, allHive, markAnswer};
+ghost use Rattle.recovery.specs.AtOnce.{allAnswer, allHive, markAnswer, markedAnswer, markedMap, factsAnswer as logAnswer};
 ghost use Rattle.remnants.specs.Remnants.{kindWord, remnantAnswer, rowsAnswer, rowsOut};
-ghost use Rattle.hive_c.specs.Flat.{remnantIn, rowsIn, granted as grantedOf, refused as refusedOf, reportIn, keyIn, formOf, valueIn, copyIn, narrowIn, memberIn, factsIn, startIn, stepIn, pageIn, markIn};
+ghost use Rattle.hive_c.specs.Flat.{remnantIn, rowsIn, granted as grantedOf, refused as refusedOf, reportIn, keyIn, formOf, valueIn, copyIn, narrowIn, memberIn, factsIn, startIn, stepIn, pageIn, markIn, mapIn, logIn};
 
 // The states: of an answer that goes on or ends, and of a step of the repair.
 const REFUSED: u64 = 0;
@@ -167,7 +168,7 @@ pub struct HiveRows {
 }
 
 // An answer of recovery. state: HIVE_REFUSED; HIVE_CLEAN: nothing is to be done and nothing was changed; HIVE_DONE: accepted or done.
-// pages: the number of pages that the log holds, where hive_recover_start accepts it, else 0.
+// pages: the number of pages that the log holds, where hive_recover_start accepts it or hive_recover_mark_pages is done, else 0.
 #[repr(C)]
 pub struct HiveRecovery {
     pub answer: HiveAnswer,
@@ -194,6 +195,19 @@ pub struct HiveMark {
     pub state: u64,
     pub page: u64,
     pub to: u64,
+}
+
+// What a log says of itself. entries: how many entries of a log of type 6 count. first, last: the numbers of the first and the last
+// of them. end: where the last ends in the log. bins: the largest bins size, so that the hive needs 4096 + bins bytes. A log of type 1
+// or 2 has no entries: entries is 0, first and last are its own number, and end is 512.
+#[repr(C)]
+pub struct HiveLog {
+    pub answer: HiveAnswer,
+    pub entries: u64,
+    pub first: u64,
+    pub last: u64,
+    pub end: u64,
+    pub bins: u64,
 }
 
 // No refusal.
@@ -611,13 +625,13 @@ fn started(s: Started) -> HiveRecovery
     }
 }
 
-// Whether an old-format log (file type 1 or 2) repairs this hive. A hive that needs no repair answers HIVE_CLEAN, whatever
-// the log. Refuses 1, 21, 22, 23, 22, 24, 25, in this order.
+// Whether a log repairs this hive: one of the old format (file type 1 or 2), or one of Windows 8.1 and later (type 6). A hive that
+// needs no repair answers HIVE_CLEAN, whatever the log. Refuses 1, 21, 22, 23, 22, 24, 25, in this order; 23 never for type 6.
 //
-// A repair: start; hive_recover_all; for each page of hive_recover_mark store its 512 bytes in the file; wait until they are on
-// the disk; hive_recover_close; store the first 512 bytes; wait again. After a power failure, or in doubt, do all of it again
-// with the file as it is: the outcome is the same file, byte for byte. One page at a time does as well, by hive_recover_page for
-// each page of hive_recover_next, but each of these calls makes all tests anew.
+// A repair: start; hive_recover_all; for each page that hive_recover_mark_pages marks store its 512 bytes in the file; wait until
+// they are on the disk; hive_recover_close; store the first 512 bytes; wait again. After a power failure, or in doubt, do all of it
+// again with the file as it is: the outcome is the same file, byte for byte. One page at a time does as well, by hive_recover_page
+// for each page of hive_recover_next, but each of these calls makes all tests anew.
 //
 // In all calls of the repair the hive is private memory, never a shared mapping of the file: hive_recover_close writes the first
 // sector in two steps, and the file must see them as one.
@@ -662,7 +676,7 @@ pub extern "C" fn hive_recover_page(hive: &mut [u8], log: &[u8], page: usize) ->
 }
 
 // Writes the closing sector to the first 512 bytes of the hive in memory, once every logged page is in: the log's first 512
-// bytes with file type 0 and a new checksum. No other byte changes. Makes all tests of hive_recover_start first and refuses as
+// bytes with file type 0 and a new checksum; for type 6 also with the last entry's number and bins size. No other byte changes. Makes all tests of hive_recover_start first and refuses as
 // it does, then 27. A refusal, and HIVE_CLEAN, leave the hive as it was. Store these bytes only when all pages are on the disk.
 #[no_mangle]
 pub extern "C" fn hive_recover_close(hive: &mut [u8], log: &[u8]) -> HiveRecovery
@@ -752,4 +766,65 @@ pub extern "C" fn hive_recover_mark(log: &[u8], from: usize) -> HiveMark
     ensures { λ r. ⌜ r ≡ markIn (markAnswer (now (log .entry)) from) ⌝ }
 {
     marked(recovery::next_mark(log, from))
+}
+
+fn mapped(m: recovery::Marked) -> HiveRecovery
+    ensures { λ r. ⌜ r ≡ mapIn m ⌝ }
+{
+    match m {
+        recovery::Marked::Pages(n) => HiveRecovery {
+            answer: granted(0),
+            state: DONE,
+            pages: n as u64,
+        },
+        recovery::Marked::Refused(f) => HiveRecovery {
+            answer: refused(f),
+            state: REFUSED,
+            pages: 0,
+        },
+    }
+}
+
+// Marks every page that the log holds in a lent map, lowest bit first: page n is bit n % 8 of byte n / 8, and it goes to
+// 4096 + 512 x n in the hive. The map needs bins size / 4096 bytes (see hive_recover_log); those beyond stay. HIVE_DONE where it
+// did, with the number of pages. Reads the log once, where hive_recover_mark reads it for each page. Refuses 21, 22, 23, 22, in
+// this order, then 8. A refusal leaves the map as it was.
+#[no_mangle]
+pub extern "C" fn hive_recover_mark_pages(log: &[u8], map: &mut [u8]) -> HiveRecovery
+    ensures { λ r. ⌜ r ≡ mapIn (markedAnswer (now (log .entry)) (length (now (map .entry)))) ⌝ }
+    ensures { λ _. ⌜ now (map .exit) ≡ markedMap (now (log .entry)) (now (map .entry)) ⌝ }
+{
+    mapped(recovery::mark_pages(log, map))
+}
+
+fn told(t: LogFacts) -> HiveLog
+    ensures { λ r. ⌜ r ≡ logIn t ⌝ }
+{
+    match t {
+        LogFacts::Of(f) => HiveLog {
+            answer: granted(0),
+            entries: f.entries as u64,
+            first: f.first as u64,
+            last: f.last as u64,
+            end: f.end as u64,
+            bins: f.bins as u64,
+        },
+        LogFacts::Refused(f) => HiveLog {
+            answer: refused(f),
+            entries: 0,
+            first: 0,
+            last: 0,
+            end: 0,
+            bins: 0,
+        },
+    }
+}
+
+// What a log says of itself. Where the first number of one log of type 6 follows the last of another, the one up to its end with the
+// other from 512 on is a log. Refuses 21, 22, 23, 22, in this order.
+#[no_mangle]
+pub extern "C" fn hive_recover_log(log: &[u8]) -> HiveLog
+    ensures { λ r. ⌜ r ≡ logIn (logAnswer (now (log .entry))) ⌝ }
+{
+    told(recovery::log_facts(log))
 }

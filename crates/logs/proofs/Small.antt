@@ -18,7 +18,7 @@ use Rattle.bitmap.specs.Bits.{bitsBefore, nextAmong}
 use Rattle.sectors.specs.Sector.{page}
 use Rattle.old_log.specs.Layout as layout
 use Rattle.old_log.specs.Tests as tests
-use Rattle.logs.specs.Logs.{logFault, logBins, isLogged, loggedCount, nextLogged, logged, applies}
+use Rattle.logs.specs.Logs.{isNew, logFault, logBins, isLogged, loggedCount, nextLogged, logged, applies}
 use Rattle.logs.specs.Small.{head, log, hive}
 use Rattle.logs.proofs.Laws.{next-least, next-none}
 
@@ -28,40 +28,40 @@ l = log 512
 -- ---- computed
 
 pub small-sound : logFault l ≡ Sound
-unfolding logFault log head tests.logFault tests.headFault tests.isLogBase layout.bitmap usable blockFault isVersion isBinsSize storedChecksum asStored xors u32At u16At standsAt sameBytes bitsBefore _next_
+unfolding isNew logFault log head tests.logFault tests.headFault tests.isLogBase layout.bitmap usable blockFault isVersion isBinsSize storedChecksum asStored xors u32At u16At standsAt sameBytes bitsBefore _next_
 small-sound = refl
 
 pub small-count : loggedCount l ≡ 2
-unfolding loggedCount log head layout.bitmap bitsBefore u32At u16At
+unfolding isNew loggedCount log head layout.bitmap bitsBefore u32At u16At
 small-count = refl
 
 pub small-bins : logBins l ≡ 8192
-unfolding logBins log head u32At u16At
+unfolding isNew logBins log head u32At u16At
 small-bins = refl
 
 pub small-applies : applies hive l ≡ true
-unfolding applies hive log head tests.stampsAgree layout.logged layout.bitmap page usable blockFault _next_ isVersion isBinsSize storedChecksum asStored xors u64At u32At u16At standsAt sameBytes bitsBefore
+unfolding isNew applies hive log head tests.stampsAgree layout.logged layout.bitmap page usable blockFault _next_ isVersion isBinsSize storedChecksum asStored xors u64At u32At u16At standsAt sameBytes bitsBefore
 small-applies = refl
 
 pub small-first : nextLogged l 0 ≡ At 0
-unfolding nextLogged log head layout.bitmap nextAmong u32At u16At
+unfolding isNew nextLogged log head layout.bitmap nextAmong u32At u16At
 small-first = refl
 
 pub small-second : nextLogged l 1 ≡ At 15
-unfolding nextLogged log head layout.bitmap nextAmong u32At u16At
+unfolding isNew nextLogged log head layout.bitmap nextAmong u32At u16At
 small-second = refl
 
 pub small-end : nextLogged l 16 ≡ Nothing
-unfolding nextLogged log head layout.bitmap nextAmong u32At u16At
+unfolding isNew nextLogged log head layout.bitmap nextAmong u32At u16At
 small-end = refl
 
 -- a byte of each page
 pub small-zero : getD (logged l 0) 28 0 ≡ 7
-unfolding logged log head layout.logged layout.bitmap bitsBefore u32At u16At
+unfolding isNew logged log head layout.logged layout.bitmap bitsBefore u32At u16At
 small-zero = refl
 
 pub small-fifteen : getD (logged l 15) 0 0 ≡ 9
-unfolding logged log head layout.logged layout.bitmap bitsBefore u32At u16At
+unfolding isNew logged log head layout.logged layout.bitmap bitsBefore u32At u16At
 small-fifteen = refl
 
 -- ---- so its pages are these

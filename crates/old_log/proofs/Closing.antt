@@ -1,25 +1,17 @@
 -- The closing sector of a log that passes its tests is a clean base block.
-use Prim.Native.Nat.{ℕ, zero, suc}
-use native.Mathlib.Omega.{arith}
+use Prim.Native.Nat.{ℕ}
 use mathlib.Core.Path.{_≡_, _∙_}
 use mathlib.Core.Bool.{true}
-use mathlib.Core.List.{List, [], _∷_}
-use lib.ListN.{length, take}
+use mathlib.Core.List.{List}
+use lib.ListN.{length}
 use lib.Seq.{length-take-le}
 use Rattle.fields.specs.declared.Verdict.the-variants.{Sound}
 use Rattle.base.specs.Block.{sector, typeOf, clean}
 use Rattle.sectors.specs.Sector.{Bytes}
 use Rattle.sectors.proofs.Closed as closed
+use Rattle.sectors.proofs.Words.{take-bytes}
 use Rattle.old_log.specs.Tests.{logFault, closingOf}
 use Rattle.old_log.proofs.Facts.{head-of, head-facts, log-base}
-
-take-bytes : (l : List ℕ) → Bytes l → (n : ℕ) → Bytes (take n l)
-take-bytes [] b zero i = b i
-take-bytes [] b (suc n) i = b i
-take-bytes (x ∷ l) b zero zero = omega arith
-take-bytes (x ∷ l) b zero (suc i) = omega arith
-take-bytes (x ∷ l) b (suc n) zero = b zero
-take-bytes (x ∷ l) b (suc n) (suc i) = take-bytes l (λ k. b (suc k)) n i
 
 module _ (l : List ℕ) (e : logFault l ≡ Sound) where
   pub closing-length : length (closingOf l) ≡ 512

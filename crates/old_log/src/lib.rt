@@ -7,11 +7,12 @@ use fields::Place;
 use fields::Verdict;
 ghost use mathlib.Core.Path.{_≡_};
 ghost use mathlib.Core.Bool.{true};
+ghost use mathlib.Core.List.{_++_};
 ghost use Prim.Native.Nat.{_+_, _≤_, _<_};
-ghost use lib.ListN.{length};
+ghost use lib.ListN.{length, drop};
 ghost use Rattle.fields.specs.declared.Verdict.the-variants.{Sound};
 ghost use Rattle.sectors.specs.Logged.{isIn, putOne};
-ghost use Rattle.old_log.specs.Layout.{logBins, bitmap as bitmapOf, pagesAt, isLogged, loggedPlace, logged, loggedCount, nextLogged, allPut};
+ghost use Rattle.old_log.specs.Layout.{logBins, mapSize, bitmap as bitmapOf, pagesAt, isLogged, loggedPlace, logged, loggedCount, nextLogged, allPut};
 ghost use Rattle.old_log.specs.Tests.{isLogBase, pagesFit, headFault, logFault, counted, zeroAgrees, stampsAgree, allIn};
 
 // What the log's own tests give.
@@ -141,6 +142,16 @@ pub fn logged_place(log: &[u8], page: usize) -> Place
 {
     let before = bitmap::bits_before(map_of(log), page);
     Place(pages_at(log) + 512 * before)
+}
+
+// Marks every logged page in a bitmap: the log has it.
+pub fn mark(log: &[u8], map: &mut [u8])
+    requires { ⌜ headFault (now log) ≡ Sound ⌝ }
+    requires { ⌜ mapSize (now log) ≤ length (now map) ⌝ }
+    ensures { λ _. ⌜ now (map .exit) ≡ bitmapOf (now (log .entry)) ++ drop (mapSize (now (log .entry))) (now (map .entry)) ⌝ }
+{
+    let n = bins_size(log) / 4096;
+    fields::copy_all(map_of(log), &mut map[0..n]);
 }
 
 // ---- what it says of a hive

@@ -1,19 +1,26 @@
--- All pages at once are page calls in a row, so they and a closing call give the finished file.
-use Prim.Native.Nat.{ℕ, zero, suc, _<_}
+-- All pages at once are page calls in a row, so they and a closing call give the finished file; and the map of the logged pages is that.
+use Prim.Native.Nat.{ℕ, zero, suc, _/_, _%_, _^_, _<_}
 use native.Mathlib.Decide.{ℕ-discrete}
 use native.Mathlib.Nat.{not-suc-le-zero}
 use native.Mathlib.Omega.{arith}
 use mathlib.Core.Path.{_≡_, refl, sym, ap, subst, _∙_}
 use mathlib.Core.Bool.{Bool, true, false, cond}
 use mathlib.Core.List.{List, [], _∷_, _++_, append-nil, List·Memᴰ, List·Memᴰ·head, Memᴰ·append-left, Memᴰ·append-right}
+use lib.Dec.{eqb}
+use lib.ListN.{length, drop, List·getD-append}
+use Rattle.fields.specs.declared.Verdict.{Verdict}
+use Rattle.fields.specs.declared.Verdict.the-variants.{Sound, Flawed}
+use Rattle.fields.proofs.Firsts.{both}
+use Rattle.bitmap.specs.Bits.{isMarked}
 use Rattle.sectors.specs.Sector.{stored, pagePlace}
 use Rattle.sectors.specs.Logged.{putOne, putBelow}
-use Rattle.logs.specs.Logs.{pageCount, isLogged, logged, allPut}
-use Rattle.logs.proofs.Laws.{logged-below}
+use Rattle.logs.specs.Logs.{logFault, pageCount, isLogged, loggedCount, logged, marksOf, allPut}
+use Rattle.logs.proofs.Laws.{head-of, bins-sized, logged-below, marks-length, marks-logged}
+use Rattle.recovery.specs.declared.Marked.the-variants as marked
 use Rattle.recovery.specs.declared.Started.the-variants.{Pages}
 use Rattle.recovery.specs.Calls.{startAnswer, pageHive, closeHive}
 use Rattle.recovery.specs.Finished.{finished, afterPages, Covers}
-use Rattle.recovery.specs.AtOnce.{loggedBelow, loggedPages, allHive}
+use Rattle.recovery.specs.AtOnce.{loggedBelow, loggedPages, allHive, markedFault, markedBy, markedAnswer, whereMarked, markedMap}
 use Rattle.recovery.proofs.ByStart.{all-hive}
 use Rattle.recovery.proofs.Within.{Within, within-self, good, page-stores}
 use Rattle.recovery.proofs.Repair.{pages-within, repaired}
@@ -66,3 +73,19 @@ module _ (h l : List ℕ) (n : ℕ) (ok : startAnswer h l ≡ Pages n) where
 
   pub at-once : closeHive (allHive h l) l ≡ finished h l
   at-once = ap (λ (d : List ℕ). closeHive d l) (all-hive h l (Pages n) ok) ∙ repaired h l n ok (loggedPages l) all-covered .file
+
+-- the map has each logged page's bit set, and no other of the bins' pages
+pub marked-right : (l m : List ℕ) (n : ℕ) → markedAnswer l (length m) ≡ marked.Pages n
+    → (n ≡ loggedCount l) × ((p : ℕ) → p < pageCount l → isMarked (markedMap l m) p ≡ isLogged l p)
+unfolding markedAnswer markedMap markedFault
+marked-right l m n e = by (markedFault l (length m)) refl e
+  where
+    by : (v : Verdict) → markedFault l (length m) ≡ v → markedBy v (loggedCount l) ≡ marked.Pages n
+        → (n ≡ loggedCount l) × ((p : ℕ) → p < pageCount l → isMarked (whereMarked (markedBy v (loggedCount l)) (marksOf l ++ drop (pageCount l / 8) m) m) p ≡ isLogged l p)
+    by (Flawed f) q w = absurd (let z : _≡_ {A = ℕ} 0 1 = cc in omega arith)
+    by Sound q w =
+        let k = both (logFault l) _ q .0 in
+        let size = bins-sized l (head-of l k) .pages in (
+          let z : loggedCount l ≡ n = cc in sym z,
+          λ p g. ap (λ (b : ℕ). eqb (b / 2 ^ (p % 8) % 2) 1) (List·getD-append (marksOf l) (drop (pageCount l / 8) m) 0 (p / 8) (omega (arith, marks-length l k, size))) ∙ marks-logged l k p,
+        )

@@ -1,5 +1,5 @@
 -- Every refusal of the repair calls says why, and has place 0 and no key.
-use Prim.Native.Nat.{ℕ, _+_}
+use Prim.Native.Nat.{ℕ, _+_, _/_}
 use native.Mathlib.Omega.{arith}
 use mathlib.Core.Path.{_≡_, refl, sym, ap, _∙_}
 use mathlib.Core.Bool.{Bool, true, false, cond}
@@ -19,17 +19,19 @@ use Rattle.fields.proofs.Every.{Every, every-unless, every-next}
 use Rattle.base.specs.Block.{sector, clean}
 use Rattle.bitmap.specs.declared.Next.{Next}
 use Rattle.bitmap.specs.declared.Next.the-variants as following
-use Rattle.logs.specs.Logs.{headFault, logFault, logBins, isLogged, loggedCount, nextLogged, applies, allIn}
+use Rattle.logs.specs.Logs.{headFault, logFault, logBins, pageCount, isLogged, loggedCount, nextLogged, factsOf, applies, allIn}
 use Rattle.logs.specs.Refused.{OfHead, OfLog}
 use Rattle.logs.proofs.Laws.{head-refuses, log-refuses}
+use Rattle.recovery.specs.declared.LogFacts.the-variants as facts
+use Rattle.recovery.specs.declared.Marked.the-variants as marked
 use Rattle.recovery.specs.declared.NextMark.the-variants as mark
 use Rattle.recovery.specs.declared.NextPage.the-variants as next
 use Rattle.recovery.specs.declared.Started.{Started}
 use Rattle.recovery.specs.declared.Started.the-variants as started
 use Rattle.recovery.specs.declared.Stepped.the-variants as stepped
 use Rattle.recovery.specs.Calls.{hiveFault, testFault, started as startedBy, startAnswer, tested, pageAnswer, closeAnswer, nextOf, nextTested, nextAnswer}
-use Rattle.recovery.specs.AtOnce.{allAnswer, markOf, markTested, markAnswer}
-use Rattle.recovery.specs.Refused.{OfStart, hive-short, of-log, hive-cut, stamps-differ, OfPage, page-start, not-dirty, OfClose, close-start, not-in}
+use Rattle.recovery.specs.AtOnce.{allAnswer, markOf, markTested, markAnswer, markedFault, markedBy, markedAnswer, factsTested, factsAnswer}
+use Rattle.recovery.specs.Refused.{OfStart, hive-short, of-log, hive-cut, stamps-differ, OfPage, page-start, not-dirty, OfClose, close-start, not-in, OfMarked, marked-log, map-small}
 
 module _ (h l : List ℕ) where
   tests-refuse : Every (OfStart h l) (testFault h l)
@@ -99,3 +101,25 @@ mark-refuses l from {r} e = by (headFault l) refl (nextLogged l from) e
     by Sound p (following.At k) q = absurd (let z : _≡_ {A = ℕ} 0 1 = cc in omega arith)
     by Sound p following.Nothing q = absurd (let z : _≡_ {A = ℕ} 0 1 = cc in omega arith)
     by (Flawed f) p n q = (f, let z : refusalOf noKey f ≡ r = cc in sym z, head-refuses l f p)
+
+map-refuses : (l : List ℕ) (room : ℕ) → Every (OfMarked l room) (markedFault l room)
+unfolding markedFault
+map-refuses l room =
+    every-next (OfMarked l room) (logFault l) _ (λ f e. marked-log (log-refuses l f e))
+    (λ a. every-unless (OfMarked l room) (leb (pageCount l / 8) room) _ (λ e. map-small (leb-false _ _ e)))
+
+pub marked-refuses : (l : List ℕ) (room : ℕ) {r : Refusal} → markedAnswer l room ≡ marked.Refused r → (f : Flaw) × (r ≡ refusalOf noKey f) × OfMarked l room f
+unfolding markedAnswer
+marked-refuses l room {r} e = by (markedFault l room) refl e
+  where
+    by : (v : Verdict) → markedFault l room ≡ v → markedBy v (loggedCount l) ≡ marked.Refused r → (f : Flaw) × (r ≡ refusalOf noKey f) × OfMarked l room f
+    by Sound p q = absurd (let z : _≡_ {A = ℕ} 0 1 = cc in omega arith)
+    by (Flawed f) p q = (f, let z : refusalOf noKey f ≡ r = cc in sym z, map-refuses l room f p)
+
+pub facts-refuses : (l : List ℕ) {r : Refusal} → factsAnswer l ≡ facts.Refused r → (f : Flaw) × (r ≡ refusalOf noKey f) × OfLog l f
+unfolding factsAnswer
+facts-refuses l {r} e = by (logFault l) refl e
+  where
+    by : (v : Verdict) → logFault l ≡ v → factsTested v (facts.Of (factsOf l)) ≡ facts.Refused r → (f : Flaw) × (r ≡ refusalOf noKey f) × OfLog l f
+    by Sound p q = absurd (let z : _≡_ {A = ℕ} 0 1 = cc in omega arith)
+    by (Flawed f) p q = (f, let z : refusalOf noKey f ≡ r = cc in sym z, log-refuses l f p)

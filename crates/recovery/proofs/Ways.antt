@@ -1,33 +1,65 @@
 -- The tests that every call makes first, a law for each way out, and what an accepted start says.
-use Prim.Native.Nat.{ℕ, _+_, _<_, _≤_}
+use Prim.Native.Nat.{ℕ, _+_, _/_, _<_, _≤_}
 use native.Mathlib.Omega.{arith}
-use mathlib.Core.Path.{_≡_, refl}
+use mathlib.Core.Path.{_≡_, refl, _∙_}
 use mathlib.Core.Bool.{Bool, true, false, cond}
 use mathlib.Core.List.{List}
 use lib.Dec.{leb, ltb}
 use lib.ListN.{length}
 use borrow.Author.Tests.{lt-leb, le-leb, leb-true, lt-ltb, le-ltb, ltb-false}
 use Rattle.fields.specs.declared.Flaw.{Flaw}
-use Rattle.fields.specs.declared.Fault.the-variants.{HiveShort, HiveCut, Stamps}
+use Rattle.fields.specs.declared.Fault.the-variants.{HiveShort, HiveCut, Stamps, MapSmall}
+use Rattle.fields.specs.declared.Refusal.{Refusal}
 use Rattle.fields.specs.declared.Verdict.{Verdict}
 use Rattle.fields.specs.declared.Verdict.the-variants.{Sound, Flawed}
 use Rattle.fields.specs.Faults.{flaw, nowhere, noKey, refusalOf, unless}
 use Rattle.fields.proofs.Firsts.{on, stop, both, held, holds, fails}
 use Rattle.base.specs.Block.{sector, clean}
+use Rattle.logs.specs.declared.Head.the-variants as head
+use Rattle.logs.specs.declared.Read.{Read}
 use Rattle.logs.specs.declared.Tested.the-variants as log
-use Rattle.logs.specs.Logs.{logFault, logBins, loggedCount, counted, applies}
+use Rattle.logs.specs.Logs.{headed, logFault, logBins, pageCount, loggedCount, counted, applies}
+use Rattle.recovery.specs.declared.Begun.the-variants as ready
+use Rattle.recovery.specs.declared.Started.{Started}
 use Rattle.recovery.specs.declared.Started.the-variants.{Clean, Pages, Refused}
+use Rattle.recovery.specs.Steps.{begunBy}
+use Rattle.recovery.specs.AtOnce.{markedFault}
 use Rattle.recovery.specs.Calls.{hiveFault, testFault, started, startAnswer}
 
 -- ---- the log's own tests
 
-pub logged-sound : (v : Verdict) (n m : ℕ) → counted v n ≡ log.Logged m → (v ≡ Sound) × (n ≡ m)
-logged-sound Sound n m e = (refl, cc)
-logged-sound (Flawed f) n m e = absurd (let z : _≡_ {A = ℕ} 0 1 = cc in omega arith)
+pub logged-sound : (v : Verdict) (r x : Read) (n m : ℕ) → counted v r n ≡ log.Logged x m → (v ≡ Sound) × (r ≡ x) × (n ≡ m)
+logged-sound Sound r x n m e = (refl, cc, cc)
+logged-sound (Flawed f) r x n m e = absurd (let z : _≡_ {A = ℕ} 0 1 = cc in omega arith)
 
-pub flawed-log : (v : Verdict) (n : ℕ) (f : Flaw) → counted v n ≡ log.Flawed f → v ≡ Flawed f
-flawed-log Sound n f e = absurd (let z : _≡_ {A = ℕ} 0 1 = cc in omega arith)
-flawed-log (Flawed g) n f e = cc
+pub flawed-log : (v : Verdict) (r : Read) (n : ℕ) (f : Flaw) → counted v r n ≡ log.Flawed f → v ≡ Flawed f
+flawed-log Sound r n f e = absurd (let z : _≡_ {A = ℕ} 0 1 = cc in omega arith)
+flawed-log (Flawed g) r n f e = cc
+
+pub good-head : (v : Verdict) (r x : Read) → headed v r ≡ head.Good x → (v ≡ Sound) × (r ≡ x)
+good-head Sound r x e = (refl, cc)
+good-head (Flawed f) r x e = absurd (let z : _≡_ {A = ℕ} 0 1 = cc in omega arith)
+
+pub flawed-head : (v : Verdict) (r : Read) (f : Flaw) → headed v r ≡ head.Flawed f → v ≡ Flawed f
+flawed-head Sound r f e = absurd (let z : _≡_ {A = ℕ} 0 1 = cc in omega arith)
+flawed-head (Flawed g) r f e = cc
+
+-- ---- what the first tests give to the rest of a call
+
+pub begun-clean : (s : Started) (r : Read) → begunBy s r ≡ ready.Clean → s ≡ Clean
+begun-clean Clean r e = refl
+begun-clean (Pages n) r e = absurd (let z : _≡_ {A = ℕ} 0 1 = cc in omega arith)
+begun-clean (Refused x) r e = absurd (let z : _≡_ {A = ℕ} 0 1 = cc in omega arith)
+
+pub begun-ready : (s : Started) (r x : Read) (n : ℕ) → begunBy s r ≡ ready.Ready x n → (s ≡ Pages n) × (x ≡ r)
+begun-ready Clean r x n e = absurd (let z : _≡_ {A = ℕ} 0 1 = cc in omega arith)
+begun-ready (Pages m) r x n e = (cc, cc)
+begun-ready (Refused y) r x n e = absurd (let z : _≡_ {A = ℕ} 0 1 = cc in omega arith)
+
+pub begun-refused : (s : Started) (r : Read) (x : Refusal) → begunBy s r ≡ ready.Refused x → s ≡ Refused x
+begun-refused Clean r x e = absurd (let z : _≡_ {A = ℕ} 0 1 = cc in omega arith)
+begun-refused (Pages n) r x e = absurd (let z : _≡_ {A = ℕ} 0 1 = cc in omega arith)
+begun-refused (Refused y) r x e = cc
 
 -- ---- 24, 25
 
@@ -99,3 +131,18 @@ module _ (h l : List ℕ) where
   begun n e =
       let i = begun-of (ltb (length h) 4096) (clean (sector h)) (testFault h l) (loggedCount l) n e in
       record { long = ltb-false (length h) 4096 (i .0); unclean = i .1; tests = i .2; count = i .3 }
+
+-- ---- a map of the logged pages
+
+module _ (l : List ℕ) (room : ℕ) where
+  pub unmarked : {f : Flaw} → logFault l ≡ Flawed f → markedFault l room ≡ Flawed f
+  unfolding markedFault
+  unmarked e = stop _ _ e
+
+  pub map-small : logFault l ≡ Sound → room < pageCount l / 8 → markedFault l room ≡ Flawed (flaw MapSmall nowhere)
+  unfolding markedFault
+  map-small e p = on _ _ e ∙ fails _ (lt-leb _ _ p)
+
+  pub map-fits : logFault l ≡ Sound → pageCount l / 8 ≤ room → markedFault l room ≡ Sound
+  unfolding markedFault
+  map-fits e p = on _ _ e ∙ holds _ (le-leb _ _ p)

@@ -6,14 +6,19 @@ use fields::Offset;
 use fields::Place;
 use fields::Refusal;
 use fields::Verdict;
+use logs::Facts;
+use logs::Head;
+use logs::Read;
 use logs::Tested;
 ghost use mathlib.Core.Path.{_≡_};
+ghost use lib.ListN.{length};
 ghost use Rattle.fields.specs.declared.Verdict.the-variants.{Sound};
 ghost use Rattle.fields.specs.Faults.{flaw, nowhere, noKey, refusalOf};
 ghost use Rattle.sectors.specs.Sector.{stored, pagePlace};
-ghost use Rattle.logs.specs.Logs.{headFault, logFault, loggedCount, logged, nextLogged, closingOf};
+ghost use Rattle.logs.specs.Logs.{readOf, headFault, logFault, loggedCount, logged, nextLogged, closingOf};
+ghost use Rattle.recovery.specs.Steps.{begunBy};
 ghost use Rattle.recovery.specs.Calls.{hiveFault, testFault, started, startAnswer, installed, closed, changed, pageAnswer, pageHive, closeAnswer, closeHive, nextOf, nextAnswer};
-ghost use Rattle.recovery.specs.AtOnce.{allAnswer, allHive, markOf, markAnswer};
+ghost use Rattle.recovery.specs.AtOnce.{allAnswer, allHive, markOf, markAnswer, markedAnswer, markedMap, factsAnswer};
 
 pub enum Started {
     // The hive needs no repair.
@@ -45,6 +50,25 @@ pub enum NextMark {
     Refused(Refusal),
 }
 
+pub enum Marked {
+    // The log's logged pages are marked in the map, and there are this many.
+    Pages(usize),
+    // Nothing has changed.
+    Refused(Refusal),
+}
+
+pub enum LogFacts {
+    Of(Facts),
+    Refused(Refusal),
+}
+
+// What the tests that every call makes first give to the rest of the call.
+enum Begun {
+    Clean,
+    Ready { read: Read, pages: usize },
+    Refused(Refusal),
+}
+
 // A refusal of recovery: its place is always 0, and there is no key.
 fn refuse(fault: Fault) -> Refusal
     ensures { λ r. ⌜ r ≡ refusalOf noKey (flaw fault nowhere) ⌝ }
@@ -59,70 +83,84 @@ fn refuse(fault: Fault) -> Refusal
 }
 
 // 24; 25.
-fn hive_flaw(hive: &[u8], log: &[u8]) -> Verdict
+fn hive_flaw(hive: &[u8], log: &[u8], read: Read) -> Verdict
     requires { ⌜ logFault (now log) ≡ Sound ⌝ }
+    requires { ⌜ read ≡ readOf (now log) ⌝ }
     ensures { λ r. ⌜ r ≡ hiveFault (now (hive .entry)) (now (log .entry)) ⌝ }
 {
-    if hive.len() < 4096 + logs::bins_size(log) {
+    if hive.len() < 4096 + logs::bins_size(log, read) {
         return fields::flawed(Fault::HiveCut, Offset(0));
     }
-    if !logs::applies(hive, log) {
+    if !logs::applies(hive, log, read) {
         return fields::flawed(Fault::Stamps, Offset(0));
     }
     Verdict::Sound
 }
 
 // 21; 22 for the bitmap; 23; 22 for the pages; 24; 25.
-fn log_tests(hive: &[u8], log: &[u8]) -> Started
-    ensures { λ r. ⌜ r ≡ started (testFault (now (hive .entry)) (now (log .entry))) (loggedCount (now (log .entry))) ⌝ }
+fn log_tests(hive: &[u8], log: &[u8]) -> Begun
+    ensures { λ r. ⌜ r ≡ begunBy (started (testFault (now (hive .entry)) (now (log .entry))) (loggedCount (now (log .entry)))) (readOf (now (log .entry))) ⌝ }
 {
     match logs::log_test(log) {
-        Tested::Flawed(f) => Started::Refused(fields::refused(Offset(fields::NO_KEY), f)),
-        Tested::Logged(n) => match hive_flaw(hive, log) {
-            Verdict::Flawed(f) => Started::Refused(fields::refused(Offset(fields::NO_KEY), f)),
-            Verdict::Sound => Started::Pages(n),
+        Tested::Flawed(f) => Begun::Refused(fields::refused(Offset(fields::NO_KEY), f)),
+        Tested::Logged { read, pages } => match hive_flaw(hive, log, read) {
+            Verdict::Flawed(f) => Begun::Refused(fields::refused(Offset(fields::NO_KEY), f)),
+            Verdict::Sound => Begun::Ready { read, pages },
         },
     }
 }
 
-// The tests that every call makes first.
-pub fn start(hive: &[u8], log: &[u8]) -> Started
-    ensures { λ r. ⌜ r ≡ startAnswer (now (hive .entry)) (now (log .entry)) ⌝ }
+// The tests that every call makes first. The log is read once.
+fn begin(hive: &[u8], log: &[u8]) -> Begun
+    ensures { λ r. ⌜ r ≡ begunBy (startAnswer (now (hive .entry)) (now (log .entry))) (readOf (now (log .entry))) ⌝ }
 {
     if hive.len() < 4096 {
-        return Started::Refused(refuse(Fault::HiveShort));
+        return Begun::Refused(refuse(Fault::HiveShort));
     }
     if base::clean(&hive[0..512]) {
-        return Started::Clean;
+        return Begun::Clean;
     }
     log_tests(hive, log)
 }
 
+// These tests alone.
+pub fn start(hive: &[u8], log: &[u8]) -> Started
+    ensures { λ r. ⌜ r ≡ startAnswer (now (hive .entry)) (now (log .entry)) ⌝ }
+{
+    match begin(hive, log) {
+        Begun::Clean => Started::Clean,
+        Begun::Ready { read: _, pages } => Started::Pages(pages),
+        Begun::Refused(r) => Started::Refused(r),
+    }
+}
+
 // A page call whose tests are passed.
-fn install(hive: &mut [u8], log: &[u8], n: usize) -> Stepped
+fn install(hive: &mut [u8], log: &[u8], read: Read, n: usize) -> Stepped
     requires { ⌜ testFault (now hive) (now log) ≡ Sound ⌝ }
+    requires { ⌜ read ≡ readOf (now log) ⌝ }
     ensures { λ r. ⌜ r ≡ installed (now (log .entry)) n ⌝ }
     ensures { λ r. ⌜ now (hive .exit) ≡ changed r (stored (now (hive .entry)) (pagePlace n) (logged (now (log .entry)) n)) (now (hive .entry)) ⌝ }
 {
-    if !logs::is_logged(log, n) {
+    if !logs::is_logged(log, read, n) {
         return Stepped::Refused(refuse(Fault::NotDirty));
     }
     let to = sectors::page_place(n);
-    let from = logs::logged_place(log, n);
+    let from = logs::logged_place(log, read, n);
     sectors::store(hive, to, log, from);
     Stepped::Done
 }
 
 // A closing call whose tests are passed. The closing sector comes after the pages: before them "the file looks clean and is half old".
-fn seal(hive: &mut [u8], log: &[u8]) -> Stepped
+fn seal(hive: &mut [u8], log: &[u8], read: Read) -> Stepped
     requires { ⌜ testFault (now hive) (now log) ≡ Sound ⌝ }
+    requires { ⌜ read ≡ readOf (now log) ⌝ }
     ensures { λ r. ⌜ r ≡ closed (now (hive .entry)) (now (log .entry)) ⌝ }
     ensures { λ r. ⌜ now (hive .exit) ≡ changed r (stored (now (hive .entry)) 0 (closingOf (now (log .entry)))) (now (hive .entry)) ⌝ }
 {
-    if !logs::all_in(hive, log) {
+    if !logs::all_in(hive, log, read) {
         return Stepped::Refused(refuse(Fault::NotIn));
     }
-    logs::store_closing(hive, log);
+    logs::store_closing(hive, log, read);
     Stepped::Done
 }
 
@@ -131,10 +169,10 @@ pub fn page(hive: &mut [u8], log: &[u8], n: usize) -> Stepped
     ensures { λ r. ⌜ r ≡ pageAnswer (now (hive .entry)) (now (log .entry)) n ⌝ }
     ensures { λ r. ⌜ now (hive .exit) ≡ pageHive (now (hive .entry)) (now (log .entry)) n ⌝ }
 {
-    match start(hive, log) {
-        Started::Clean => Stepped::Clean,
-        Started::Pages(_) => install(hive, log, n),
-        Started::Refused(r) => Stepped::Refused(r),
+    match begin(hive, log) {
+        Begun::Clean => Stepped::Clean,
+        Begun::Ready { read, pages: _ } => install(hive, log, read, n),
+        Begun::Refused(r) => Stepped::Refused(r),
     }
 }
 
@@ -143,22 +181,23 @@ pub fn close(hive: &mut [u8], log: &[u8]) -> Stepped
     ensures { λ r. ⌜ r ≡ closeAnswer (now (hive .entry)) (now (log .entry)) ⌝ }
     ensures { λ r. ⌜ now (hive .exit) ≡ closeHive (now (hive .entry)) (now (log .entry)) ⌝ }
 {
-    match start(hive, log) {
-        Started::Clean => Stepped::Clean,
-        Started::Pages(_) => seal(hive, log),
-        Started::Refused(r) => Stepped::Refused(r),
+    match begin(hive, log) {
+        Begun::Clean => Stepped::Clean,
+        Begun::Ready { read, pages: _ } => seal(hive, log, read),
+        Begun::Refused(r) => Stepped::Refused(r),
     }
 }
 
-fn next_of(log: &[u8], from: usize) -> NextPage
+fn next_of(log: &[u8], read: Read, from: usize) -> NextPage
     requires { ⌜ logFault (now log) ≡ Sound ⌝ }
+    requires { ⌜ read ≡ readOf (now log) ⌝ }
     ensures { λ r. ⌜ r ≡ nextOf (now (log .entry)) (nextLogged (now (log .entry)) from) ⌝ }
 {
-    match logs::next_logged(log, from) {
+    match logs::next_logged(log, read, from) {
         Next::Nothing => NextPage::NoMore,
         Next::At(n) => NextPage::At {
             page: n,
-            from: logs::logged_place(log, n),
+            from: logs::logged_place(log, read, n),
             to: sectors::page_place(n),
         },
     }
@@ -170,7 +209,7 @@ pub fn next_page(log: &[u8], from: usize) -> NextPage
 {
     match logs::log_test(log) {
         Tested::Flawed(f) => NextPage::Refused(fields::refused(Offset(fields::NO_KEY), f)),
-        Tested::Logged(_) => next_of(log, from),
+        Tested::Logged { read, pages: _ } => next_of(log, read, from),
     }
 }
 
@@ -181,21 +220,22 @@ pub fn all_pages(hive: &mut [u8], log: &[u8]) -> Stepped
     ensures { λ r. ⌜ r ≡ allAnswer (now (hive .entry)) (now (log .entry)) ⌝ }
     ensures { λ _. ⌜ now (hive .exit) ≡ allHive (now (hive .entry)) (now (log .entry)) ⌝ }
 {
-    match start(hive, log) {
-        Started::Clean => Stepped::Clean,
-        Started::Refused(r) => Stepped::Refused(r),
-        Started::Pages(_) => {
-            logs::put_all(hive, log);
+    match begin(hive, log) {
+        Begun::Clean => Stepped::Clean,
+        Begun::Refused(r) => Stepped::Refused(r),
+        Begun::Ready { read, pages: _ } => {
+            logs::put_all(hive, log, read);
             Stepped::Done
         }
     }
 }
 
-fn mark_of(log: &[u8], from: usize) -> NextMark
+fn mark_of(log: &[u8], read: Read, from: usize) -> NextMark
     requires { ⌜ headFault (now log) ≡ Sound ⌝ }
+    requires { ⌜ read ≡ readOf (now log) ⌝ }
     ensures { λ r. ⌜ r ≡ markOf (nextLogged (now (log .entry)) from) ⌝ }
 {
-    match logs::next_logged(log, from) {
+    match logs::next_logged(log, read, from) {
         Next::Nothing => NextMark::NoMore,
         Next::At(page) => NextMark::At {
             page,
@@ -208,8 +248,35 @@ fn mark_of(log: &[u8], from: usize) -> NextMark
 pub fn next_mark(log: &[u8], from: usize) -> NextMark
     ensures { λ r. ⌜ r ≡ markAnswer (now (log .entry)) from ⌝ }
 {
-    match logs::head_flaw(log) {
-        Verdict::Flawed(f) => NextMark::Refused(fields::refused(Offset(fields::NO_KEY), f)),
-        Verdict::Sound => mark_of(log, from),
+    match logs::head_test(log) {
+        Head::Flawed(f) => NextMark::Refused(fields::refused(Offset(fields::NO_KEY), f)),
+        Head::Good(read) => mark_of(log, read, from),
+    }
+}
+
+// Marks every logged page in a bitmap, for a host that stores what `all_pages` made: bins size / 4096 bytes, and those beyond stay.
+pub fn mark_pages(log: &[u8], map: &mut [u8]) -> Marked
+    ensures { λ r. ⌜ r ≡ markedAnswer (now (log .entry)) (length (now (map .entry))) ⌝ }
+    ensures { λ _. ⌜ now (map .exit) ≡ markedMap (now (log .entry)) (now (map .entry)) ⌝ }
+{
+    match logs::log_test(log) {
+        Tested::Flawed(f) => Marked::Refused(fields::refused(Offset(fields::NO_KEY), f)),
+        Tested::Logged { read, pages } => {
+            if map.len() < logs::bins_size(log, read) / 4096 {
+                return Marked::Refused(refuse(Fault::MapSmall));
+            }
+            logs::mark(log, read, map);
+            Marked::Pages(pages)
+        }
+    }
+}
+
+// What a log says of itself, for a host that has two.
+pub fn log_facts(log: &[u8]) -> LogFacts
+    ensures { λ r. ⌜ r ≡ factsAnswer (now (log .entry)) ⌝ }
+{
+    match logs::log_test(log) {
+        Tested::Flawed(f) => LogFacts::Refused(fields::refused(Offset(fields::NO_KEY), f)),
+        Tested::Logged { read, pages: _ } => LogFacts::Of(logs::facts_of(log, read)),
     }
 }

@@ -18,6 +18,8 @@
 //   14 the next mark from n on
 //   15 the next mark from 2^64 - 1 - n on
 //   16 writes the set bits before each of the pages 0 to n - 1, the log's bytes taken for a bitmap
+//   17 marks all pages in a map of the n bytes that follow, and writes what it holds then, as one number
+//   18 the log has n bytes from now on; what it holds stays
 mod say;
 
 // How long hive and log are.
@@ -127,6 +129,15 @@ fn repair(mem: &mut [u8], disk: &mut [u8], log: &[u8], kind: u8, n: usize) {
     }
 }
 
+// All marks at once, in a map that is given with the order.
+fn mark_all(log: &[u8], buf: &mut [u8], n: usize) {
+    let got = follow(buf, n);
+    if got <= buf.len() {
+        say::all_marked(recovery::mark_pages(log, &mut buf[0..got]));
+        say::map(&buf[0..got]);
+    }
+}
+
 fn obey(
     mem: &mut [u8],
     disk: &mut [u8],
@@ -139,6 +150,12 @@ fn obey(
     if kind < 5 {
         return set_up(mem, disk, log, buf, l, kind, n);
     }
+    if kind == 18 {
+        return Lengths {
+            hive: l.hive,
+            log: n,
+        };
+    }
     let hive_end = l.hive;
     let log_end = l.log;
     if mem.len() < hive_end {
@@ -148,6 +165,10 @@ fn obey(
         return l;
     }
     if log.len() < log_end {
+        return l;
+    }
+    if kind == 17 {
+        mark_all(&log[0..log_end], buf, n);
         return l;
     }
     repair(
@@ -169,7 +190,7 @@ fn turn(
     mem: &mut [u8; 1052672],
     disk: &mut [u8; 1052672],
     log: &mut [u8; 524288],
-    buf: &mut [u8; 4096],
+    buf: &mut [u8; 65536],
     l: Lengths,
 ) -> Went {
     let mut head = [0u8; 5];
@@ -186,7 +207,7 @@ fn run(
     mem: &mut [u8; 1052672],
     disk: &mut [u8; 1052672],
     log: &mut [u8; 524288],
-    buf: &mut [u8; 4096],
+    buf: &mut [u8; 65536],
 ) {
     let mut l = Lengths { hive: 0, log: 0 };
     let mut left = u64::MAX;
@@ -207,6 +228,6 @@ fn main() {
     let mut mem = [0u8; 1052672];
     let mut disk = [0u8; 1052672];
     let mut log = [0u8; 524288];
-    let mut buf = [0u8; 4096];
+    let mut buf = [0u8; 65536];
     run(&mut mem, &mut disk, &mut log, &mut buf);
 }

@@ -1,6 +1,7 @@
 // What is written of each answer.
 use orders::end;
 use orders::number;
+use recovery::Marked;
 use recovery::NextMark;
 use recovery::NextPage;
 use recovery::Started;
@@ -68,6 +69,18 @@ pub fn mark(a: NextMark) {
     }
 }
 
+pub fn all_marked(a: Marked) {
+    match a {
+        Marked::Pages(n) => {
+            number(b"marked ", n as u64);
+            end();
+        }
+        Marked::Refused(r) => {
+            orders::refused(r);
+        }
+    }
+}
+
 fn next_number(n: usize) {
     number(b" ", n as u64);
 }
@@ -95,6 +108,11 @@ fn sum(s: &[u8]) -> u32 {
         i += 1;
     }
     sum
+}
+
+pub fn map(s: &[u8]) {
+    number(b"map ", sum(s) as u64);
+    end();
 }
 
 pub fn disk(s: &[u8]) {

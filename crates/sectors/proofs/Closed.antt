@@ -3,7 +3,7 @@ use Prim.Native.Nat.{ℕ, zero, suc, _+_, _*_, _^_, _≤_, _<_}
 use native.Mathlib.Omega.{arith}
 use mathlib.Core.Path.{_≡_, refl, sym, ap, ap₂, _∙_}
 use mathlib.Core.Logic.{_⊎_, inl, inr}
-use mathlib.Core.Bool.{true}
+use mathlib.Core.Bool.{true, _&&_}
 use mathlib.Core.List.{List, [], _∷_}
 use lib.Bits.{bitXor, xor-lt}
 use lib.Dec.{eqb, leb, lit<}
@@ -12,7 +12,7 @@ use borrow.Author.Tests.{eq-eqb}
 use Rattle.fields.specs.Number.{u32At}
 use Rattle.fields.specs.Bytes.{sameBytes, standsAt}
 use Rattle.fields.proofs.Bools.{and-inv, and-both}
-use Rattle.base.specs.Block.{isRegf, xors, asStored, storedChecksum, isSummed, minorOf, typeOf, isVersion, isBinsSize, usable, isSettled, clean}
+use Rattle.base.specs.Block.{isRegf, xors, asStored, storedChecksum, isSummed, minorOf, typeOf, isVersion, binsOf, isBinsSize, usable, isSettled, clean}
 use Rattle.base.proofs.Laws.{asStored-lt, usable-facts, facts-usable}
 use Rattle.sectors.specs.Sector.{Bytes}
 use Rattle.sectors.specs.Closing.{put32, asHive, closingSector}
@@ -85,14 +85,41 @@ module _ (s : List ℕ) (n : length s ≡ 512) (h : Bytes s) where
       (and-both (ap (λ (x : ℕ). eqb x 1) (w 32 (inr (omega arith)) (omega arith)) ∙ g .0)
       (ap (λ (x : ℕ). eqb x 1) (w 44 (inr (omega arith)) (omega arith)) ∙ g .1)))))
 
-  -- the closing sector of a usable log's base block with equal sequence numbers
-  pub closing-clean : (type : ℕ) → usable s type ≡ true → isSettled s ≡ true → clean (closingSector s) ≡ true
+  -- the closing sector of a block whose other fields are good, whatever its checksum
+  pub closed-clean : (type : ℕ) → isRegf s ≡ true → isVersion s type ≡ true → isBinsSize (binsOf s) ≡ true → isSettled s ≡ true → clean (closingSector s) ≡ true
   unfolding clean
-  closing-clean type u e =
-      let a = usable-facts s type u in
+  closed-clean type regf version bins e =
       let first : u32At (closingSector s) 4 ≡ u32At s 4 = closing-u32 4 (inl (omega arith)) (omega arith) in
       let second : u32At (closingSector s) 8 ≡ u32At s 8 = closing-u32 8 (inl (omega arith)) (omega arith) in
       and-both
-      (facts-usable (closingSector s) 0 (closing-regf ∙ a .0) closing-summed (closing-version type (a .2))
-      (ap isBinsSize (closing-u32 40 (inr (omega arith)) (omega arith)) ∙ a .3))
+      (facts-usable (closingSector s) 0 (closing-regf ∙ regf) closing-summed (closing-version type version)
+      (ap isBinsSize (closing-u32 40 (inr (omega arith)) (omega arith)) ∙ bins))
       (ap₂ eqb first second ∙ e)
+
+  -- the closing sector of a usable log's base block with equal sequence numbers
+  pub closing-clean : (type : ℕ) → usable s type ≡ true → isSettled s ≡ true → clean (closingSector s) ≡ true
+  closing-clean type u e = let a = usable-facts s type u in closed-clean type (a .0) (a .2) (a .3) e
+
+-- ---- a number put into a base block
+
+pub put-regf : (s : List ℕ) (i v : ℕ) → 4 ≤ i → isRegf (put32 s i v) ≡ isRegf s
+unfolding standsAt
+put-regf s i v h = ap (λ (x : List ℕ). sameBytes x (114 ∷ 101 ∷ 103 ∷ 102 ∷ [])) (put-take s i v 4 h)
+
+-- one that meets none of the fields that a version names
+pub put-version : (s : List ℕ) (i v : ℕ) → (i + 4 ≤ 20) ⊎ ((36 ≤ i) × (i + 4 ≤ 44)) → (type : ℕ) → isVersion (put32 s i v) type ≡ isVersion s type
+unfolding isVersion
+put-version s i v h type =
+    let w : (j : ℕ) → ((j + 4 ≤ 36) × (20 ≤ j)) ⊎ (44 ≤ j) → u32At (put32 s i v) j ≡ u32At s j = λ j g. u32-other s i v j (apart j g h) in
+    let f₂₀ = w 20 (inl (omega arith, omega arith)) in
+    let f₂₄ = w 24 (inl (omega arith, omega arith)) in
+    let f₂₈ = w 28 (inl (omega arith, omega arith)) in
+    let f₃₂ = w 32 (inl (omega arith, omega arith)) in
+    let f₄₄ = w 44 (inr (omega arith)) in
+    λ t. eqb (f₂₀ t) 1 && (leb 3 (f₂₄ t) && (leb (f₂₄ t) 5 && (eqb (f₂₈ t) type && (eqb (f₃₂ t) 1 && eqb (f₄₄ t) 1))))
+  where
+    apart : (j : ℕ) → ((j + 4 ≤ 36) × (20 ≤ j)) ⊎ (44 ≤ j) → (i + 4 ≤ 20) ⊎ ((36 ≤ i) × (i + 4 ≤ 44)) → (j + 4 ≤ i) ⊎ (i + 4 ≤ j)
+    apart j (inl g) (inl h) = inr (omega arith)
+    apart j (inl g) (inr h) = inl (omega arith)
+    apart j (inr g) (inl h) = inr (omega arith)
+    apart j (inr g) (inr h) = inr (omega arith)

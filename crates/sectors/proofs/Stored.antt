@@ -60,3 +60,9 @@ module _ (a b : List ℕ) (from : ℕ) (front : take from a ≡ take from b) whe
       ap (λ (k : ℕ). take k a) e ∙ take-add (from + 512 * n) 512 a
       ∙ ap₂ _++_ (takes-same n (λ p h. s p (omega arith))) (s n (omega arith))
       ∙ sym (ap (λ (k : ℕ). take k b) e ∙ take-add (from + 512 * n) 512 b)
+
+  pub files-same : (n : ℕ)
+      → ((p : ℕ) → p < n → sectorAt a (from + 512 * p) ≡ sectorAt b (from + 512 * p))
+      → drop (from + 512 * n) a ≡ drop (from + 512 * n) b
+      → a ≡ b
+  files-same n s back = sym (take-append-drop (from + 512 * n) a) ∙ ap₂ _++_ (takes-same n s) back ∙ take-append-drop (from + 512 * n) b

@@ -23,6 +23,16 @@ u32-four s i = let e : i + 2 + 1 ≡ i + 3 = omega arith in omega (arith, ap (λ
 pub u32-lt : (s : List ℕ) → Bytes s → (i : ℕ) → u32At s i < 2 ^ 32
 u32-lt s h i = omega (arith, u32-four s i, h i, h (i + 1), h (i + 2), h (i + 3))
 
+-- ---- lists of bytes
+
+pub take-bytes : (l : List ℕ) → Bytes l → (n : ℕ) → Bytes (take n l)
+take-bytes [] b zero i = b i
+take-bytes [] b (suc n) i = b i
+take-bytes (x ∷ l) b zero zero = omega arith
+take-bytes (x ∷ l) b zero (suc i) = omega arith
+take-bytes (x ∷ l) b (suc n) zero = b zero
+take-bytes (x ∷ l) b (suc n) (suc i) = take-bytes l (λ k. b (suc k)) n i
+
 -- ---- what is put leaves
 
 pub put-length : (s : List ℕ) (i v : ℕ) → length (put32 s i v) ≡ length s

@@ -26,7 +26,7 @@ pub fn store(hive: &mut [u8], to: Place, log: &[u8], from: Place)
     fields::copy_all(&log[b..b + 512], &mut hive[a..a + 512]);
 }
 
-fn put_u32(dst: &mut [u8], i: usize, v: u32)
+pub fn put_u32(dst: &mut [u8], i: usize, v: u32)
     requires { ⌜ i + 4 ≤ length (now dst) ⌝ }
     ensures { λ _. ⌜ now (dst .exit) ≡ put32 (now (dst .entry)) i v ⌝ }
 {
@@ -37,7 +37,7 @@ fn put_u32(dst: &mut [u8], i: usize, v: u32)
 }
 
 // Makes a log's first sector a hive's: type 0, then the checksum over what then stands there.
-fn seal(dst: &mut [u8])
+pub fn seal(dst: &mut [u8])
     requires { ⌜ 512 ≤ length (now dst) ⌝ }
     ensures { λ _. ⌜ now (dst .exit) ≡ closingSector (now (dst .entry)) ⌝ }
 {

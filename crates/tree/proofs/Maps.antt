@@ -17,7 +17,8 @@ use Rattle.cells.specs.declared.Surveyed.{Surveyed}
 use Rattle.cells.specs.declared.Surveyed.the-variants.{Tiled, Refused as Untiled}
 use Rattle.cells.specs.declared.Tally.{Tally}
 use Rattle.cells.specs.Tiling.{layout, surveyOf}
-use Rattle.cells.specs.Map.{zeros, mapAfter}
+use Rattle.bitmap.specs.Bits.{zeros}
+use Rattle.cells.specs.Map.{mapAfter}
 use Rattle.cells.specs.Survey.{frontFault, surveyAnswer, mapLeft}
 use Rattle.cells.specs.Tiled.{Mapped}
 use Rattle.cells.proofs.Fronts.{front-facts, survey-front, survey-on}

@@ -3,7 +3,7 @@ use native.Mathlib.Omega.{arith}
 use mathlib.Core.Path.{sym}
 use lib.Seq.{set-out}
 use Rattle.cells.specs.Map.{markAt}
-use Rattle.cells.proofs.Steps.{shifted}
+use Rattle.bitmap.proofs.Marks.{shifted}
 use borrow.Author.Needs.{needs}
 use Rattle.cells.proofs.mark.Statement.{statement}
 use Rattle.cells.proofs.mark.Tie as tie

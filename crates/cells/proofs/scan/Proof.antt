@@ -1,5 +1,6 @@
 use Rattle.cells.proofs.Cleared.{cleared}
-use Rattle.cells.specs.Map.{marksAll, zeros, mapAfter}
+use Rattle.bitmap.specs.Bits.{zeros}
+use Rattle.cells.specs.Map.{marksAll, mapAfter}
 use mathlib.Core.Path.{ap, _∙_}
 use lib.ListN.{length}
 use denote.Ref.{now}

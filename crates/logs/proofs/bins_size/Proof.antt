@@ -1,15 +1,36 @@
-use Rattle.logs.specs.Logs.{logFault, logBins}
-use Rattle.old_log.proofs.Facts.{head-of, head-facts}
+use Rattle.logs.proofs.Formats.{is-old, is-new, old-bins, new-bins}
+use Rattle.logs.proofs.Laws.{head-of, log-long, bins-sized}
+use Rattle.entries.specs.declared.Chain.{Chain}
+use native.Mathlib.Omega.{arith}
+use mathlib.Core.Path.{sym, ap, _∙_}
+use borrow.Author.Needs.{needs}
 use Rattle.logs.proofs.bins_size.Statement.{statement}
 use Rattle.logs.proofs.bins_size.Tie as tie
 
+enum-told : tie.Need-enum-told
+enum-told c = search needs
+
 bins-size-requires : tie.Need-bins-size-requires
-unfolding logFault
-bins-size-requires c κs = let s = c .before in head-facts (s .args .log .now) (head-of (s .args .log .now) (s .pre)) .long
+bins-size-requires c κs = let s = c .before .before .before in log-long (s .args .log .now) (s .pre .0)
+
+enum-known-read : tie.Need-enum-known-read
+enum-known-read c = search needs
 
 returns : tie.Need-returns
-unfolding logBins
-returns c = c .bins-size .ensures
+returns c =
+    let s = c .before .before .before .before in
+    let l = s .args .log .now in
+    let o = is-old l (sym (c .before .enum-told .given .1) ∙ s .pre .1) in
+    (c .bins-size .ensures .0 ∙ sym (old-bins l o), c .bins-size .ensures .1)
+
+returns-2 : tie.Need-returns-2
+returns-2 c =
+    let s = c .before .before .before .before in
+    let l = s .args .log .now in
+    let g = c .before .read .given in
+    let n = is-new l (g .0 .0) (sym (g .1) ∙ s .pre .1) in
+    let e = ap (λ (x : Chain). x .largest) (n .1) ∙ sym (new-bins l (n .0)) in
+    (e, omega (arith, e, bins-sized l (head-of l (s .pre .0)) .limit))
 
 pub bins-size-spec : {M : Type 1} → statement M
-bins-size-spec = tie.close (tie.spec bins-size-requires returns)
+bins-size-spec = tie.close (tie.spec enum-told bins-size-requires enum-known-read returns returns-2)

@@ -1,14 +1,46 @@
-use Rattle.logs.specs.Logs.{logFault, isLogged}
+use Rattle.logs.proofs.Formats.{is-old, is-new, old-fault, old-is, new-is}
+use Prim.Native.Nat.{ℕ}
+use mathlib.Core.Bool.{Bool}
+use mathlib.Core.Path.{sym, ap, _∙_}
+use borrow.Author.Needs.{needs}
 use Rattle.logs.proofs.is_logged.Statement.{statement}
 use Rattle.logs.proofs.is_logged.Tie as tie
 
+enum-told : tie.Need-enum-told
+enum-told c = search needs
+
 is-logged-requires : tie.Need-is-logged-requires
-unfolding logFault
-is-logged-requires c κs = c .before .pre
+is-logged-requires c κs =
+    let s = c .before .before .before in
+    let l = s .args .log .now in
+    let o = is-old l (sym (c .enum-told .given .1) ∙ s .pre .1) in
+    sym (old-fault l o) ∙ s .pre .0
+
+enum-known-read : tie.Need-enum-known-read
+enum-known-read c = search needs
+
+is-logged-requires-2 : tie.Need-is-logged-requires-2
+is-logged-requires-2 c κs =
+    let s = c .before .before .before .before in
+    let l = s .args .log .now in
+    let g = c .before .read .given in
+    let n = is-new l (g .0 .0) (sym (g .1) ∙ s .pre .1) in
+    n .1
 
 returns : tie.Need-returns
-unfolding isLogged
-returns c = c .is-logged .ensures
+returns c =
+    let s = c .before .before .before .before in
+    let l = s .args .log .now in
+    let o = is-old l (sym (c .before .enum-told .given .1) ∙ s .pre .1) in
+    c .is-logged .ensures ∙ sym (ap (λ (f : ℕ → Bool). f (s .args .page)) (old-is l o))
+
+returns-2 : tie.Need-returns-2
+returns-2 c =
+    let s = c .before .before .before .before .before in
+    let l = s .args .log .now in
+    let g = c .before .before .read .given in
+    let n = is-new l (g .0 .0) (sym (g .1) ∙ s .pre .1) in
+    c .is-logged2 .ensures ∙ sym (ap (λ (f : ℕ → Bool). f (s .args .page)) (new-is l (n .0)))
 
 pub is-logged-spec : {M : Type 1} → statement M
-is-logged-spec = tie.close (tie.spec is-logged-requires returns)
+is-logged-spec = tie.close (tie.spec enum-told is-logged-requires enum-known-read is-logged-requires-2 returns returns-2)

@@ -1,47 +1,31 @@
-use Prim.Native.Nat.{ℕ}
-use mathlib.Core.Path.{_≡_, refl, sym, ap, _∙_}
-use Rattle.fields.specs.declared.Verdict.{Verdict}
-use Rattle.fields.specs.declared.Verdict.the-variants as verdict
-use Rattle.old_log.specs.declared.Tested as old
-use Rattle.old_log.specs.declared.Tested.the-variants as old-log
-use Rattle.old_log.specs.Layout as layout
-use Rattle.old_log.specs.Tests as tests
-use Rattle.logs.specs.declared.Tested.{Tested}
-use Rattle.logs.specs.declared.Tested.the-variants.{Logged, Flawed}
-use Rattle.logs.specs.Logs.{logFault, loggedCount, counted}
+use Rattle.logs.proofs.Formats.{old-read, old-fault, old-count, new-read, new-fault, new-count}
+use Rattle.logs.specs.Logs.{isNew, counted}
+use mathlib.Core.Bool.{true, false}
+use mathlib.Core.Path.{_≡_, sym, _∙_}
 use borrow.Author.Needs.{needs}
 use Rattle.logs.proofs.log_test.Statement.{statement}
 use Rattle.logs.proofs.log_test.Tie as tie
 
--- what an old log's tests give, as a log's
-abbrev retold : old.Tested → Tested
-retold (old-log.Logged n) = Logged n
-retold (old-log.Flawed f) = Flawed f
+is-new-requires : tie.Need-is-new-requires
+is-new-requires c κs = search needs
 
-same : (v : Verdict) (n : ℕ) → retold (tests.counted v n) ≡ counted v n
-same verdict.Sound n = refl
-same (verdict.Flawed f) n = refl
-
-log-test-requires : tie.Need-log-test-requires
-log-test-requires c κs = search needs
-
-enum-known-n : tie.Need-enum-known-n
-enum-known-n c = search needs
-
-enum-known-f : tie.Need-enum-known-f
-enum-known-f c = search needs
+new-test-requires : tie.Need-new-test-requires
+new-test-requires c κs = search needs
 
 returns : tie.Need-returns
-unfolding logFault loggedCount
 returns c =
-    let l = c .before .before .before .before .before .args .log .now in
-    ap retold (sym (c .before .n .given .1) ∙ c .before .before .before .log-test .ensures) ∙ same (tests.logFault l) (layout.loggedCount l)
+    let l = c .before .before .before .before .args .log .now in
+    let n : isNew l ≡ true = sym (c .before .before .is-new .ensures) ∙ c .before .if1 .taken in
+    c .new-test .ensures ∙ sym (λ t. counted (new-fault l n t) (new-read l n t) (new-count l n t))
+
+old-test-requires : tie.Need-old-test-requires
+old-test-requires c κs = search needs
 
 returns-2 : tie.Need-returns-2
-unfolding logFault loggedCount
 returns-2 c =
-    let l = c .before .before .before .before .before .args .log .now in
-    ap retold (sym (c .before .f .given .1) ∙ c .before .before .before .log-test .ensures) ∙ same (tests.logFault l) (layout.loggedCount l)
+    let l = c .before .before .before .before .args .log .now in
+    let o : isNew l ≡ false = sym (c .before .before .is-new .ensures) ∙ c .before .if1 .left in
+    c .old-test .ensures ∙ sym (λ t. counted (old-fault l o t) (old-read l o t) (old-count l o t))
 
 pub log-test-spec : {M : Type 1} → statement M
-log-test-spec = tie.close (tie.spec log-test-requires enum-known-n enum-known-f returns returns-2)
+log-test-spec = tie.close (tie.spec is-new-requires new-test-requires returns old-test-requires returns-2)

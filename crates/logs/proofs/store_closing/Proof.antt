@@ -1,19 +1,48 @@
-use Rattle.logs.specs.Logs.{logFault, closingOf}
-use Rattle.old_log.proofs.Facts.{head-of, head-facts}
+use Rattle.logs.proofs.Formats.{is-old, is-new, old-closing, new-fault, new-closing}
+use Rattle.logs.proofs.Laws.{log-long}
+use Rattle.sectors.specs.Sector.{stored}
+use mathlib.Core.Path.{sym, ap, _∙_}
 use borrow.Author.Needs.{needs}
 use Rattle.logs.proofs.store_closing.Statement.{statement}
 use Rattle.logs.proofs.store_closing.Tie as tie
 
+enum-told : tie.Need-enum-told
+enum-told c = search needs
+
 store-closing-requires : tie.Need-store-closing-requires
-unfolding logFault
-store-closing-requires c κs = let s = c .before .before .before in (s .pre .1, head-facts (s .args .log .now) (head-of (s .args .log .now) (s .pre .0)) .long)
+store-closing-requires c κs = let s = c .before .before .before .before .before in (s .pre .1 .1, log-long (s .args .log .now) (s .pre .0))
+
+enum-known-read : tie.Need-enum-known-read
+enum-known-read c = search needs
+
+store-closing-requires-2 : tie.Need-store-closing-requires-2
+store-closing-requires-2 c κs =
+    let s = c .before .before .before .before .before .before in
+    let l = s .args .log .now in
+    let g = c .before .before .read .given in
+    let n = is-new l (g .0 .0) (sym (g .1) ∙ s .pre .1 .0) in
+    (sym (new-fault l (n .0)) ∙ s .pre .0, (n .1, s .pre .1 .1))
 
 same-length : tie.Need-same-length
 same-length c = search needs
 
 returns : tie.Need-returns
-unfolding closingOf
-returns c = c .before .before .store-closing .ensures
+returns c =
+    let s = c .before .before .before .before .before .before .before .before in
+    let l = s .args .log .now in
+    let o = is-old l (sym (c .before .before .before .before .enum-told .given .1) ∙ s .pre .1 .0) in
+    c .before .before .store-closing .ensures ∙ sym (ap (stored (s .args .hive .now) 0) (old-closing l o))
+
+same-length-2 : tie.Need-same-length-2
+same-length-2 c = search needs
+
+returns-2 : tie.Need-returns-2
+returns-2 c =
+    let s = c .before .before .before .before .before .before .before .before .before in
+    let l = s .args .log .now in
+    let g = c .before .before .before .before .before .read .given in
+    let n = is-new l (g .0 .0) (sym (g .1) ∙ s .pre .1 .0) in
+    c .before .before .store-closing2 .ensures ∙ sym (ap (stored (s .args .hive .now) 0) (new-closing l (n .0)))
 
 pub store-closing-spec : {M : Type 1} → statement M
-store-closing-spec = tie.close (tie.spec store-closing-requires same-length returns)
+store-closing-spec = tie.close (tie.spec enum-told store-closing-requires enum-known-read store-closing-requires-2 same-length returns same-length-2 returns-2)

@@ -1,14 +1,17 @@
 use Rattle.recovery.proofs.ByStart.{all-answer, all-hive}
 use Rattle.recovery.proofs.AtOnce.{all-put}
+use Rattle.recovery.proofs.Ways.{begun-clean, begun-ready, begun-refused}
 use Rattle.recovery.proofs.Within.{good}
+use Rattle.recovery.specs.Calls.{startAnswer}
+use Rattle.logs.specs.Logs.{readOf}
 use Rattle.recovery.specs.declared.Started.the-variants.{Clean, Pages, Refused}
 use mathlib.Core.Path.{sym, _∙_}
 use borrow.Author.Needs.{needs}
 use Rattle.recovery.proofs.all_pages.Statement.{statement}
 use Rattle.recovery.proofs.all_pages.Tie as tie
 
-start-requires : tie.Need-start-requires
-start-requires c κs = search needs
+begin-requires : tie.Need-begin-requires
+begin-requires c κs = search needs
 
 enum-told : tie.Need-enum-told
 enum-told c = search needs
@@ -16,16 +19,18 @@ enum-told c = search needs
 enum-known-r : tie.Need-enum-known-r
 enum-known-r c = search needs
 
-enum-told-2 : tie.Need-enum-told-2
-enum-told-2 c = search needs
+enum-known-read : tie.Need-enum-known-read
+enum-known-read c = search needs
 
 put-all-requires : tie.Need-put-all-requires
 put-all-requires c κs =
-    let s = c .before .before .before .before .before .before .before in
-    let g = c .before .enum-told2 .given in
-    let e = sym (c .before .before .before .start .ensures) ∙ g .1 in
-    let k = good (s .args .hive .now) (s .args .log .now) (g .0 .0) e in
-    (k .log, k .room)
+    let s = c .before .before .before .before .before .before .before .before in
+    let h = s .args .hive .now in
+    let l = s .args .log .now in
+    let g = c .before .before .read .given in
+    let e = begun-ready (startAnswer h l) (readOf l) (g .0 .0) (g .0 .1 .0) (sym (c .before .before .before .before .begin .ensures) ∙ g .1) in
+    let k = good h l (g .0 .1 .0) (e .0) in
+    (k .log, (e .1, k .room))
 
 same-length : tie.Need-same-length
 same-length c = search needs
@@ -33,7 +38,7 @@ same-length c = search needs
 returns : tie.Need-returns
 returns c =
     let s = c .before .before .before .before .before .before in
-    let e = sym (c .before .before .start .ensures) ∙ c .enum-told .given .1 in
+    let e = begun-clean (startAnswer (s .args .hive .now) (s .args .log .now)) (readOf (s .args .log .now)) (sym (c .before .before .begin .ensures) ∙ c .enum-told .given .1) in
     (sym (all-answer (s .args .hive .now) (s .args .log .now) Clean e), sym (all-hive (s .args .hive .now) (s .args .log .now) Clean e))
 
 same-length-2 : tie.Need-same-length-2
@@ -43,7 +48,7 @@ returns-2 : tie.Need-returns-2
 returns-2 c =
     let s = c .before .before .before .before .before .before .before in
     let g = c .before .r .given in
-    let e = sym (c .before .before .before .start .ensures) ∙ g .1 in
+    let e = begun-refused (startAnswer (s .args .hive .now) (s .args .log .now)) (readOf (s .args .log .now)) (g .0 .0) (sym (c .before .before .before .begin .ensures) ∙ g .1) in
     (sym (all-answer (s .args .hive .now) (s .args .log .now) (Refused (g .0 .0)) e), sym (all-hive (s .args .hive .now) (s .args .log .now) (Refused (g .0 .0)) e))
 
 same-length-3 : tie.Need-same-length-3
@@ -51,21 +56,21 @@ same-length-3 c = search needs
 
 returns-3 : tie.Need-returns-3
 returns-3 c =
-    let s = c .before .before .before .before .before .before .before .before .before .before in
+    let s = c .before .before .before .before .before .before .before .before .before .before .before in
     let h = s .args .hive .now in
     let l = s .args .log .now in
-    let g = c .before .before .before .before .enum-told2 .given in
-    let e = sym (c .before .before .before .before .before .before .start .ensures) ∙ g .1 in
-    (sym (all-answer h l (Pages (g .0 .0)) e), c .before .before .put-all .ensures ∙ all-put h l (g .0 .0) e ∙ sym (all-hive h l (Pages (g .0 .0)) e))
+    let g = c .before .before .before .before .before .read .given in
+    let e = begun-ready (startAnswer h l) (readOf l) (g .0 .0) (g .0 .1 .0) (sym (c .before .before .before .before .before .before .before .begin .ensures) ∙ g .1) .0 in
+    (sym (all-answer h l (Pages (g .0 .1 .0)) e), c .before .before .put-all .ensures ∙ all-put h l (g .0 .1 .0) e ∙ sym (all-hive h l (Pages (g .0 .1 .0)) e))
 
 pub all-pages-spec : {M : Type 1} → statement M
 all-pages-spec =
     tie.close
     (tie.spec
-    start-requires
+    begin-requires
     enum-told
     enum-known-r
-    enum-told-2
+    enum-known-read
     put-all-requires
     same-length
     returns

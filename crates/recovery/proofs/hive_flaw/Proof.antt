@@ -22,7 +22,7 @@ returns c =
     c .flawed .ensures ∙ sym (cut (s .args .hive .now) (s .args .log .now) (omega (arith, c .before .before .bins-size .ensures .0)))
 
 applies-requires : tie.Need-applies-requires
-applies-requires c κs = (c .before .before .before .before .pre, omega (arith, c .before .bins-size .ensures .0))
+applies-requires c κs = let p = c .before .before .before .before .pre in (p .0, (p .1, omega (arith, c .before .bins-size .ensures .0)))
 
 flawed-requires-2 : tie.Need-flawed-requires-2
 flawed-requires-2 c κs = search needs

@@ -18,7 +18,7 @@ marked : (c : tie.Else1) → isLogged (c .before .before .before .before .args .
 marked c = sym (c .before .is-logged .ensures) ∙ not-false _ (c .if1 .left)
 
 is-logged-requires : tie.Need-is-logged-requires
-is-logged-requires c κs = passed (c .before .before .args .hive .now) (c .before .before .args .log .now) (c .before .before .pre) .log
+is-logged-requires c κs = let s = c .before .before in (passed (s .args .hive .now) (s .args .log .now) (s .pre .0) .log, s .pre .1)
 
 refuse-requires : tie.Need-refuse-requires
 refuse-requires c κs = search needs
@@ -34,18 +34,18 @@ page-place-requires : tie.Need-page-place-requires
 page-place-requires c κs =
     let s = c .before .before .before .before in
     let l = s .args .log .now in
-    let g = passed (s .args .hive .now) l (s .pre) .log in
+    let g = passed (s .args .hive .now) l (s .pre .0) .log in
     omega (arith, logged-below l g (s .args .n) (marked c), bins-sized l (head-of l g) .limit)
 
 logged-place-requires : tie.Need-logged-place-requires
-logged-place-requires c κs = (passed (c .before .before .before .before .before .args .hive .now) (c .before .before .before .before .before .args .log .now) (c .before .before .before .before .before .pre) .log, marked (c .before))
+logged-place-requires c κs = let s = c .before .before .before .before .before in (passed (s .args .hive .now) (s .args .log .now) (s .pre .0) .log, (s .pre .1, marked (c .before)))
 
 store-requires : tie.Need-store-requires
 store-requires c κs =
     let s = c .before .before .before .before .before .before .before in
     let h = s .args .hive .now in
     let l = s .args .log .now in
-    let g = passed h l (s .pre) in (
+    let g = passed h l (s .pre .0) in (
       omega (arith, c .before .before .page-place .ensures, logged-below l (g .log) (s .args .n) (marked (c .before .before .before)), g .room),
       omega (arith, c .before .logged-place .ensures, logged-fits l (g .log) (s .args .n) (marked (c .before .before .before))),
     )

@@ -1,12 +1,25 @@
 use Rattle.recovery.proofs.Ways.{logged-sound, flawed-log, bad-log, by-hive}
-use Rattle.recovery.specs.Calls.{started}
-use Rattle.recovery.specs.declared.Started.the-variants.{Pages, Refused}
-use Rattle.logs.specs.Logs.{logFault, loggedCount}
+use Rattle.recovery.specs.Calls.{testFault, started}
+use Rattle.recovery.specs.Steps.{begunBy}
+use Rattle.recovery.specs.declared.Begun.the-variants.{Ready, Refused}
+use Rattle.logs.specs.Logs.{readOf, logFault, loggedCount}
+use Rattle.logs.specs.declared.Read.{Read}
 use Rattle.fields.specs.declared.Verdict.{Verdict}
-use mathlib.Core.Path.{sym, ap, _∙_}
+use Rattle.fields.specs.declared.Verdict.the-variants.{Sound}
+use Prim.Native.Nat.{ℕ}
+use mathlib.Core.List.{List}
+use mathlib.Core.Path.{_≡_, sym, ap, ap₂, _∙_}
 use borrow.Author.Needs.{needs}
 use Rattle.recovery.proofs.log_tests.Statement.{statement}
 use Rattle.recovery.proofs.log_tests.Tie as tie
+
+-- what the log's own tests gave
+log-said : (c : tie.After-known-told2) → let l = c .before .before .before .before .before .before .args .log .now in
+    (logFault l ≡ Sound) × (readOf l ≡ c .before .read .given .0 .0) × (loggedCount l ≡ c .before .read .given .0 .1 .0)
+log-said c =
+    let l = c .before .before .before .before .before .before .args .log .now in
+    let g = c .before .read .given in
+    logged-sound (logFault l) (readOf l) (g .0 .0) (loggedCount l) (g .0 .1 .0) (sym (c .before .before .before .log-test .ensures) ∙ g .1)
 
 log-test-requires : tie.Need-log-test-requires
 log-test-requires c κs = search needs
@@ -17,13 +30,11 @@ enum-known-f c = search needs
 refused-requires : tie.Need-refused-requires
 refused-requires c κs = search needs
 
-enum-known-n : tie.Need-enum-known-n
-enum-known-n c = search needs
+enum-known-read : tie.Need-enum-known-read
+enum-known-read c = search needs
 
 hive-flaw-requires : tie.Need-hive-flaw-requires
-hive-flaw-requires c κs =
-    let l = c .before .before .before .before .before .before .args .log .now in
-    logged-sound (logFault l) (loggedCount l) (c .before .n .given .0 .0) (sym (c .before .before .before .log-test .ensures) ∙ c .before .n .given .1) .0
+hive-flaw-requires c κs = let s = log-said c in (s .0, sym (s .1))
 
 enum-known-f-2 : tie.Need-enum-known-f-2
 enum-known-f-2 c = search needs
@@ -38,23 +49,24 @@ returns : tie.Need-returns
 returns c =
     let s = c .before .before .before .before .before .before .before in
     let l = s .args .log .now in
-    let e = flawed-log (logFault l) (loggedCount l) (c .before .before .f .given .0 .0) (sym (c .before .before .before .before .log-test .ensures) ∙ c .before .before .f .given .1) in
-    ap Refused (c .refused .ensures) ∙ sym (ap (λ (v : Verdict). started v (loggedCount l)) (bad-log (s .args .hive .now) l e))
+    let e = flawed-log (logFault l) (readOf l) (loggedCount l) (c .before .before .f .given .0 .0) (sym (c .before .before .before .before .log-test .ensures) ∙ c .before .before .f .given .1) in
+    ap Refused (c .refused .ensures) ∙ sym (ap (λ (v : Verdict). begunBy (started v (loggedCount l)) (readOf l)) (bad-log (s .args .hive .now) l e))
 
 returns-2 : tie.Need-returns-2
 returns-2 c =
     let s = c .before .before .before .before .before .before .before .before .before .before .before in
     let l = s .args .log .now in
-    let e = logged-sound (logFault l) (loggedCount l) (c .before .before .before .before .before .before .n .given .0 .0) (sym (c .before .before .before .before .before .before .before .before .log-test .ensures) ∙ c .before .before .before .before .before .before .n .given .1) .0 in
+    let e = log-said (c .before .before .before .before .before) .0 in
     ap Refused (c .refused2 .ensures)
-    ∙ sym (ap (λ (v : Verdict). started v (loggedCount l)) (by-hive (s .args .hive .now) l e ∙ sym (c .before .before .before .before .hive-flaw .ensures) ∙ c .before .before .f2 .given .1))
+    ∙ sym (ap (λ (v : Verdict). begunBy (started v (loggedCount l)) (readOf l)) (by-hive (s .args .hive .now) l e ∙ sym (c .before .before .before .before .hive-flaw .ensures) ∙ c .before .before .f2 .given .1))
 
 returns-3 : tie.Need-returns-3
 returns-3 c =
     let s = c .before .before .before .before .before .before .before .before .before in
     let l = s .args .log .now in
-    let e = logged-sound (logFault l) (loggedCount l) (c .before .before .before .before .n .given .0 .0) (sym (c .before .before .before .before .before .before .log-test .ensures) ∙ c .before .before .before .before .n .given .1) in
-    sym (ap Pages (e .1)) ∙ sym (ap (λ (v : Verdict). started v (loggedCount l)) (by-hive (s .args .hive .now) l (e .0) ∙ sym (c .before .before .hive-flaw .ensures) ∙ c .enum-told .given .1))
+    let e = log-said (c .before .before .before) in
+    sym (ap₂ Ready (e .1) (e .2))
+    ∙ sym (ap (λ (v : Verdict). begunBy (started v (loggedCount l)) (readOf l)) (by-hive (s .args .hive .now) l (e .0) ∙ sym (c .before .before .hive-flaw .ensures) ∙ c .enum-told .given .1))
 
 pub log-tests-spec : {M : Type 1} → statement M
 log-tests-spec =
@@ -63,7 +75,7 @@ log-tests-spec =
     log-test-requires
     enum-known-f
     refused-requires
-    enum-known-n
+    enum-known-read
     hive-flaw-requires
     enum-known-f-2
     refused-requires-2

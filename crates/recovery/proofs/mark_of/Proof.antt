@@ -24,7 +24,7 @@ page-place-requires c κs =
     let l = s .args .log .now in
     let g = c .before .page .given in
     let m = next-least l (s .args .from) (g .0 .0) (sym (c .before .before .before .next-logged .ensures) ∙ g .1) .marked in
-    omega (arith, marked-below l (s .pre) (g .0 .0) m, bins-sized l (s .pre) .limit)
+    omega (arith, marked-below l (s .pre .0) (g .0 .0) m, bins-sized l (s .pre .0) .limit)
 
 returns : tie.Need-returns
 returns c = sym (ap markOf (sym (c .before .before .next-logged .ensures) ∙ c .enum-told .given .1))

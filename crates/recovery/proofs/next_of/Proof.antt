@@ -17,7 +17,7 @@ marked c =
     next-least (s .args .log .now) (s .args .from) (c .before .n .given .0 .0) (sym (c .before .before .before .next-logged .ensures) ∙ c .before .n .given .1) .marked
 
 next-logged-requires : tie.Need-next-logged-requires
-next-logged-requires c κs = head-of (c .before .args .log .now) (c .before .pre)
+next-logged-requires c κs = let p = c .before .pre in (head-of (c .before .args .log .now) (p .0), p .1)
 
 enum-told : tie.Need-enum-told
 enum-told c = search needs
@@ -26,13 +26,13 @@ enum-known-n : tie.Need-enum-known-n
 enum-known-n c = search needs
 
 logged-place-requires : tie.Need-logged-place-requires
-logged-place-requires c κs = (c .before .before .before .before .before .pre, marked c)
+logged-place-requires c κs = let p = c .before .before .before .before .before .pre in (p .0, (p .1, marked c))
 
 page-place-requires : tie.Need-page-place-requires
 page-place-requires c κs =
     let s = c .before .before .before .before .before .before in
     let l = s .args .log .now in
-    omega (arith, logged-below l (s .pre) (c .before .before .n .given .0 .0) (marked (c .before)), bins-sized l (head-of l (s .pre)) .limit)
+    omega (arith, logged-below l (s .pre .0) (c .before .before .n .given .0 .0) (marked (c .before)), bins-sized l (head-of l (s .pre .0)) .limit)
 
 returns : tie.Need-returns
 returns c =

@@ -11,7 +11,10 @@ use Rattle.recovery.proofs.seal.Statement.{statement}
 use Rattle.recovery.proofs.seal.Tie as tie
 
 all-in-requires : tie.Need-all-in-requires
-all-in-requires c κs = let g = passed (c .before .before .before .args .hive .now) (c .before .before .before .args .log .now) (c .before .before .before .pre) in (g .log, g .room)
+all-in-requires c κs =
+    let s = c .before .before .before in
+    let g = passed (s .args .hive .now) (s .args .log .now) (s .pre .0) in
+    (g .log, (s .pre .1, g .room))
 
 refuse-requires : tie.Need-refuse-requires
 refuse-requires c κs = search needs
@@ -29,8 +32,8 @@ returns c = (
 store-closing-requires : tie.Need-store-closing-requires
 store-closing-requires c κs =
     let s = c .before .before .before .before .before .before in
-    let g = passed (s .args .hive .now) (s .args .log .now) (s .pre) in
-    (g .log, omega (arith, g .room))
+    let g = passed (s .args .hive .now) (s .args .log .now) (s .pre .0) in
+    (g .log, (s .pre .1, omega (arith, g .room)))
 
 same-length-2 : tie.Need-same-length-2
 same-length-2 c = search needs

@@ -1,0 +1,111 @@
+use Rattle.entries.proofs.Tests.{wrong-first, by-second}
+use Rattle.entries.specs.Entries.{sizeAt}
+use Rattle.marvin.specs.Hash.{hashOf}
+use native.Mathlib.Omega.{arith}
+use native.Mathlib.Nat.{add-sub-cancel-left}
+use Prim.Native.Nat.{ℕ, _+_, _-_}
+use mathlib.Core.Path.{_≡_, sym, ap, ap₂, _∙_}
+use lib.Dec.{eqb}
+use lib.ListN.{take, drop}
+use borrow.Author.Needs.{needs}
+use Rattle.entries.proofs.is_hashed.Statement.{statement}
+use Rattle.entries.proofs.is_hashed.Tie as tie
+
+-- what the code hashes first
+body : (c : tie.After-u64-at)
+    → hashOf (take (c .before .before .before .args .at + c .before .wide-at .result - (c .before .before .before .args .at + 40)) (drop (c .before .before .before .args .at + 40) (c .before .before .before .args .log .now)))
+    ≡ hashOf (take (sizeAt (c .before .before .before .args .log .now) (c .before .before .before .args .at) - 40) (drop (c .before .before .before .args .at + 40) (c .before .before .before .args .log .now)))
+body c =
+    let s = c .before .before .before in
+    let n : s .args .at + c .before .wide-at .result - (s .args .at + 40) ≡ sizeAt (s .args .log .now) (s .args .at) - 40 = omega arith in
+    ap (λ (k : ℕ). hashOf (take k (drop (s .args .at + 40) (s .args .log .now)))) n
+
+add-wide-at : tie.Need-add-wide-at
+add-wide-at c = search needs
+
+wide-at-requires : tie.Need-wide-at-requires
+wide-at-requires c κs = search needs
+
+add-end : tie.Need-add-end
+add-end c = search needs
+
+add-u64-at : tie.Need-add-u64-at
+add-u64-at c = search needs
+
+u64-at-requires : tie.Need-u64-at-requires
+u64-at-requires c κs = search needs
+
+add-hash : tie.Need-add-hash
+add-hash c = search needs
+
+sub-hash : tie.Need-sub-hash
+sub-hash c = search needs
+
+part-hash-start : tie.Need-part-hash-start
+part-hash-start c = search needs
+
+part-hash-end : tie.Need-part-hash-end
+part-hash-end c = search needs
+
+hash-requires : tie.Need-hash-requires
+hash-requires c κs = search needs
+
+returns : tie.Need-returns
+returns c =
+    let f = c .before .before .before in
+    sym (wrong-first _ _ (λ e. c .if1 .taken (f .u64-at .ensures ∙ e ∙ sym (c .before .hash .ensures ∙ body f))))
+
+add-u64-at-2 : tie.Need-add-u64-at-2
+add-u64-at-2 c = search needs
+
+u64-at-requires-2 : tie.Need-u64-at-requires-2
+u64-at-requires-2 c κs = search needs
+
+add-hash-2 : tie.Need-add-hash-2
+add-hash-2 c = search needs
+
+sub-hash-2 : tie.Need-sub-hash-2
+sub-hash-2 c = search needs
+
+part-hash-start-2 : tie.Need-part-hash-start-2
+part-hash-start-2 c = search needs
+
+part-hash-end-2 : tie.Need-part-hash-end-2
+part-hash-end-2 c = search needs
+
+hash-requires-2 : tie.Need-hash-requires-2
+hash-requires-2 c κs = search needs
+
+returns-2 : tie.Need-returns-2
+returns-2 c =
+    let f = c .before .before .before in
+    let s = f .before .before .before .before .before .before in
+    let l = s .args .log .now in
+    let at = s .args .at in
+    let second = ap (λ (n : ℕ). hashOf (take n (drop at l))) (add-sub-cancel-left at 32) in
+    ap₂ eqb (c .before .before .u64-at2 .ensures) (c .hash2 .ensures ∙ second)
+    ∙ sym (by-second l at (sym (f .before .before .before .u64-at .ensures) ∙ f .if1 .left ∙ f .before .hash .ensures ∙ body (f .before .before .before)))
+
+pub is-hashed-spec : {M : Type 1} → statement M
+is-hashed-spec =
+    tie.close
+    (tie.spec
+    add-wide-at
+    wide-at-requires
+    add-end
+    add-u64-at
+    u64-at-requires
+    add-hash
+    sub-hash
+    part-hash-start
+    part-hash-end
+    hash-requires
+    returns
+    add-u64-at-2
+    u64-at-requires-2
+    add-hash-2
+    sub-hash-2
+    part-hash-start-2
+    part-hash-end-2
+    hash-requires-2
+    returns-2)

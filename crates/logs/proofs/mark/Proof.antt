@@ -1,0 +1,59 @@
+use Rattle.logs.proofs.Formats.{is-old, is-new, old-fault, old-bins, old-marks, new-bins, new-marks}
+use Rattle.logs.specs.Logs.{pageCount}
+use Rattle.old_log.specs.Layout as layout
+use Rattle.old_log.proofs.Facts.{head-of}
+use native.Mathlib.Omega.{arith}
+use lib.ListN.{drop}
+use Prim.Native.Nat.{ℕ, _/_}
+use mathlib.Core.List.{List, _++_}
+use mathlib.Core.Path.{_≡_, sym, ap, ap₂, _∙_}
+use borrow.Author.Needs.{needs}
+use Rattle.logs.proofs.mark.Statement.{statement}
+use Rattle.logs.proofs.mark.Tie as tie
+
+enum-told : tie.Need-enum-told
+enum-told c = search needs
+
+mark-requires : tie.Need-mark-requires
+mark-requires c κs =
+    let s = c .before .before .before .before .before in
+    let l = s .args .log .now in
+    let o = is-old l (sym (c .before .enum-told .given .1) ∙ s .pre .1 .0) in
+    (head-of l (sym (old-fault l o) ∙ s .pre .0), omega (arith, s .pre .1 .1, old-bins l o))
+
+enum-known-read : tie.Need-enum-known-read
+enum-known-read c = search needs
+
+mark-requires-2 : tie.Need-mark-requires-2
+mark-requires-2 c κs =
+    let s = c .before .before .before .before .before .before in
+    let l = s .args .log .now in
+    let g = c .before .before .read .given in
+    let n = is-new l (g .0 .0) (sym (g .1) ∙ s .pre .1 .0) in
+    (n .1, omega (arith, s .pre .1 .1, new-bins l (n .0)))
+
+same-length : tie.Need-same-length
+same-length c = search needs
+
+returns : tie.Need-returns
+returns c =
+    let s = c .before .before .before .before .before .before .before .before in
+    let l = s .args .log .now in
+    let o = is-old l (sym (c .before .before .before .before .enum-told .given .1) ∙ s .pre .1 .0) in
+    let e : layout.mapSize l ≡ pageCount l / 8 = omega (arith, old-bins l o) in
+    c .before .before .mark .ensures ∙ ap₂ (λ (m : List ℕ) (k : ℕ). m ++ drop k (s .args .map .now)) (sym (old-marks l o)) e
+
+same-length-2 : tie.Need-same-length-2
+same-length-2 c = search needs
+
+returns-2 : tie.Need-returns-2
+returns-2 c =
+    let s = c .before .before .before .before .before .before .before .before .before in
+    let l = s .args .log .now in
+    let g = c .before .before .before .before .before .read .given in
+    let n = is-new l (g .0 .0) (sym (g .1) ∙ s .pre .1 .0) in
+    c .before .before .mark2 .ensures
+    ∙ ap₂ (λ (m : List ℕ) (k : ℕ). m ++ drop (k / 512 / 8) (s .args .map .now)) (sym (new-marks l (n .0))) (sym (new-bins l (n .0)))
+
+pub mark-spec : {M : Type 1} → statement M
+mark-spec = tie.close (tie.spec enum-told mark-requires enum-known-read mark-requires-2 same-length returns same-length-2 returns-2)

@@ -1,0 +1,15 @@
+pub mod Entry
+pub mod Accepts
+pub mod Refusals
+pub mod Half
+pub mod Versions
+pub mod Facts
+pub mod Next
+pub mod Closing
+pub mod Ways
+pub mod Put
+pub mod Windows
+pub mod Counts
+pub mod Ins
+pub mod Stamps
+pub mod Example

@@ -1,0 +1,61 @@
+use Rattle.fields.specs.declared.Verdict.{Verdict}
+use Rattle.entries.specs.declared.Chain.{Chain}
+use Rattle.entries.specs.Entries.{chainOf}
+use Rattle.new_log.specs.declared.Head.the-variants.{Good}
+use Rattle.new_log.specs.Tests.{headed}
+use Rattle.new_log.proofs.Ways.{short, bad-base, no-entry, passes}
+use borrow.Author.Tests.{not-true, not-false}
+use mathlib.Core.Path.{sym, ap, _∙_}
+use borrow.Author.Needs.{needs}
+use Rattle.new_log.proofs.read.Statement.{statement}
+use Rattle.new_log.proofs.read.Tie as tie
+
+returns : tie.Need-returns
+returns c = let l = c .before .before .args .log .now in sym (ap (λ (v : Verdict). headed v (chainOf l)) (short l (c .if1 .taken)))
+
+sub-is-log-base : tie.Need-sub-is-log-base
+sub-is-log-base c = search needs
+
+part-is-log-base-start : tie.Need-part-is-log-base-start
+part-is-log-base-start c = search needs
+
+part-is-log-base-end : tie.Need-part-is-log-base-end
+part-is-log-base-end c = search needs
+
+is-log-base-requires : tie.Need-is-log-base-requires
+is-log-base-requires c κs = search needs
+
+returns-2 : tie.Need-returns-2
+returns-2 c =
+    let l = c .before .before .before .before .before .args .log .now in
+    sym (ap (λ (v : Verdict). headed v (chainOf l)) (bad-base l (c .before .before .before .if1 .left) (sym (c .before .is-log-base .ensures) ∙ not-true _ (c .if2 .taken))))
+
+chain-of-requires : tie.Need-chain-of-requires
+chain-of-requires c κs = search needs
+
+returns-3 : tie.Need-returns-3
+returns-3 c =
+    let l = c .before .before .before .before .before .before .before .before .args .log .now in
+    sym (ap (λ (v : Verdict). headed v (chainOf l))
+    (no-entry l (c .before .before .before .before .before .before .if1 .left) (sym (c .before .before .before .before .is-log-base .ensures) ∙ not-false _ (c .before .before .before .if2 .left)) (ap (λ (k : Chain). k .entries) (sym (c .before .before .chain-of .ensures)) ∙ c .if3 .taken)))
+
+returns-4 : tie.Need-returns-4
+returns-4 c =
+    let l = c .before .before .before .before .before .before .before .before .args .log .now in
+    ap Good (c .before .before .chain-of .ensures)
+    ∙ sym (ap (λ (v : Verdict). headed v (chainOf l))
+    (passes l (c .before .before .before .before .before .before .if1 .left) (sym (c .before .before .before .before .is-log-base .ensures) ∙ not-false _ (c .before .before .before .if2 .left)) (λ z. c .if3 .left (ap (λ (k : Chain). k .entries) (c .before .before .chain-of .ensures) ∙ z))))
+
+pub read-spec : {M : Type 1} → statement M
+read-spec =
+    tie.close
+    (tie.spec
+    returns
+    sub-is-log-base
+    part-is-log-base-start
+    part-is-log-base-end
+    is-log-base-requires
+    returns-2
+    chain-of-requires
+    returns-3
+    returns-4)

@@ -1,0 +1,37 @@
+use Rattle.new_log.specs.Layout.{loggedBelow}
+use Rattle.new_log.proofs.Counts.{no-bits, bits-counted}
+use lib.ListN.{length-replicate}
+use Prim.Native.Nat.{ℕ, _+_}
+use mathlib.Core.Path.{sym, ap, _∙_}
+use borrow.Author.Needs.{needs}
+use Rattle.new_log.proofs.window_count.Statement.{statement}
+use Rattle.new_log.proofs.window_count.Tie as tie
+
+slice-aggregate-mark-window : tie.Need-slice-aggregate-mark-window
+slice-aggregate-mark-window c = search needs
+
+mark-window-requires : tie.Need-mark-window-requires
+mark-window-requires c κs = search needs
+
+slice-aggregate-bits-before : tie.Need-slice-aggregate-bits-before
+slice-aggregate-bits-before c = search needs
+
+bits-before-requires : tie.Need-bits-before-requires
+bits-before-requires c κs = search needs
+
+returns : tie.Need-returns
+returns c =
+    let s = c .before .before .before .before .before .before in
+    let l = s .args .log .now in
+    bits-counted l (s .args .base) 16384 (c .before .before .before .mark-window .ensures) (length-replicate {A = ℕ} 16384 0) (no-bits 16384)
+    ∙ ap (λ (n : ℕ). loggedBelow l (s .args .base) + n) (sym (c .bits-before .ensures))
+
+pub window-count-spec : {M : Type 1} → statement M
+window-count-spec =
+    tie.close
+    (tie.spec
+    slice-aggregate-mark-window
+    mark-window-requires
+    slice-aggregate-bits-before
+    bits-before-requires
+    returns)

@@ -1,0 +1,6 @@
+pub mod Layout
+pub mod Tests
+pub mod Accepted
+pub mod Refused
+pub mod Steps
+pub mod Windows

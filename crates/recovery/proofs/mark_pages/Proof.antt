@@ -1,0 +1,99 @@
+use Rattle.recovery.proofs.Ways.{logged-sound, flawed-log, unmarked, map-small, map-fits}
+use Rattle.recovery.specs.AtOnce.{markedBy, markedAnswer, whereMarked, markedMap}
+use Rattle.recovery.specs.declared.Marked.the-variants.{Pages, Refused}
+use Rattle.logs.specs.Logs.{readOf, logFault, pageCount, loggedCount, marksOf}
+use Rattle.fields.specs.declared.Verdict.{Verdict}
+use Rattle.fields.specs.declared.Verdict.the-variants.{Sound}
+use native.Mathlib.Omega.{arith}
+use lib.ListN.{length, drop}
+use Prim.Native.Nat.{ℕ, _/_}
+use mathlib.Core.List.{List, _++_}
+use mathlib.Core.Path.{_≡_, sym, ap, _∙_}
+use borrow.Author.Needs.{needs}
+use Rattle.recovery.proofs.mark_pages.Statement.{statement}
+use Rattle.recovery.proofs.mark_pages.Tie as tie
+
+-- what the log's own tests gave
+log-said : (c : tie.After-known-told2) → let l = c .before .before .before .before .before .before .args .log .now in
+    (logFault l ≡ Sound) × (readOf l ≡ c .before .read .given .0 .0) × (loggedCount l ≡ c .before .read .given .0 .1 .0)
+log-said c =
+    let l = c .before .before .before .before .before .before .args .log .now in
+    let g = c .before .read .given in
+    logged-sound (logFault l) (readOf l) (g .0 .0) (loggedCount l) (g .0 .1 .0) (sym (c .before .before .before .log-test .ensures) ∙ g .1)
+
+log-test-requires : tie.Need-log-test-requires
+log-test-requires c κs = search needs
+
+enum-known-f : tie.Need-enum-known-f
+enum-known-f c = search needs
+
+refused-requires : tie.Need-refused-requires
+refused-requires c κs = search needs
+
+enum-known-read : tie.Need-enum-known-read
+enum-known-read c = search needs
+
+bins-size-requires : tie.Need-bins-size-requires
+bins-size-requires c κs = let e = log-said c in (e .0, sym (e .1))
+
+refuse-requires : tie.Need-refuse-requires
+refuse-requires c κs = search needs
+
+returns : tie.Need-returns
+unfolding markedAnswer markedMap
+returns c =
+    let s = c .before .before .before .before .before .before .before .before .before in
+    let l = s .args .log .now in
+    let m = s .args .map .now in
+    let e = map-small l (length m) (log-said (c .before .before .before) .0) (omega (arith, c .before .if1 .taken, c .before .before .bins-size .ensures .0)) in (
+      ap Refused (c .refuse .ensures) ∙ sym (ap (λ (v : Verdict). markedBy v (loggedCount l)) e),
+      sym (ap (λ (v : Verdict). whereMarked (markedBy v (loggedCount l)) (marksOf l ++ drop (pageCount l / 8) m) m) e),
+    )
+
+mark-requires : tie.Need-mark-requires
+mark-requires c κs =
+    let e = log-said (c .before .before .before) in
+    (e .0, (sym (e .1), omega (arith, c .before .if1 .left, c .before .before .bins-size .ensures .0)))
+
+returns-2 : tie.Need-returns-2
+unfolding markedAnswer markedMap
+returns-2 c =
+    let s = c .before .before .before .before .before .before .before in
+    let l = s .args .log .now in
+    let m = s .args .map .now in
+    let g = c .before .before .f .given in
+    let e = unmarked l (length m) (flawed-log (logFault l) (readOf l) (loggedCount l) (g .0 .0) (sym (c .before .before .before .before .log-test .ensures) ∙ g .1)) in (
+      ap Refused (c .refused .ensures) ∙ sym (ap (λ (v : Verdict). markedBy v (loggedCount l)) e),
+      sym (ap (λ (v : Verdict). whereMarked (markedBy v (loggedCount l)) (marksOf l ++ drop (pageCount l / 8) m) m) e),
+    )
+
+same-length : tie.Need-same-length
+same-length c = search needs
+
+returns-3 : tie.Need-returns-3
+unfolding markedAnswer markedMap
+returns-3 c =
+    let s = c .before .before .before .before .before .before .before .before .before .before .before .before in
+    let l = s .args .log .now in
+    let m = s .args .map .now in
+    let said = log-said (c .before .before .before .before .before .before) in
+    let e = map-fits l (length m) (said .0) (omega (arith, c .before .before .before .before .if1 .left, c .before .before .before .before .before .bins-size .ensures .0)) in (
+      sym (ap Pages (said .2)) ∙ sym (ap (λ (v : Verdict). markedBy v (loggedCount l)) e),
+      c .before .before .mark .ensures ∙ sym (ap (λ (v : Verdict). whereMarked (markedBy v (loggedCount l)) (marksOf l ++ drop (pageCount l / 8) m) m) e),
+    )
+
+pub mark-pages-spec : {M : Type 1} → statement M
+mark-pages-spec =
+    tie.close
+    (tie.spec
+    log-test-requires
+    enum-known-f
+    refused-requires
+    enum-known-read
+    bins-size-requires
+    refuse-requires
+    returns
+    mark-requires
+    returns-2
+    same-length
+    returns-3)

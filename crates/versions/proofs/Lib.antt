@@ -1,0 +1,4 @@
+pub mod Steps
+pub mod Begin
+pub mod Inside
+pub mod Walked

@@ -1,0 +1,34 @@
+use mathlib.Core.Path.{sym, ap, _∙_}
+use mathlib.Core.List.{List, _∷_}
+use borrow.Author.Needs.{needs}
+use Rattle.versions.specs.declared.Version.{Version}
+use Rattle.versions.proofs.Steps.{past-split, past-lies}
+use Rattle.versions.proofs.next.Statement.{statement}
+use Rattle.versions.proofs.next.Tie as tie
+
+add-t3 : tie.Need-add-t3
+add-t3 c = search needs
+
+add-t4 : tie.Need-add-t4
+add-t4 c = search needs
+
+sub-t5 : tie.Need-sub-t5
+sub-t5 c = search needs
+
+settle-requires : tie.Need-settle-requires
+settle-requires c κs =
+    let s = c .before .before .before .before in
+    past-lies (s .args .log .now) (s .args .c) (s .pre .0) (s .pre .1)
+
+returns : tie.Need-returns
+returns c =
+    let s = c .before .before .before .before .before in
+    record {
+      split =
+          past-split (s .args .log .now) (s .args .c) (s .pre .0) (s .pre .1)
+          ∙ ap (λ (vs : List Version). record { page = s .args .c .page; place = s .args .c .place } ∷ vs) (sym (c .settle .ensures .0));
+      stands = c .settle .ensures .1;
+    }
+
+pub next-spec : {M : Type 1} → statement M
+next-spec = tie.close (tie.spec add-t3 add-t4 sub-t5 settle-requires returns)
