@@ -23,7 +23,7 @@ use Rattle.tree.specs.Tree.{_after_, placeFault, hashFault, levelFault, totalFa
 use Rattle.tree.proofs.Exactly.{accepted-as}
 use Rattle.paths.specs.declared.KeyFound.the-variants as found
 use Rattle.paths.specs.Paths.{split, partsOf, isPart, areParts, isPath, pathFault}
-use Rattle.paths.specs.Search.{descend, lookupKey}
+use Rattle.paths.specs.Descent.{descend, lookupKey}
 use Rattle.paths.specs.Answers.{openFault, keyLook, findAnswer}
 use Rattle.sectors.specs.Sector.{page}
 use Rattle.logs.specs.Small.{log, hive}

@@ -27,9 +27,9 @@ use Rattle.tree.specs.Tree.{keysIn, levels, hiveOf, keysOf}
 use Rattle.tree.specs.WellFormed.{KeyStands, TreeStands, key, CleanAndWellFormed}
 use Rattle.tree.proofs.Elements.{at-in}
 use Rattle.tree.proofs.Once.{in-joined}
-use Rattle.paths.specs.declared.Look.{Look}
-use Rattle.paths.specs.declared.Look.the-variants.{Found, Missing}
-use Rattle.paths.proofs.Finds.{key-good, list-head, leaves-good}
+use Rattle.search.specs.declared.Look.{Look}
+use Rattle.search.specs.declared.Look.the-variants.{Found, Missing}
+use Rattle.search.proofs.Finds.{key-good, list-head, leaves-good}
 use Rattle.lookup.specs.declared.ValueFound.the-variants as value
 use Rattle.lookup.specs.Answers.{infoOf}
 use Rattle.lookup.proofs.ValueFinds.{list-good, each-good, value-good}

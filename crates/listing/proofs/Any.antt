@@ -33,11 +33,11 @@ use Rattle.values.specs.Refused.{a-key, Fit, one-of, Lists, its-list, its-leaf,
 use Rattle.values.proofs.LawsValues.{name-inside}
 use Rattle.values.proofs.Refusals.{key-fit, key-unfit, list-fit, list-unfit, leaf-unfit, value-fit, value-unfit, value-list-unfit, value-named, data-unfit}
 use Rattle.tree.proofs.Elements.{at-in}
-use Rattle.paths.specs.declared.Look.{Look}
-use Rattle.paths.specs.declared.Look.the-variants.{Found, Missing, Faulty}
-use Rattle.paths.specs.Search.{onSound}
-use Rattle.paths.proofs.Descents.{sound-found}
-use Rattle.paths.proofs.Refusals.{Each, each-found, each-missing, each-cond, each-sound, in-children}
+use Rattle.search.specs.declared.Look.{Look}
+use Rattle.search.specs.declared.Look.the-variants.{Found, Missing, Faulty}
+use Rattle.search.specs.Search.{onSound}
+use Rattle.search.proofs.Found.{sound-found}
+use Rattle.search.proofs.Refusals.{Each, each-found, each-missing, each-cond, each-sound, in-children}
 use Rattle.lookup.specs.declared.Copied.the-variants as copied
 use Rattle.lookup.specs.declared.ValueFound.the-variants as value
 use Rattle.lookup.specs.Answers.{infoOf, infoWhere}

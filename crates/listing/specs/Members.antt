@@ -21,9 +21,9 @@ use Rattle.records.specs.Lists.{leafFault, headFault, leafChildren, leavesOf}
 use Rattle.records.specs.Steps.{noChild}
 use Rattle.values.specs.Records.{valueFault, valueOf}
 use Rattle.values.specs.Lists.{valuesOf, valueListFault, wholeValueFault}
-use Rattle.paths.specs.declared.Look.{Look}
-use Rattle.paths.specs.declared.Look.the-variants.{Found, Missing, Faulty}
-use Rattle.paths.specs.Search.{onSound}
+use Rattle.search.specs.declared.Look.{Look}
+use Rattle.search.specs.declared.Look.the-variants.{Found, Missing, Faulty}
+use Rattle.search.specs.Search.{onSound}
 use Rattle.lookup.specs.declared.Copied.{Copied}
 use Rattle.lookup.specs.declared.ValueFound.{ValueFound}
 use Rattle.lookup.specs.Answers.{infoOf, infoWhere, copiedTo, written}

@@ -28,14 +28,15 @@ use Rattle.values.specs.Refused.{one-of}
 use Rattle.values.proofs.Refusals.{value-fit, value-unfit, value-list-unfit, value-named, data-unfit}
 use Rattle.paths.specs.declared.KeyFound.{KeyFound}
 use Rattle.paths.specs.declared.KeyFound.the-variants.{At, Refused}
-use Rattle.paths.specs.declared.Look.{Look}
-use Rattle.paths.specs.declared.Look.the-variants.{Found, Missing, Faulty}
+use Rattle.search.specs.declared.Look.{Look}
+use Rattle.search.specs.declared.Look.the-variants.{Found, Missing, Faulty}
 use Rattle.paths.specs.declared.Way.{Way}
 use Rattle.paths.specs.declared.Way.the-variants as way
 use Rattle.paths.specs.Answers.{keyLook, keyFound, findAnswer}
-use Rattle.paths.proofs.Descents.{sound-found}
+use Rattle.search.proofs.Found.{sound-found}
 use Rattle.paths.proofs.Opens.{find-at}
-use Rattle.paths.proofs.Refusals.{Each, each-found, each-missing, each-cond, each-sound, each-first, look-each}
+use Rattle.search.proofs.Refusals.{Each, each-found, each-missing, each-cond, each-sound, each-first}
+use Rattle.paths.proofs.Refusals.{look-each}
 use Rattle.lookup.specs.declared.Copied.the-variants.{Refused as Uncopied}
 use Rattle.lookup.specs.declared.Info.{Info}
 use Rattle.lookup.specs.declared.Spot.the-variants as spot

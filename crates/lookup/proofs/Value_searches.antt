@@ -27,12 +27,12 @@ use Rattle.values.proofs.LawsLists.{list-room, list-values}
 use Rattle.values.proofs.LawsValues.{name-inside}
 use Rattle.values.proofs.Segment_faults.{entered-whole, entered-flawed}
 use Rattle.values.proofs.Valued_at.{is-whole, is-flawed}
-use Rattle.paths.specs.declared.Look.{Look}
-use Rattle.paths.specs.declared.Look.the-variants.{Found, Missing, Faulty}
+use Rattle.search.specs.declared.Look.{Look}
+use Rattle.search.specs.declared.Look.the-variants.{Found, Missing, Faulty}
 use Rattle.paths.specs.declared.Way.{Way}
 use Rattle.paths.specs.declared.Way.the-variants as way
 use Rattle.paths.specs.Answers.{keyLook}
-use Rattle.paths.proofs.Descents.{first-at, sound-found, picked}
+use Rattle.search.proofs.Found.{first-at, sound-found, picked}
 use Rattle.paths.proofs.Opens.{look-facts}
 use Rattle.lookup.specs.declared.Spot.the-variants as spot
 use Rattle.lookup.specs.Search.{valueNamed, searchValues, lookupValue}

@@ -24,8 +24,8 @@ use Rattle.values.specs.Segments.{dataFault, bytesOf, lengthOf}
 use Rattle.values.specs.Parts.{partOf}
 use Rattle.paths.specs.declared.KeyFound.{KeyFound}
 use Rattle.paths.specs.declared.KeyFound.the-variants.{At, Refused}
-use Rattle.paths.specs.declared.Look.{Look}
-use Rattle.paths.specs.declared.Look.the-variants as look
+use Rattle.search.specs.declared.Look.{Look}
+use Rattle.search.specs.declared.Look.the-variants as look
 use Rattle.paths.specs.declared.Way.{Way}
 use Rattle.paths.specs.declared.Way.the-variants as way
 use Rattle.paths.specs.Answers.{keyLook, findAnswer}

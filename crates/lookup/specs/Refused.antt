@@ -15,7 +15,7 @@ use Rattle.values.specs.Records.{dataIn}
 use Rattle.values.specs.Lists.{valuesOf}
 use Rattle.values.specs.Refused.{a-value, Fit, Among, Values, Data}
 use Rattle.paths.specs.declared.KeyFound.the-variants.{At}
-use Rattle.paths.specs.declared.Look.the-variants.{Missing}
+use Rattle.search.specs.declared.Look.the-variants.{Missing}
 use Rattle.paths.specs.Answers.{findAnswer}
 use Rattle.paths.specs.Refused.{OfKey}
 use Rattle.lookup.specs.declared.Info.{Info}

@@ -10,9 +10,9 @@ use Rattle.records.specs.declared.Key.{Key}
 use Rattle.records.specs.Keys.{codesOf}
 use Rattle.values.specs.Records.{valueFault, valueOf}
 use Rattle.values.specs.Lists.{valuesOf, valueListFault}
-use Rattle.paths.specs.declared.Look.{Look}
-use Rattle.paths.specs.declared.Look.the-variants.{Found, Missing}
-use Rattle.paths.specs.Search.{onSound, firstOf}
+use Rattle.search.specs.declared.Look.{Look}
+use Rattle.search.specs.declared.Look.the-variants.{Found, Missing}
+use Rattle.search.specs.Search.{onSound, firstOf}
 
 -- the first value of a key that has the name, as names of keys are compared: "Value names may repeat; lookup takes the first."
 unfoldable pub valueNamed : List ℕ → ℕ → List ℕ → Offset → Look

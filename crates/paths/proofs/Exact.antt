@@ -15,14 +15,15 @@ use Rattle.base.specs.Block.{binsData}
 use Rattle.base.proofs.Laws.{facts-base}
 use Rattle.tree.specs.Tree.{levels, hiveOf}
 use Rattle.tree.specs.WellFormed.{CleanAndWellFormed}
+use Rattle.search.proofs.Finds.{key-good}
 use Rattle.paths.specs.declared.KeyFound.the-variants.{At, Refused}
 use Rattle.paths.specs.declared.Way.{Way}
 use Rattle.paths.specs.declared.Way.the-variants.{Found, Missing, Faulty}
 use Rattle.paths.specs.Paths.{partsOf, isPath, pathFault}
-use Rattle.paths.specs.Search.{descend, lookupKey}
+use Rattle.paths.specs.Descent.{descend, lookupKey}
 use Rattle.paths.specs.Answers.{openFault, keyLook, keyFound, findAnswer}
 use Rattle.paths.specs.Reach.{Holds, Deepest}
-use Rattle.paths.proofs.Finds.{key-good, found-holds, holds-found, never-faulty, missing-deepest}
+use Rattle.paths.proofs.Finds.{found-holds, holds-found, never-faulty, missing-deepest}
 use Rattle.paths.proofs.Held.{held-path}
 
 module _ (h : List ℕ) (w : CleanAndWellFormed h) where

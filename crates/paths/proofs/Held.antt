@@ -21,10 +21,10 @@ use Rattle.records.proofs.LawsKey.{key-facts, name-codes}
 use Rattle.tree.specs.declared.Hive.{Hive}
 use Rattle.tree.specs.Tree.{nameAt, levels, hiveOf}
 use Rattle.tree.specs.WellFormed.{CleanAndWellFormed, TreeStands, key}
+use Rattle.search.proofs.Finds.{key-good}
 use Rattle.paths.specs.Paths.{partsOf, isPart, areParts, isPath}
 use Rattle.paths.specs.Reach.{Holds, here, below}
 use Rattle.paths.proofs.Splits.{PartName}
-use Rattle.paths.proofs.Finds.{key-good}
 
 -- a key's name may be a part of a path
 pub part-name : (d : List ℕ) (o : Offset) → keyFault Header d [] o ≡ Sound → PartName (nameAt d o)

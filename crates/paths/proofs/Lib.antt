@@ -2,8 +2,6 @@ pub mod Finds
 pub mod Splits
 pub mod Parts
 pub mod Passes
-pub mod Turns
-pub mod Searches
 pub mod Descents
 pub mod Opens
 pub mod Held

@@ -14,11 +14,11 @@ use Rattle.tree.specs.declared.Hive.{Hive}
 use Rattle.tree.specs.Tree.{nameAt, keysIn, levels, hiveOf, keysOf}
 use Rattle.tree.specs.WellFormed.{CleanAndWellFormed, TreeStands, key}
 use Rattle.tree.proofs.Once.{in-joined}
+use Rattle.search.proofs.Finds.{key-good}
 use Rattle.paths.specs.declared.KeyFound.the-variants.{At}
 use Rattle.paths.specs.Paths.{isPath}
 use Rattle.paths.specs.Answers.{findAnswer}
 use Rattle.paths.specs.Reach.{Holds, here, below, Named, itself, child, joinedBy, FoundAgain}
-use Rattle.paths.proofs.Finds.{key-good}
 use Rattle.paths.proofs.Held.{part-name, held-few}
 use Rattle.paths.proofs.Splits.{PartNames, no-names, names-on, parts-joined, path-joined}
 use Rattle.paths.proofs.Exact.{find-exactly}

@@ -17,7 +17,7 @@ use Rattle.tree.specs.Tree.{hiveOf}
 use Rattle.paths.specs.declared.KeyFound.the-variants.{At, Refused}
 use Rattle.paths.specs.declared.Way.the-variants.{Found, Missing, Faulty}
 use Rattle.paths.specs.Paths.{partsOf, isPath, pathFault}
-use Rattle.paths.specs.Search.{lookupKey}
+use Rattle.paths.specs.Descent.{lookupKey}
 use Rattle.paths.specs.Answers.{openFault, keyLook, findAnswer}
 use Rattle.paths.proofs.Descents.{opened-found, lookup-tested}
 

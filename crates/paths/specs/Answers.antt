@@ -12,7 +12,7 @@ use Rattle.paths.specs.declared.KeyFound.the-variants.{At, Refused}
 use Rattle.paths.specs.declared.Way.{Way}
 use Rattle.paths.specs.declared.Way.the-variants.{Found, Missing, Faulty}
 use Rattle.paths.specs.Paths.{partsOf, pathFault}
-use Rattle.paths.specs.Search.{opened, lookupKey}
+use Rattle.paths.specs.Descent.{opened, lookupKey}
 
 -- 1 to 7, then 16
 unfoldable pub openFault : List ℕ → List ℕ → Verdict

@@ -1,5 +1,5 @@
 pub mod Paths
-pub mod Search
+pub mod Descent
 pub mod Answers
 pub mod Reach
 pub mod Refused

@@ -18,9 +18,9 @@ use Rattle.records.specs.Keys.{keyOf}
 use Rattle.records.specs.Lists.{children}
 use Rattle.values.specs.Refused.{a-key, Fit, Unfit, Among, Lists}
 use Rattle.tree.specs.Tree.{nameAt, hiveOf}
-use Rattle.paths.specs.declared.Look.the-variants.{Missing}
+use Rattle.search.specs.declared.Look.the-variants.{Missing}
+use Rattle.search.specs.Search.{searchBelow}
 use Rattle.paths.specs.Paths.{partsOf, isPath}
-use Rattle.paths.specs.Search.{searchBelow}
 
 -- the keys on the way of a path, each with the parts that are still to go
 pub data OnWay (h us : List ℕ) : List (List ℕ) → Offset → Type 0 where

@@ -1,5 +1,5 @@
-use Rattle.paths.proofs.Turns.{turn-found, turn-faulty, turn-on, turn-end}
-use Rattle.paths.specs.Search.{firstOf}
+use Rattle.search.proofs.Turns.{turn-found, turn-faulty, turn-on, turn-end}
+use Rattle.search.specs.Search.{firstOf}
 use Rattle.lookup.specs.Search.{valueNamed}
 use Rattle.values.proofs.Rooms.{entries-length}
 use Rattle.values.specs.Entries.{entriesOf}

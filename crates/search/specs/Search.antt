@@ -12,14 +12,11 @@ use Rattle.cells.specs.Named.{dataAt}
 use Rattle.names.specs.Comparison.{sameName}
 use Rattle.records.specs.declared.Child.{Child}
 use Rattle.records.specs.declared.Key.{Key}
-use Rattle.records.specs.Keys.{keyFault, keyOf}
+use Rattle.records.specs.Keys.{keyFault}
 use Rattle.records.specs.Lists.{leafFault, headFault, leafChildren, leavesOf}
-use Rattle.fields.specs.Faults.{noKey, refusalOf}
 use Rattle.tree.specs.Tree.{nameAt}
-use Rattle.paths.specs.declared.Look.{Look}
-use Rattle.paths.specs.declared.Look.the-variants.{Found, Missing, Faulty}
-use Rattle.paths.specs.declared.Way.{Way}
-use Rattle.paths.specs.declared.Way.the-variants as way
+use Rattle.search.specs.declared.Look.{Look}
+use Rattle.search.specs.declared.Look.the-variants.{Found, Missing, Faulty}
 
 -- a test, then what follows it
 abbrev pub onSound : Verdict → Look → Look
@@ -55,23 +52,3 @@ searchLeaves d x ls = firstOf (searchLeaf d x) ls
 unfoldable pub searchBelow : List ℕ → List ℕ → Key → Look
 searchBelow d x k =
     cond (eqb (k .subkeys) 0) Missing (onSound (headFault Header d [] (k .list)) (searchLeaves d x (leavesOf d (k .list))))
-
--- a search below a key, and the way on from what it finds: where it finds nothing, or a fault, that is the key under examination
-unfoldable pub onFound : Offset → Look → (Offset → Way) → Way
-onFound k (Found o) go = go o
-onFound k Missing go = way.Missing k
-onFound k (Faulty f) go = way.Faulty (refusalOf k f)
-
--- along the parts of a path, from a key
-unfoldable pub descend : List ℕ → Offset → List (List ℕ) → Way
-descend d o [] = way.Found o
-descend d o (x ∷ xs) = onFound o (searchBelow d x (keyOf d o)) (λ c. descend d c xs)
-
--- a test that is made before any key is accepted, then what follows it
-abbrev pub opened : Verdict → Way → Way
-opened Sound w = w
-opened (Flawed f) w = way.Faulty (refusalOf noKey f)
-
--- "The root's own record is read (11, 12) for every path."
-unfoldable pub lookupKey : List ℕ → Offset → List (List ℕ) → Way
-lookupKey d root xs = opened (keyFault Header d [] root) (descend d root xs)

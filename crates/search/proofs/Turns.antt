@@ -8,9 +8,9 @@ use lib.Seq.{drop-cons}
 use Rattle.fields.specs.declared.Flaw.{Flaw}
 use Rattle.fields.specs.declared.Offset.{Offset}
 use Rattle.fields.proofs.Loops.{drop-all}
-use Rattle.paths.specs.declared.Look.{Look}
-use Rattle.paths.specs.declared.Look.the-variants.{Found, Missing, Faulty}
-use Rattle.paths.specs.Search.{orElse, firstOf}
+use Rattle.search.specs.declared.Look.{Look}
+use Rattle.search.specs.declared.Look.the-variants.{Found, Missing, Faulty}
+use Rattle.search.specs.Search.{orElse, firstOf}
 
 module _ {A : Type 0} (each : A → Look) where
   first-found : (x : A) (xs : List A) {o : Offset} → each x ≡ Found o → firstOf each (x ∷ xs) ≡ Found o

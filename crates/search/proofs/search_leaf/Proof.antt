@@ -1,9 +1,9 @@
-use Rattle.paths.proofs.Searches.{leaf-bad, leaf-room, leaf-is}
+use Rattle.search.proofs.Searches.{leaf-bad, leaf-room, leaf-is}
 use Prim.Native.Nat.{_-_}
 use mathlib.Core.Path.{sym, _∙_}
 use borrow.Author.Needs.{needs}
-use Rattle.paths.proofs.search_leaf.Statement.{statement}
-use Rattle.paths.proofs.search_leaf.Tie as tie
+use Rattle.search.proofs.search_leaf.Statement.{statement}
+use Rattle.search.proofs.search_leaf.Tie as tie
 
 slice-aggregate-leaf-at : tie.Need-slice-aggregate-leaf-at
 slice-aggregate-leaf-at c = search needs

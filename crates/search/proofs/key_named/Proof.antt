@@ -1,9 +1,9 @@
-use Rattle.paths.proofs.Searches.{key-bad, key-room, key-is}
+use Rattle.search.proofs.Searches.{key-bad, key-room, key-is}
 use Prim.Native.Nat.{_-_}
 use mathlib.Core.Path.{sym, _∙_}
 use borrow.Author.Needs.{needs}
-use Rattle.paths.proofs.key_named.Statement.{statement}
-use Rattle.paths.proofs.key_named.Tie as tie
+use Rattle.search.proofs.key_named.Statement.{statement}
+use Rattle.search.proofs.key_named.Tie as tie
 
 slice-aggregate-key-at : tie.Need-slice-aggregate-key-at
 slice-aggregate-key-at c = search needs

@@ -1,14 +1,14 @@
 use Rattle.records.specs.Steps.{elementsOf, noChild}
 use Rattle.records.proofs.LawsElements.{elements-length, element-at}
-use Rattle.paths.proofs.Turns.{turn-found, turn-faulty, turn-on, turn-end}
-use Rattle.paths.specs.Search.{keyNamed, firstOf}
+use Rattle.search.proofs.Turns.{turn-found, turn-faulty, turn-on, turn-end}
+use Rattle.search.specs.Search.{keyNamed, firstOf}
 use lib.ListN.{drop}
 use Prim.Native.Nat.{_-_, _≤_}
 use mathlib.Core.Path.{_≡_, refl, sym, _∙_}
 use native.Mathlib.Omega.{arith}
 use borrow.Author.Needs.{needs}
-use Rattle.paths.proofs.search_keys.Statement.{statement}
-use Rattle.paths.proofs.search_keys.Tie as tie
+use Rattle.search.proofs.search_keys.Statement.{statement}
+use Rattle.search.proofs.search_keys.Tie as tie
 
 abbrev Inv-loop : tie.InvT-loop
 Inv-loop bins name leaf count i₀ i = (i ≤ leaf .count) × (count ≡ leaf .count) × (firstOf (keyNamed bins name) (elementsOf bins leaf) ≡ firstOf (keyNamed bins name) (drop i (elementsOf bins leaf)))

@@ -1,5 +1,5 @@
-use Rattle.paths.proofs.Turns.{turn-found, turn-faulty, turn-on, turn-end}
-use Rattle.paths.specs.Search.{searchLeaf, firstOf}
+use Rattle.search.proofs.Turns.{turn-found, turn-faulty, turn-on, turn-end}
+use Rattle.search.specs.Search.{searchLeaf, firstOf}
 use Rattle.records.proofs.LawsPlaces.{named-length, named-at}
 use Rattle.records.specs.Steps.{leavesNamed}
 use Rattle.fields.specs.Faults.{nowhere}
@@ -8,8 +8,8 @@ use Prim.Native.Nat.{_-_, _≤_}
 use mathlib.Core.Path.{_≡_, refl, sym, _∙_}
 use native.Mathlib.Omega.{arith}
 use borrow.Author.Needs.{needs}
-use Rattle.paths.proofs.search_leaves.Statement.{statement}
-use Rattle.paths.proofs.search_leaves.Tie as tie
+use Rattle.search.proofs.search_leaves.Statement.{statement}
+use Rattle.search.proofs.search_leaves.Tie as tie
 
 abbrev Inv-loop : tie.InvT-loop
 Inv-loop bins name ls count j₀ j = (j ≤ ls .count) × (count ≡ ls .count) × (firstOf (searchLeaf bins name) (leavesNamed bins ls) ≡ firstOf (searchLeaf bins name) (drop j (leavesNamed bins ls)))

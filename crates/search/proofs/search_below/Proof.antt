@@ -1,9 +1,9 @@
-use Rattle.paths.proofs.Searches.{below-none, below-bad, below-room, below-is}
+use Rattle.search.proofs.Searches.{below-none, below-bad, below-room, below-is}
 use Prim.Native.Nat.{_-_}
 use mathlib.Core.Path.{sym, _∙_}
 use borrow.Author.Needs.{needs}
-use Rattle.paths.proofs.search_below.Statement.{statement}
-use Rattle.paths.proofs.search_below.Tie as tie
+use Rattle.search.proofs.search_below.Statement.{statement}
+use Rattle.search.proofs.search_below.Tie as tie
 
 returns : tie.Need-returns
 returns c = sym (below-none _ _ _ (c .if1 .taken))

@@ -23,9 +23,9 @@ use Rattle.records.proofs.LawsAnswer.{keyed-whole, keyed-flawed, leafed-whole, 
 use Rattle.records.proofs.LawsKey.{name-room}
 use Rattle.records.proofs.LawsPlaces.{elements-lie, leaves-lie, leaves-are}
 use Rattle.records.proofs.LawsElements.{elements-are}
-use Rattle.paths.specs.declared.Look.the-variants.{Found, Missing, Faulty}
-use Rattle.paths.specs.Search.{keyNamed, searchKeys, searchLeaf, searchLeaves, searchBelow}
-use Rattle.paths.proofs.Finds.{named-bad}
+use Rattle.search.specs.declared.Look.the-variants.{Found, Missing, Faulty}
+use Rattle.search.specs.Search.{keyNamed, searchKeys, searchLeaf, searchLeaves, searchBelow}
+use Rattle.search.proofs.Finds.{named-bad}
 
 -- one key
 module _ (d x : List ℕ) (c : Child) where

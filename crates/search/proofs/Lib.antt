@@ -1,0 +1,5 @@
+pub mod Found
+pub mod Finds
+pub mod Searches
+pub mod Turns
+pub mod Refusals
