@@ -2,6 +2,7 @@
 mod check;
 mod make;
 mod new_log;
+mod quick;
 use check::{Flaw, Idiom, Plain, Report, Style};
 use std::fs::{read, write};
 use std::hint::black_box;
@@ -63,6 +64,7 @@ struct HiveLog {
 unsafe extern "C" {
     fn hive_check(h: *const u8, n: usize, m: *mut u8, k: usize) -> HiveReport;
     fn hive_find_key(h: *const u8, n: usize, p: *const u16, k: usize) -> HiveAnswer;
+    fn hive_quick_key(h: *const u8, n: usize, p: *const u16, k: usize) -> HiveAnswer;
     fn hive_value_copy(h: *const u8, n: usize, p: *const u16, k: usize, x: *const u16, j: usize, o: *mut u8, m: usize) -> HiveCopy;
     fn hive_remnants(h: *const u8, n: usize, from: usize, r: *mut u32, k: usize) -> HiveRows;
     fn hive_recover_page(h: *mut u8, n: usize, l: *const u8, k: usize, page: usize) -> HiveRecovery;
@@ -93,6 +95,7 @@ pub struct Input {
 enum Kind {
     Check,
     Find,
+    Quick,
     Copy,
     Deleted,
     Repair,
@@ -136,6 +139,10 @@ fn rattle(i: &mut Input) -> Outcome {
             }
             Kind::Find => {
                 let a = hive_find_key(h, n, i.path.as_ptr(), i.path.len());
+                Outcome::Find(answer(a, a.value))
+            }
+            Kind::Quick => {
+                let a = hive_quick_key(h, n, i.path.as_ptr(), i.path.len());
                 Outcome::Find(answer(a, a.value))
             }
             Kind::Copy => {
@@ -194,6 +201,7 @@ fn rust<S: Style>(i: &mut Input) -> Outcome {
     match i.kind {
         Kind::Check => Outcome::Check(check::check::<S>(&i.hive, &mut i.out)),
         Kind::Find => Outcome::Find(check::find::<S>(&i.hive, &i.path)),
+        Kind::Quick => Outcome::Find(quick::find::<S>(&i.hive, &i.path)),
         Kind::Copy => Outcome::Copy(check::copy::<S>(&i.hive, &i.path, &LARGE, &mut i.out)),
         Kind::Deleted => Outcome::Deleted(check::remnants::<S>(&i.hive, &mut i.rows)),
         Kind::Repair => {
@@ -246,8 +254,9 @@ fn measured(side: &str, i: &mut Input) -> Outcome {
     }
 }
 
-const ROWS: [&str; 22] = [
+const ROWS: [&str; 31] = [
     "check-1", "check-4", "check-16", "check-64", "check-1024", "check-wide", "last-100", "absent-100", "last-5000", "absent-5000", "last-60000", "absent-60000",
+    "quick-last-100", "quick-absent-100", "quick-last-5000", "quick-absent-5000", "quick-last-60000", "quick-absent-60000",
     "copy", "deleted-1", "deleted-64", "clean-64", "repair-1000", "repair-1000-of-131072", "repair-100000", "all-1000", "all-1000-of-131072", "all-100000",
     "new-1000", "new-60000", "hash-30M",
 ];
@@ -257,6 +266,7 @@ fn input(row: &str, folder: &str) -> Input {
         Some(("check", "wide")) => (Kind::Check, "wide-60000".into()),
         Some(("check", n)) => (Kind::Check, format!("mixed-{n}")),
         Some(("last" | "absent", n)) => (Kind::Find, format!("wide-{n}")),
+        Some(("quick", rest)) => (Kind::Quick, format!("wide-{}", rest.split_once('-').unwrap().1)),
         Some(("deleted", n)) => (Kind::Deleted, format!("left-{n}")),
         Some(("clean", n)) => (Kind::Deleted, format!("zeros-{n}")),
         Some(("repair", n)) => (Kind::Repair, format!("torn-{n}")),
@@ -268,7 +278,7 @@ fn input(row: &str, folder: &str) -> Input {
     };
     let hive = read(format!("{folder}/{file}")).unwrap();
     let log = read(format!("{folder}/{file}.log")).unwrap_or_default();
-    let path = match row.split_once('-') {
+    let path = match row.strip_prefix("quick-").unwrap_or(row).split_once('-') {
         Some(("last", n)) => format!("component{:06}", n.parse::<usize>().unwrap() - 1),
         Some(("absent", _)) => "component999999".into(),
         _ => String::new(),

@@ -15,6 +15,7 @@ pub trait Style {
     fn compare(a: &[u8], aw: bool, b: &[u8], bw: bool) -> Ordering;
     fn hash(name: &[u8], wide: bool) -> u32;
     fn called(name: &[u8], wide: bool, want: &[u16]) -> bool;
+    fn order(name: &[u8], wide: bool, want: &[u16]) -> Ordering;
     fn has_backslash(name: &[u8], wide: bool) -> bool;
     fn ones(map: &[u8], page: usize) -> usize;
     fn copy(from: &[u8], to: &mut [u8]);
@@ -96,6 +97,18 @@ impl Style for Plain {
             i += 1;
         }
         true
+    }
+    fn order(name: &[u8], wide: bool, want: &[u16]) -> Ordering {
+        let n = count(name, wide);
+        let mut i = 0;
+        while i < n && i < want.len() {
+            let x = Self::unit(name, wide, i);
+            if !same_letter(x, want[i]) {
+                return if upper(x) < upper(want[i]) { Ordering::Less } else { Ordering::Greater };
+            }
+            i += 1;
+        }
+        if n == want.len() { Ordering::Equal } else if n < want.len() { Ordering::Less } else { Ordering::Greater }
     }
     fn has_backslash(name: &[u8], wide: bool) -> bool {
         let mut i = 0;
@@ -209,6 +222,10 @@ impl Style for Idiom {
         let same = |(x, &y): (u16, &u16)| same_letter(x, y);
         count(name, w) == want.len() && if w { wide(name).zip(want).all(same) } else { narrow(name).zip(want).all(same) }
     }
+    fn order(name: &[u8], w: bool, want: &[u16]) -> Ordering {
+        let want = want.iter().copied();
+        if w { order(wide(name), want) } else { order(narrow(name), want) }
+    }
     fn has_backslash(name: &[u8], w: bool) -> bool {
         if w { name.chunks_exact(2).any(|c| c == [92, 0]) } else { name.contains(&92) }
     }
@@ -288,7 +305,7 @@ pub fn usable<S: Style>(s: &[u8], types: &[u32]) -> Res<()> {
     if n == 0 || n % 4096 != 0 || n > 2147479552 { Err(Flaw(5, 0)) } else { Ok(()) }
 }
 
-fn base<S: Style>(h: &[u8]) -> Res<&[u8]> {
+pub fn base<S: Style>(h: &[u8]) -> Res<&[u8]> {
     if h.len() < 4096 {
         return Err(Flaw(1, 0));
     }
@@ -342,7 +359,7 @@ fn survey<S: Style>(bins: &[u8], mut mark: impl FnMut(usize), r: &mut Report) ->
 }
 
 // An offset names a cell by the map, or by its own header.
-fn cell<'a, S: Style>(bins: &'a [u8], map: Option<&[u8]>, o: u32) -> Res<&'a [u8]> {
+pub fn cell<'a, S: Style>(bins: &'a [u8], map: Option<&[u8]>, o: u32) -> Res<&'a [u8]> {
     let at = o as usize;
     if at % 8 != 0 || at < 32 || at + 8 > bins.len() {
         return Err(Flaw(11, o));
@@ -360,13 +377,13 @@ fn cell<'a, S: Style>(bins: &'a [u8], map: Option<&[u8]>, o: u32) -> Res<&'a [u8
     Ok(&bins[at + 4..at + n])
 }
 
-struct Key<'a> {
-    r: &'a [u8],
-    name: &'a [u8],
-    wide: bool,
+pub struct Key<'a> {
+    pub r: &'a [u8],
+    pub name: &'a [u8],
+    pub wide: bool,
 }
 
-fn key<'a, S: Style>(bins: &'a [u8], map: Option<&[u8]>, o: u32) -> Res<Key<'a>> {
+pub fn key<'a, S: Style>(bins: &'a [u8], map: Option<&[u8]>, o: u32) -> Res<Key<'a>> {
     let r = cell::<S>(bins, map, o)?;
     if r.len() < 76 || &r[0..2] != b"nk" {
         return Err(Flaw(12, o));
@@ -384,7 +401,7 @@ fn key<'a, S: Style>(bins: &'a [u8], map: Option<&[u8]>, o: u32) -> Res<Key<'a>>
     Ok(Key { r, name, wide })
 }
 
-fn leaf<'a, S: Style>(bins: &'a [u8], map: Option<&[u8]>, o: u32) -> Res<(&'a [u8], usize)> {
+pub fn leaf<'a, S: Style>(bins: &'a [u8], map: Option<&[u8]>, o: u32) -> Res<(&'a [u8], usize)> {
     let r = cell::<S>(bins, map, o)?;
     if r.len() < 4 {
         return Err(Flaw(12, o));
@@ -624,7 +641,7 @@ pub fn remnants<S: Style>(h: &[u8], rows: &mut [u32]) -> Res<usize> {
     if left && n == 0 { Err(Flaw(20, 0)) } else { Ok(n) }
 }
 
-fn path_fits(path: &[u16]) -> bool {
+pub fn path_fits(path: &[u16]) -> bool {
     path.is_empty() || path.split(|&c| c == 92).count() <= 512 && path.split(|&c| c == 92).all(|p| !p.is_empty() && p.len() <= 255)
 }
 

@@ -94,8 +94,8 @@ enum {
 #define HIVE_NO_KEY 0xffffffffu
 
 /* Part of every answer. number: 0, or the refusal's number. place: the refusal's place. key: the refusal's key, else
- * HIVE_NO_KEY. value: the offset of the key or value that hive_find_key, hive_nth_subkey, hive_nth_value, hive_key_at or
- * hive_next_remnant found, else 0.
+ * HIVE_NO_KEY. value: the offset of the key or value that hive_find_key, hive_quick_key, hive_nth_subkey, hive_nth_value,
+ * hive_key_at or hive_next_remnant found, else 0.
  * Where number is not 0, every other field of the answer but place and key is 0.
  */
 typedef struct {
@@ -329,6 +329,28 @@ HiveValue hive_value_view(const uint8_t *hive, size_t hive_len, const uint16_t *
  * then 20 where `out` is shorter than the data. A refusal leaves `out` as it was. 1,048,576 bytes are enough for any value.
  */
 HiveCopy hive_value_copy(const uint8_t *hive, size_t hive_len, const uint16_t *path, size_t path_len, const uint16_t *name, size_t name_len, uint8_t *out, size_t out_len);
+
+/* Finds a key as hive_find_key does, by halving: a key's leaves by the first and last name of each, then one leaf. So it reads some
+ * 30 key records for each part of the path, where hive_find_key reads those of all siblings up to the match. On a hive that
+ * hive_check accepts the two answer the same.
+ *
+ * They may differ only on a hive that hive_check refuses. Each tests what it reads (11, 12), and hive_quick_key reads less: in lists
+ * that are not sorted it may miss a key (17) or find another of that name, and it may pass by a fault that hive_find_key would meet.
+ * A key that it finds has the name that was asked for, in any hive, and it never takes more than 16 + 16 turns for a part: lists that
+ * name a leaf again and again do not make it slow.
+ */
+HiveAnswer hive_quick_key(const uint8_t *hive, size_t hive_len, const uint16_t *path, size_t path_len);
+
+/* As hive_value_info, of the key that hive_quick_key finds: the two answer the same on a hive that hive_check accepts. The values of
+ * a key have no order and are read one after the other.
+ */
+HiveValue hive_quick_info(const uint8_t *hive, size_t hive_len, const uint16_t *path, size_t path_len, const uint16_t *name, size_t name_len);
+
+/* As hive_value_view, of the key that hive_quick_key finds. */
+HiveValue hive_quick_view(const uint8_t *hive, size_t hive_len, const uint16_t *path, size_t path_len, const uint16_t *name, size_t name_len);
+
+/* As hive_value_copy, of the key that hive_quick_key finds. A refusal leaves `out` as it was. */
+HiveCopy hive_quick_copy(const uint8_t *hive, size_t hive_len, const uint16_t *path, size_t path_len, const uint16_t *name, size_t name_len, uint8_t *out, size_t out_len);
 
 /* Subkey n, from 0 on, of the key at an offset, in the order of its lists. Start with 0, and go on with n + 1 until
  * HIVE_NO_MORE. A hive that the check refuses can be asked too, and any offset. Refuses 1 to 7, then 11 and 12 of the records on

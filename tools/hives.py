@@ -196,16 +196,20 @@ class Reader:
             raise Refused(12, at, self.examined)
         return sign, [(u32(d, 4 + i * width), u32(d, 8 + i * width) if sign == b"lh" else None) for i in range(count)]
 
+    def leaf(self, at):
+        return self.list_of(at, (b"li", b"lf", b"lh"))[1]
+
+    def leaf_offsets(self, k):
+        """Where the leaves of a key lie, by its list alone, which is tested."""
+        if k["subkeys"] == 0:
+            return []
+        sign, elements = self.list_of(k["list"], (b"li", b"lf", b"lh", b"ri"))
+        return [at for at, _ in elements] if sign == b"ri" else [k["list"]]
+
     def leaves(self, k):
         """The leaves of a key, one after the other, each tested when it is asked for."""
-        if k["subkeys"] == 0:
-            return
-        sign, elements = self.list_of(k["list"], (b"li", b"lf", b"lh", b"ri"))
-        if sign != b"ri":
-            yield elements
-            return
-        for at, _ in elements:
-            yield self.list_of(at, (b"li", b"lf", b"lh"))[1]
+        for at in self.leaf_offsets(k):
+            yield self.leaf(at)
 
     def value(self, at):
         d = self.cell(at)
@@ -330,34 +334,79 @@ def path_parts(path):
     return parts
 
 
-def child_named(reader, k, name):
-    """Leaf by leaf and key by key, up to the first match (18)."""
+def in_turn(reader, k, name):
+    """The child of that name: leaf by leaf and key by key, up to the first match (18)."""
     for leaf in reader.leaves(k):
         for at, _ in leaf:
             child = reader.key(at)
             if folded(child["name"]) == folded(name):
-                reader.examined = at
                 return child
-    raise Refused(17, 0, k["at"])
+    return None
 
 
-def key_of(hive, path):
+LEFT, RIGHT = "left", "right"
+
+
+def halve(count, ask):
+    """What `ask` stops with, or None: 16 turns, each at the middle of what is left of so many."""
+    low, high = 0, count
+    for _ in range(16):
+        if low >= high:
+            break
+        middle = low + (high - low) // 2
+        turn = ask(middle)
+        if turn is LEFT:
+            high = middle
+        elif turn is RIGHT:
+            low = middle + 1
+        else:
+            return turn
+    return None
+
+
+def ask_key(reader, name, at):
+    child = reader.key(at)
+    if folded(child["name"]) == folded(name):
+        return child
+    return RIGHT if folded(child["name"]) < folded(name) else LEFT
+
+
+def ask_leaf(reader, name, at):
+    """By its first and its last key; between them the leaf is halved, and that is the answer."""
+    leaf = [child for child, _ in reader.leaf(at)]
+    if folded(reader.key(leaf[0])["name"]) > folded(name):
+        return LEFT
+    if folded(reader.key(leaf[-1])["name"]) < folded(name):
+        return RIGHT
+    return halve(len(leaf), lambda i: ask_key(reader, name, leaf[i]))
+
+
+def halving(reader, k, name):
+    """The child of that name by request 6: the list, each leaf and each key are tested that it touches, and nothing else."""
+    leaves = reader.leaf_offsets(k)
+    return halve(len(leaves), lambda i: ask_leaf(reader, name, leaves[i]))
+
+
+def key_of(hive, path, how=in_turn):
     bins = open_hive(hive)
     parts = path_parts(path)
     reader = Reader(bins, u32(hive, 24))
     k = reader.accepted(u32(hive, 36))
     for part in parts:
-        k = child_named(reader, k, part)
+        child = how(reader, k, part)
+        if child is None:
+            raise Refused(17, 0, k["at"])
+        k, reader.examined = child, child["at"]
     return reader, k
 
 
-def find_key(hive, path):
+def find_key(hive, path, how=in_turn):
     """The key's offset for a path of UTF-16 units, or Refused."""
-    return key_of(hive, path)[1]["at"]
+    return key_of(hive, path, how)[1]["at"]
 
 
-def find_value(hive, path, name):
-    reader, k = key_of(hive, path)
+def find_value(hive, path, name, how=in_turn):
+    reader, k = key_of(hive, path, how)
     found = None
     for at in reader.value_offsets(k):
         v = reader.value(at)
@@ -369,10 +418,10 @@ def find_value(hive, path, name):
     return reader, found
 
 
-def value_info(hive, path, name, view=False):
+def value_info(hive, path, name, view=False, how=in_turn):
     """(case, type, place, length) and the bytes. The place is one in the file: of the data, or of the `db` record; 0 where
     nothing is read (22). As a view's sister it refuses 19 before any data cell is read."""
-    reader, v = find_value(hive, path, name)
+    reader, v = find_value(hive, path, name, how)
     case = "inline" if v["inline"] else "segments" if reader.segmented(v) else "cell"
     if view and case == "segments":
         raise Refused(19, v["at"], reader.examined)
@@ -382,18 +431,34 @@ def value_info(hive, path, name, view=False):
     return (case, v["kind"], place, v["size"]), reader.data(v)
 
 
-def value_view(hive, path, name):
-    return value_info(hive, path, name, view=True)[1]
+def value_view(hive, path, name, how=in_turn):
+    return value_info(hive, path, name, True, how)[1]
 
 
-def value_copy(hive, path, name, out):
+def value_copy(hive, path, name, out, how=in_turn):
     """Writes the data to the start of `out`, a bytearray, and answers their length."""
-    reader, v = find_value(hive, path, name)
+    reader, v = find_value(hive, path, name, how)
     data = reader.data(v)
     if len(out) < len(data):
         raise Refused(20, 0, reader.examined)
     out[:len(data)] = data
     return len(data)
+
+
+def quick_key(hive, path):
+    return find_key(hive, path, halving)
+
+
+def quick_info(hive, path, name, view=False):
+    return value_info(hive, path, name, view, halving)
+
+
+def quick_view(hive, path, name):
+    return value_view(hive, path, name, halving)
+
+
+def quick_copy(hive, path, name, out):
+    return value_copy(hive, path, name, out, halving)
 
 
 # ---- the model: what deletion left behind

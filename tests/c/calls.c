@@ -39,11 +39,37 @@ static HiveAnswer checked(const uint8_t *file, size_t length)
     return r.answer;
 }
 
+static bool alike(HiveAnswer a, HiveAnswer b)
+{
+    return memcmp(&a, &b, sizeof a) == 0;
+}
+
+/* By both lookups, which may only differ where the check refuses. */
 static HiveAnswer found(const uint8_t *file, size_t length, const char *path)
 {
     size_t n;
     const uint16_t *p = lend_units(2, path, &n);
-    return hive_find_key(lend(0, file, length), length, p, n);
+    const uint8_t *h = lend(0, file, length);
+    HiveAnswer a = hive_find_key(h, length, p, n), b = hive_quick_key(h, length, p, n);
+    EXPECT(alike(a, b) || checked(file, length).number != 0);
+    return a;
+}
+
+/* The value calls of the lookup that halves, wherever it ends at the same key or with the same refusal: as the others answer, info and view, and what a copy left in `o`. */
+static void quickly(const uint8_t *h, size_t length, const uint16_t *p, size_t n, const uint16_t *x, size_t k, HiveValue v, HiveValue w, const uint8_t *o,
+                    size_t room)
+{
+    static uint8_t out[ROOM];
+    HiveAnswer key = hive_quick_key(h, length, p, n);
+    if (!alike(key, hive_find_key(h, length, p, n)))
+        return;
+    HiveValue quick_v = hive_quick_info(h, length, p, n, x, k), quick_w = hive_quick_view(h, length, p, n, x, k);
+    EXPECT(memcmp(&v, &quick_v, sizeof v) == 0 && memcmp(&w, &quick_w, sizeof w) == 0);
+    memset(out, 0x5a, room);
+    HiveCopy c = hive_quick_copy(h, length, p, n, x, k, out, room);
+    EXPECT(alike(c.answer, v.answer) && c.length == v.length && memcmp(out, o, room) == 0);
+    if (v.length > 0)
+        EXPECT(in(hive_quick_copy(h, length, p, n, x, k, out, v.length - 1).answer, 20, 0, key.value) && memcmp(out, o, room) == 0);
 }
 
 /* value_info, value_view and value_copy, which must agree. */
@@ -61,6 +87,7 @@ static HiveValue asked(const uint8_t *file, size_t length, const char *path, con
     uint8_t *o = lend(1, before, room);
     HiveCopy c = hive_value_copy(h, length, p, n, x, k, o, room);
     EXPECT(memcmp(&c.answer, &v.answer, sizeof v.answer) == 0 && c.length == (v.answer.number == 0 ? v.length : 0));
+    quickly(h, length, p, n, x, k, v, w, o, room);
     if (v.answer.number != 0)
         EXPECT(memcmp(o, before, room) == 0 && v.kind + v.form + v.at + v.length == 0);
     else {
@@ -134,6 +161,10 @@ static void t_nothing(void)
     EXPECT(is(hive_value_info(NULL, 0, NULL, 0, NULL, 0).answer, 1, 0));
     EXPECT(is(hive_value_view(NULL, 0, NULL, 0, NULL, 0).answer, 1, 0));
     EXPECT(is(hive_value_copy(NULL, 0, NULL, 0, NULL, 0, NULL, 0).answer, 1, 0));
+    EXPECT(is(hive_quick_key(NULL, 0, NULL, 0), 1, 0));
+    EXPECT(is(hive_quick_info(NULL, 0, NULL, 0, NULL, 0).answer, 1, 0));
+    EXPECT(is(hive_quick_view(NULL, 0, NULL, 0, NULL, 0).answer, 1, 0));
+    EXPECT(is(hive_quick_copy(NULL, 0, NULL, 0, NULL, 0, NULL, 0).answer, 1, 0));
     EXPECT(is(hive_nth_subkey(NULL, 0, 32, 0).answer, 1, 0));
     EXPECT(is(hive_nth_value(NULL, 0, 32, 0).answer, 1, 0));
     EXPECT(is(hive_value_at(NULL, 0, 32).answer, 1, 0));
@@ -152,7 +183,7 @@ static void t_nothing(void)
     Made m = sample();
     size_t n = made_length(&m);
     EXPECT(is(hive_check(m.file, n, NULL, 0).answer, 8, 0));
-    EXPECT(hive_find_key(m.file, n, NULL, 0).value == m.root);
+    EXPECT(hive_find_key(m.file, n, NULL, 0).value == m.root && hive_quick_key(m.file, n, NULL, 0).value == m.root);
     EXPECT(in(hive_value_info(m.file, n, NULL, 0, NULL, 0).answer, 18, 0, m.root));
     EXPECT(hive_next_remnant(m.file, n, 0).state == 1 && hive_remnants(m.file, n, 0, NULL, 0).state == 1);
     EXPECT(hive_recover_start(m.file, n, NULL, 0).state == 1);
@@ -170,6 +201,10 @@ static void all_calls(const uint8_t *bytes, size_t length)
     EXPECT(hive_value_info(h, length, p, length / 2, p, length / 2).answer.key == NO_KEY);
     EXPECT(hive_value_view(h, length, NULL, 0, p, length / 2).answer.key == NO_KEY);
     EXPECT(hive_value_copy(h, length, NULL, 0, p, length / 2, l, length).answer.key == NO_KEY);
+    EXPECT(hive_quick_key(h, length, p, length / 2).key == NO_KEY);
+    EXPECT(hive_quick_info(h, length, p, length / 2, p, length / 2).answer.key == NO_KEY);
+    EXPECT(hive_quick_view(h, length, NULL, 0, p, length / 2).answer.key == NO_KEY);
+    EXPECT(hive_quick_copy(h, length, NULL, 0, p, length / 2, l, length).answer.key == NO_KEY);
     for (uint32_t at = 0; at < 3; at++) {
         EXPECT(hive_nth_subkey(h, length, 32 + 0x7fffffffu * at, at).answer.key == NO_KEY);
         EXPECT(hive_nth_value(h, length, 32 + 0x7fffffffu * at, at).answer.key == NO_KEY);

@@ -58,16 +58,21 @@ static HiveAnswer check(const Made *m)
     return checked(m).answer;
 }
 
+/* By both lookups, which cannot differ at the root. */
 static HiveAnswer root_of(const Made *m)
 {
-    return hive_find_key(m->file, FILE_LENGTH, NULL, 0);
+    HiveAnswer a = hive_find_key(m->file, FILE_LENGTH, NULL, 0), b = hive_quick_key(m->file, FILE_LENGTH, NULL, 0);
+    EXPECT(memcmp(&a, &b, sizeof a) == 0);
+    return a;
 }
 
 static const uint16_t NAME[] = {'v'};
 
 static HiveAnswer asked(const Made *m)
 {
-    return hive_value_info(m->file, FILE_LENGTH, NULL, 0, NAME, 1).answer;
+    HiveValue v = hive_value_info(m->file, FILE_LENGTH, NULL, 0, NAME, 1), w = hive_quick_info(m->file, FILE_LENGTH, NULL, 0, NAME, 1);
+    EXPECT(memcmp(&v, &w, sizeof v) == 0);
+    return v.answer;
 }
 
 static void t_one_bin(void)

@@ -144,7 +144,7 @@ static void on_log(size_t length)
     of_log(length);
 }
 
-/* The value named v of that key, in full, in place, and copied to a few bytes. */
+/* The value named v of that key, in full, in place, and copied to a few bytes; all of it by both lookups. */
 static void on_path(size_t length)
 {
     static uint16_t units[LONGEST / 2];
@@ -153,12 +153,13 @@ static void on_path(size_t length)
     memcpy(units, payload, length);
     uint8_t out[ROOM];
     say("", hive_find_key(hive, hive_length, units, n));
-    HiveAnswer info = hive_value_info(hive, hive_length, units, n, name, 1).answer;
-    HiveAnswer view = hive_value_view(hive, hive_length, units, n, name, 1).answer;
-    HiveAnswer copy = hive_value_copy(hive, hive_length, units, n, name, 1, out, ROOM).answer;
-    say(" info: ", info);
-    say(" view: ", view);
-    say(" copy: ", copy);
+    say(" info: ", hive_value_info(hive, hive_length, units, n, name, 1).answer);
+    say(" view: ", hive_value_view(hive, hive_length, units, n, name, 1).answer);
+    say(" copy: ", hive_value_copy(hive, hive_length, units, n, name, 1, out, ROOM).answer);
+    say(" quick: ", hive_quick_key(hive, hive_length, units, n));
+    say(" quick info: ", hive_quick_info(hive, hive_length, units, n, name, 1).answer);
+    say(" quick view: ", hive_quick_view(hive, hive_length, units, n, name, 1).answer);
+    say(" quick copy: ", hive_quick_copy(hive, hive_length, units, n, name, 1, out, ROOM).answer);
 }
 
 int main(void)

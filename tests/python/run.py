@@ -56,6 +56,14 @@ def refusal(call, *args, **named):
     raise AssertionError("not refused")
 
 
+def told(call, *args):
+    """What a call answers, or its refusal, of the library or of the plain reading; a number without a place has place 0 in both."""
+    try:
+        return call(*args)
+    except (Refused, hives.Refused) as refused:
+        return refused.number, refused.place or 0, hives.NO_KEY if refused.key is None else refused.key
+
+
 def bytes_of(path):
     with open(path, "rb") as file:
         return file.read()
@@ -197,6 +205,35 @@ def left_at_random():
             record = dice.choice((hives.key_record, hives.value_record))(raw, dice.random() < 0.5, dice.choice((0, 255)))
             file[4096 + at + 4:4096 + at + 4 + len(record)] = record
         expect([(d.offset, d.kind, d.length) for d in Hive(file).deleted()], [(x[0], {1: "key", 2: "value"}[x[1]], x[2]) for x in hives.remnants(file)])
+
+
+@test
+def quickly():
+    """the lookup that halves: as the other where the check accepts, and else as the plain reading of the request"""
+    for seed in range(150):
+        dice = random.Random(seed)
+        keys = [hives.Key("k%02d" % i, [hives.Key("x")] if i % 5 == 0 else [], [hives.Value("v", bytes(i % 7))] if i % 2 else []) for i in range(dice.randrange(1, 40))]
+        each = dice.choice((1, 2, 3, 7))
+        lists = [(dice.choice(("li", "lf", "lh")), len(keys[i:i + each])) for i in range(0, len(keys), each)]
+        made = hives.Builder(hives.Key("root", keys, lists=lists if seed % 4 else "lh"))
+        file = bytearray(made.hive)
+        offsets = [place for place, _width, what in made.fields if what == "offset"]
+        for _ in range(dice.randrange(4)):
+            one, other = dice.choice(offsets), dice.choice(offsets)
+            file[one:one + 4], file[other:other + 4] = file[other:other + 4], file[one:one + 4]
+        hive, accepted = Hive(file), len(told(hives.check, file, bytearray(len(file) // 64))) == 5
+        for path in [k + end for k in ("K%02d" % i for i in range(len(keys) + 1)) for end in ("", "!", "\\x")]:
+            by_path, units = (lambda quick: hive.key(path, quick=quick).offset), hives.units(path)
+            expect(told(by_path, True), told(hives.quick_key, file, units))
+            expect(told(by_path, False), told(hives.find_key, file, units))
+            expect(not accepted or told(by_path, True) == told(by_path, False), True)
+            by_name = lambda quick: hive.value(path, "V", quick=quick).data
+            expect(told(by_name, True), told(lambda: hives.quick_info(file, units, [118])[1]))
+    hive = Hive("sample")
+    value = hive.value(PRINT, "Large", quick=True)
+    expect((value.data, refusal(lambda: value.view)[0]), (hive.value(PRINT, "Large").data, 19))
+    expect(hive.key("a").key("k7", quick=True).offset, hive.key("a\\k7").offset)
+    expect(hive.key(PRINT).value("Big", quick=True).data, b"\0\0\1\2")
 
 
 @test

@@ -12,6 +12,7 @@ use Rattle.cells.proofs.Refusals.{survey-refuses}
 use Rattle.tree.proofs.Tells.{check-tells}
 use Rattle.tree.proofs.Examines.{check-examines}
 use Rattle.tree.proofs.Maps.{map-untouched, map-zero, map-complete, map-accepted, map-beyond}
+use Rattle.search.specs.declared.How.the-variants.{InTurn, Halving}
 use Rattle.paths.proofs.Refusals.{find-refuses}
 use Rattle.lookup.proofs.Agree.{refused-untouched}
 use Rattle.lookup.proofs.Refusals.{info-refuses, view-refuses, copy-refuses}
@@ -79,10 +80,14 @@ demand1 =
       survey-place = λ h room f e. survey-refuses h room e;
       check-place = λ h m r e. check-tells h m e;
       check-key = λ h m r e. check-examines h m e;
-      find-place = λ h us r e. find-refuses h us e;
-      info-place = λ h us x r e. info-refuses h us x e;
-      view-place = λ h us x r e. view-refuses h us x e;
-      copy-place = λ h us x n r e. copy-refuses h us x n e;
+      find-place = λ h us r e. find-refuses InTurn h us e;
+      info-place = λ h us x r e. info-refuses InTurn h us x e;
+      view-place = λ h us x r e. view-refuses InTurn h us x e;
+      copy-place = λ h us x n r e. copy-refuses InTurn h us x n e;
+      quick-key-place = λ h us r e. find-refuses Halving h us e;
+      quick-info-place = λ h us x r e. info-refuses Halving h us x e;
+      quick-view-place = λ h us x r e. view-refuses Halving h us x e;
+      quick-copy-place = λ h us x n r e. copy-refuses Halving h us x n e;
       subkey-place = λ h o n r e. subkey-refuses h o n e;
       nth-place = λ h o n r e. value-refuses h o n e;
       at-place = λ h v r e. at-refuses h v e;
@@ -99,7 +104,8 @@ demand1 =
       mark-place = λ l from r e. mark-refuses l from e;
       marked-place = λ l room r e. marked-refuses l room e;
       log-place = λ l r e. log-refuses l e;
-      copy-stays = λ h us x out r e. refused-untouched h us x out e;
+      copy-stays = λ h us x out r e. refused-untouched InTurn h us x out e;
+      quick-copy-stays = λ h us x out r e. refused-untouched Halving h us x out e;
       copy-at-stays = λ h v out r e. copy-at-stays h v out e;
       rows-stay = λ h from rows r e. rows-stay h from rows e;
       page-stays = page-stays;

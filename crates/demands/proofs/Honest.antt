@@ -23,8 +23,8 @@ use Rattle.tree.specs.Tree.{_after_, placeFault, hashFault, levelFault, totalFa
 use Rattle.tree.proofs.Exactly.{accepted-as}
 use Rattle.paths.specs.declared.KeyFound.the-variants as found
 use Rattle.paths.specs.Paths.{split, partsOf, isPart, areParts, isPath, pathFault}
-use Rattle.paths.specs.Descent.{descend, lookupKey}
-use Rattle.paths.specs.Answers.{openFault, keyLook, findAnswer}
+use Rattle.paths.specs.Descent.{descendBy, lookupKeyBy}
+use Rattle.paths.specs.Answers.{openFault, keyLookBy, findBy, findAnswer}
 use Rattle.sectors.specs.Sector.{page}
 use Rattle.logs.specs.Small.{log, hive}
 use Rattle.logs.proofs.Small.{small-zero, small-fifteen, zero-logged, fifteen-logged}
@@ -41,7 +41,7 @@ unfolding checkAnswer surveyAnswer mapLeft frontFault baseFault blockFault isVer
 minimal-accepted = refl
 
 minimal-root : findAnswer minimal [] ≡ found.At (record { 0 = 32 })
-unfolding findAnswer keyLook openFault lookupKey descend pathFault isPath areParts isPart partsOf split baseFault blockFault isVersion isBinsSize storedChecksum asStored xors u32At u16At sizeAt standsAt sameBytes _next_ goodSize isNamed byHeader cellOf cellFault dataOf dataAt codes charactersIn hasCode isKeyName isKey keyFault header baseBlock rootCell minimal
+unfolding findBy keyLookBy openFault lookupKeyBy descendBy pathFault isPath areParts isPart partsOf split baseFault blockFault isVersion isBinsSize storedChecksum asStored xors u32At u16At sizeAt standsAt sameBytes _next_ goodSize isNamed byHeader cellOf cellFault dataOf dataAt codes charactersIn hasCode isKeyName isKey keyFault header baseBlock rootCell minimal
 minimal-root = refl
 
 nothing-checked : checkAnswer [] [] ≡ checked.Refused (refusalOf noKey (flaw HiveShort nowhere))
@@ -49,7 +49,7 @@ unfolding checkAnswer surveyAnswer frontFault baseFault _next_
 nothing-checked = refl
 
 nothing-found : findAnswer [] [] ≡ found.Refused (refusalOf noKey (flaw HiveShort nowhere))
-unfolding findAnswer keyLook openFault baseFault _next_
+unfolding findBy keyLookBy openFault baseFault _next_
 nothing-found = refl
 
 -- the first call of the small repair: page 0 is then the log's, and page 15 still the hive's

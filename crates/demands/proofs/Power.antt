@@ -12,14 +12,16 @@ use Rattle.base.specs.Block.{baseFault}
 use Rattle.sectors.specs.Sector.{Bytes}
 use Rattle.cells.proofs.Fronts.{front-base, survey-front}
 use Rattle.tree.proofs.Roots.{check-refused}
+use Rattle.search.specs.declared.How.{How}
+use Rattle.search.specs.declared.How.the-variants.{InTurn, Halving}
 use Rattle.paths.specs.declared.KeyFound.the-variants as key
 use Rattle.paths.specs.declared.Way.the-variants as way
-use Rattle.paths.specs.Answers.{keyLook, findAnswer}
+use Rattle.paths.specs.Answers.{keyLookBy, findBy}
 use Rattle.paths.proofs.Opens.{open-base, look-stop}
 use Rattle.lookup.specs.declared.Copied.the-variants as copied
 use Rattle.lookup.specs.declared.Spot.the-variants as spot
 use Rattle.lookup.specs.declared.ValueFound.the-variants as value
-use Rattle.lookup.specs.Answers.{valueLook, infoAnswer, viewAnswer, viewBytes, copyAnswer}
+use Rattle.lookup.specs.Answers.{valueLookBy, infoBy, viewBy, viewBytesBy, copyBy}
 use Rattle.lookup.proofs.Agree.{refused-untouched}
 use Rattle.listing.specs.declared.KeyFacts.the-variants as facts
 use Rattle.listing.specs.declared.Member.the-variants as member
@@ -35,32 +37,32 @@ use Rattle.demands.specs.Third.{Unread, Demand3}
 -- ---- a file that the tests 1 to 7 refuse is refused by every call of the reader
 
 module _ (d : List ℕ) (f : Flaw) (e : baseFault d ≡ Flawed f) where
-  key-look : (us : List ℕ) → keyLook d us ≡ way.Faulty (refusalOf noKey f)
-  key-look us = look-stop d us (open-base d us e)
+  key-look : (how : How) (us : List ℕ) → keyLookBy how d us ≡ way.Faulty (refusalOf noKey f)
+  key-look how us = look-stop how d us (open-base d us e)
 
-  value-look : (us x : List ℕ) → valueLook d us x ≡ spot.Faulty (refusalOf noKey f)
-  unfolding valueLook
-  value-look us x = rw (key-look us)
+  value-look : (how : How) (us x : List ℕ) → valueLookBy how d us x ≡ spot.Faulty (refusalOf noKey f)
+  unfolding valueLookBy
+  value-look how us x = rw (key-look how us)
 
-  find : (us : List ℕ) → findAnswer d us ≡ key.Refused (refusalOf noKey f)
-  unfolding findAnswer
-  find us = rw (key-look us)
+  find : (how : How) (us : List ℕ) → findBy how d us ≡ key.Refused (refusalOf noKey f)
+  unfolding findBy
+  find how us = rw (key-look how us)
 
-  info : (us x : List ℕ) → infoAnswer d us x ≡ value.Refused (refusalOf noKey f)
-  unfolding infoAnswer
-  info us x = rw (value-look us x)
+  info : (how : How) (us x : List ℕ) → infoBy how d us x ≡ value.Refused (refusalOf noKey f)
+  unfolding infoBy
+  info how us x = rw (value-look how us x)
 
-  view : (us x : List ℕ) → viewAnswer d us x ≡ value.Refused (refusalOf noKey f)
-  unfolding viewAnswer
-  view us x = rw (value-look us x)
+  view : (how : How) (us x : List ℕ) → viewBy how d us x ≡ value.Refused (refusalOf noKey f)
+  unfolding viewBy
+  view how us x = rw (value-look how us x)
 
-  no-view : (us x : List ℕ) → viewBytes d us x ≡ []
-  unfolding viewBytes
-  no-view us x = rw (view us x)
+  no-view : (how : How) (us x : List ℕ) → viewBytesBy how d us x ≡ []
+  unfolding viewBytesBy
+  no-view how us x = rw (view how us x)
 
-  copy : (us x out : List ℕ) → copyAnswer d us x (length out) ≡ copied.Refused (refusalOf noKey f)
-  unfolding copyAnswer
-  copy us x out = rw (info us x)
+  copy : (how : How) (us x out : List ℕ) → copyBy how d us x (length out) ≡ copied.Refused (refusalOf noKey f)
+  unfolding copyBy
+  copy how us x out = rw (info how us x)
 
   subkey : (o : Offset) (i : ℕ) → subkeyAnswer d o i ≡ member.Refused (refusalOf noKey f)
   unfolding subkeyAnswer
@@ -86,11 +88,16 @@ module _ (d : List ℕ) (f : Flaw) (e : baseFault d ≡ Flawed f) where
   unread =
       record {
         check = λ map. let s = survey-front d map (front-base d (length map) e) in (check-refused d map (s .0) refl, s .1);
-        find-key = find;
-        value-info = info;
-        view-info = view;
-        value-view = no-view;
-        value-copy = λ us x out. (copy us x out, refused-untouched d us x out (copy us x out));
+        find-key = find InTurn;
+        value-info = info InTurn;
+        view-info = view InTurn;
+        value-view = no-view InTurn;
+        value-copy = λ us x out. (copy InTurn us x out, refused-untouched InTurn d us x out (copy InTurn us x out));
+        quick-key = find Halving;
+        quick-info = info Halving;
+        quick-view-info = view Halving;
+        quick-view = no-view Halving;
+        quick-copy = λ us x out. (copy Halving us x out, refused-untouched Halving d us x out (copy Halving us x out));
         nth-subkey = subkey;
         nth-value = nth-value;
         info-at = at;

@@ -1,10 +1,10 @@
 -- Demand 1. "Any bytes given as hive, log, path or name get an answer, and every entry point tests its own input."
 --
 -- Every public call's contract is an equation, for all lists of bytes and with no condition on them: what it answers is `checkAnswer h m`, `findAnswer h us`,
--- `infoAnswer h us x`, `viewAnswer h us x`, `copyAnswer h us x n`, `subkeyAnswer h o n`, `valueAnswer h o n`, `infoAt h v`, `copyAt h v n`, `factsAnswer h o`,
--- `remnantAnswer h from`, `rowsAnswer h from n`, `startAnswer h l`, `pageAnswer h l p`, `closeAnswer h l`, `nextAnswer l from`, `allAnswer h l`,
--- `markAnswer l from`, `markedAnswer l n` and `factsAnswer l` of a log. These are total functions, so there is an answer. What is left to say is what a
--- refusal is.
+-- `infoAnswer h us x`, `viewAnswer h us x`, `copyAnswer h us x n`, `quickAnswer h us`, `quickInfo h us x`, `quickView h us x`, `quickCopy h us x n`,
+-- `subkeyAnswer h o n`, `valueAnswer h o n`, `infoAt h v`, `copyAt h v n`, `factsAnswer h o`, `remnantAnswer h from`, `rowsAnswer h from n`,
+-- `startAnswer h l`, `pageAnswer h l p`, `closeAnswer h l`, `nextAnswer l from`, `allAnswer h l`, `markAnswer l from`, `markedAnswer l n` and
+-- `factsAnswer l` of a log. These are total functions, so there is an answer. What is left to say is what a refusal is.
 use Prim.Native.Nat.{ℕ, _/_, _≤_}
 use mathlib.Core.Path.{_≡_}
 use mathlib.Core.Logic.{_↔_}
@@ -24,13 +24,14 @@ use Rattle.tree.specs.declared.Checked.the-variants as checked
 use Rattle.tree.specs.declared.Report.{Report}
 use Rattle.tree.specs.Tree.{checkAnswer}
 use Rattle.tree.specs.Told.{Told, Examined, mapBytes}
+use Rattle.search.specs.declared.How.the-variants.{Halving}
 use Rattle.paths.specs.declared.KeyFound.the-variants as key
-use Rattle.paths.specs.Answers.{findAnswer}
-use Rattle.paths.specs.Refused.{OfKey}
+use Rattle.paths.specs.Answers.{findAnswer, quickAnswer}
+use Rattle.paths.specs.Refused.{OfKey, OfKeyBy}
 use Rattle.lookup.specs.declared.Copied.the-variants as copied
 use Rattle.lookup.specs.declared.ValueFound.the-variants as value
-use Rattle.lookup.specs.Answers.{infoAnswer, viewAnswer, copyAnswer, copyOut}
-use Rattle.lookup.specs.Refused.{OfValue, OfView, OfCopy}
+use Rattle.lookup.specs.Answers.{infoAnswer, viewAnswer, copyAnswer, copyOut, quickInfo, quickView, quickCopy, quickOut}
+use Rattle.lookup.specs.Refused.{OfValue, OfView, OfCopy, OfValueBy, OfViewBy, OfCopyBy}
 use Rattle.listing.specs.declared.KeyFacts.the-variants as facts
 use Rattle.listing.specs.declared.Member.the-variants as member
 use Rattle.listing.specs.Members.{subkeyAnswer, valueAnswer, infoAt, copyAt, outAt, factsAnswer}
@@ -62,6 +63,11 @@ pub record Demand1 : Type 0 where
   pub info-place : (h us x : List ℕ) (r : Refusal) → infoAnswer h us x ≡ value.Refused r → Because (OfValue h us x) r
   pub view-place : (h us x : List ℕ) (r : Refusal) → viewAnswer h us x ≡ value.Refused r → Because (OfView h us x) r
   pub copy-place : (h us x : List ℕ) (n : ℕ) (r : Refusal) → copyAnswer h us x n ≡ copied.Refused r → Because (OfCopy h us x n) r
+  -- the same where the keys of the way are searched by halving
+  pub quick-key-place : (h us : List ℕ) (r : Refusal) → quickAnswer h us ≡ key.Refused r → Because (OfKeyBy Halving h us) r
+  pub quick-info-place : (h us x : List ℕ) (r : Refusal) → quickInfo h us x ≡ value.Refused r → Because (OfValueBy Halving h us x) r
+  pub quick-view-place : (h us x : List ℕ) (r : Refusal) → quickView h us x ≡ value.Refused r → Because (OfViewBy Halving h us x) r
+  pub quick-copy-place : (h us x : List ℕ) (n : ℕ) (r : Refusal) → quickCopy h us x n ≡ copied.Refused r → Because (OfCopyBy Halving h us x n) r
   pub subkey-place : (h : List ℕ) (o : Offset) (n : ℕ) (r : Refusal) → subkeyAnswer h o n ≡ member.Refused r → Because (OfSubkey h o) r
   pub nth-place : (h : List ℕ) (o : Offset) (n : ℕ) (r : Refusal) → valueAnswer h o n ≡ member.Refused r → Because (OfNth h o) r
   pub at-place : (h : List ℕ) (v : Offset) (r : Refusal) → infoAt h v ≡ value.Refused r → Keyless (OfInfo h v) r
@@ -82,6 +88,7 @@ pub record Demand1 : Type 0 where
   pub log-place : (l : List ℕ) (r : Refusal) → logAnswer l ≡ log.Refused r → Keyless (OfLog l) r
   -- "It changes no byte of hive or output"
   pub copy-stays : (h us x out : List ℕ) (r : Refusal) → copyAnswer h us x (length out) ≡ copied.Refused r → copyOut h us x out ≡ out
+  pub quick-copy-stays : (h us x out : List ℕ) (r : Refusal) → quickCopy h us x (length out) ≡ copied.Refused r → quickOut h us x out ≡ out
   pub copy-at-stays : (h : List ℕ) (v : Offset) (out : List ℕ) (r : Refusal) → copyAt h v (length out) ≡ copied.Refused r → outAt h v out ≡ out
   pub rows-stay : (h : List ℕ) (from : ℕ) (rows : List ℕ) (r : Refusal) → rowsAnswer h from (length rows) ≡ filled.Refused r → rowsOut h from rows ≡ rows
   pub page-stays : (h l : List ℕ) (p : ℕ) (r : Refusal) → pageAnswer h l p ≡ stepped.Refused r → pageHive h l p ≡ h

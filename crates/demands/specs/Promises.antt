@@ -9,10 +9,10 @@ use Rattle.cells.specs.Survey.{mapLeft}
 use Rattle.tree.specs.declared.Checked.{Checked}
 use Rattle.tree.specs.Tree.{checkAnswer}
 use Rattle.paths.specs.declared.KeyFound.{KeyFound}
-use Rattle.paths.specs.Answers.{findAnswer}
+use Rattle.paths.specs.Answers.{findAnswer, quickAnswer}
 use Rattle.lookup.specs.declared.ValueFound.{ValueFound}
 use Rattle.lookup.specs.declared.Copied.{Copied}
-use Rattle.lookup.specs.Answers.{infoAnswer, viewAnswer, viewStart, viewBytes, copyAnswer, copyOut}
+use Rattle.lookup.specs.Answers.{infoAnswer, viewAnswer, viewStart, viewBytes, copyAnswer, copyOut, quickInfo, quickView, quickViewStart, quickViewBytes, quickCopy, quickOut}
 use Rattle.listing.specs.declared.KeyFacts.{KeyFacts}
 use Rattle.listing.specs.declared.Member.{Member}
 use Rattle.listing.specs.Members.{subkeyAnswer, valueAnswer, infoAt, copyAt, outAt, factsAnswer}
@@ -43,6 +43,12 @@ Copies h us x out r after = (r ≡ copyAnswer h us x (length out)) × (after ≡
 abbrev pub Views : List ℕ → List ℕ → List ℕ → ℕ × ℕ → List ℕ → ℕ × ℕ → Type 0
 Views h us x hive s part = (s ≡ viewBytes h us x) × (part ≡ (hive .0, viewStart h us x + hive .1))
 
+abbrev pub QuickCopies : List ℕ → List ℕ → List ℕ → List ℕ → Copied → List ℕ → Type 0
+QuickCopies h us x out r after = (r ≡ quickCopy h us x (length out)) × (after ≡ quickOut h us x out)
+
+abbrev pub QuickViews : List ℕ → List ℕ → List ℕ → ℕ × ℕ → List ℕ → ℕ × ℕ → Type 0
+QuickViews h us x hive s part = (s ≡ quickViewBytes h us x) × (part ≡ (hive .0, quickViewStart h us x + hive .1))
+
 abbrev pub CopiesAt : List ℕ → Offset → List ℕ → Copied → List ℕ → Type 0
 CopiesAt h v out r after = (r ≡ copyAt h v (length out)) × (after ≡ outAt h v out)
 
@@ -68,6 +74,11 @@ pub record Unique : Type 0 where
   pub view-info : (h us x : List ℕ) (r r′ : ValueFound) → r ≡ viewAnswer h us x → r′ ≡ viewAnswer h us x → r ≡ r′
   pub value-view : (h us x : List ℕ) (hive : ℕ × ℕ) → Determines (Views h us x hive)
   pub value-copy : (h us x out : List ℕ) → Determines (Copies h us x out)
+  pub quick-key : (h us : List ℕ) (r r′ : KeyFound) → r ≡ quickAnswer h us → r′ ≡ quickAnswer h us → r ≡ r′
+  pub quick-info : (h us x : List ℕ) (r r′ : ValueFound) → r ≡ quickInfo h us x → r′ ≡ quickInfo h us x → r ≡ r′
+  pub quick-view-info : (h us x : List ℕ) (r r′ : ValueFound) → r ≡ quickView h us x → r′ ≡ quickView h us x → r ≡ r′
+  pub quick-view : (h us x : List ℕ) (hive : ℕ × ℕ) → Determines (QuickViews h us x hive)
+  pub quick-copy : (h us x out : List ℕ) → Determines (QuickCopies h us x out)
   pub nth-subkey : (h : List ℕ) (o : Offset) (n : ℕ) (r r′ : Member) → r ≡ subkeyAnswer h o n → r′ ≡ subkeyAnswer h o n → r ≡ r′
   pub nth-value : (h : List ℕ) (o : Offset) (n : ℕ) (r r′ : Member) → r ≡ valueAnswer h o n → r′ ≡ valueAnswer h o n → r ≡ r′
   pub info-at : (h : List ℕ) (v : Offset) (r r′ : ValueFound) → r ≡ infoAt h v → r′ ≡ infoAt h v → r ≡ r′

@@ -10,6 +10,7 @@ use Rattle.fields.specs.declared.Offset.{Offset}
 use Rattle.fields.specs.declared.Refusal.{Refusal}
 use Rattle.fields.specs.Faults.{flaw, nowhere, noKey, refusalOf}
 use Rattle.base.specs.Block.{sector, binsOf, minorOf, binsData}
+use Rattle.sectors.specs.Sector.{Bytes}
 use Rattle.cells.specs.Tiled.{BinsTile}
 use Rattle.cells.specs.Counts.{cellsIn, binCount, usedBytes, freeBytes}
 use Rattle.records.specs.Keys.{keyOf}
@@ -24,12 +25,12 @@ use Rattle.tree.specs.Tree.{hiveOf, keysOf, valuesIn, checkAnswer}
 use Rattle.tree.specs.WellFormed.{Once, CleanAndWellFormed}
 use Rattle.paths.specs.declared.KeyFound.the-variants as found
 use Rattle.paths.specs.Paths.{isPath, partsOf}
-use Rattle.paths.specs.Answers.{findAnswer}
+use Rattle.paths.specs.Answers.{findAnswer, quickAnswer}
 use Rattle.paths.specs.Reach.{Holds, FoundAgain, Deepest}
 use Rattle.lookup.specs.declared.Copied.the-variants as copied
 use Rattle.lookup.specs.declared.Info.{Info}
 use Rattle.lookup.specs.declared.ValueFound.the-variants as valued
-use Rattle.lookup.specs.Answers.{infoOf, infoAnswer, viewAnswer, viewBytes, copyAnswer, copyOut}
+use Rattle.lookup.specs.Answers.{infoOf, infoAnswer, viewAnswer, viewStart, viewBytes, copyAnswer, copyOut, quickInfo, quickView, quickViewStart, quickViewBytes, quickCopy, quickOut}
 use Rattle.lookup.specs.Reach.{FirstNamed}
 use Rattle.logs.specs.Logs.{loggedCount}
 use Rattle.recovery.specs.declared.Started.the-variants as started
@@ -57,6 +58,13 @@ pub record Answers (h us x : List ℕ) (k v : Offset) : Type 0 where
       → (viewAnswer h us x ≡ valued.At (infoOf (valueOf (binsData h) (minorOf (sector h)) v))) × (viewBytes h us x ≡ bytesOf (binsData h) (dataFor h v))
   pub unviewed : (a : Offset) (n : ℕ) → dataFor h v ≡ Segments a n
       → (viewAnswer h us x ≡ valued.Refused (refusalOf k (flaw Segmented v))) × (viewBytes h us x ≡ [])
+
+-- the value calls that search the keys of the way by halving answer as the first ones, with the same part of the hive and every byte of the output
+pub record AnswersSame (h us x : List ℕ) : Type 0 where
+  pub info : quickInfo h us x ≡ infoAnswer h us x
+  pub view : quickView h us x ≡ viewAnswer h us x
+  pub part : (quickViewBytes h us x ≡ viewBytes h us x) × (quickViewStart h us x ≡ viewStart h us x)
+  pub copy : (out : List ℕ) → (quickCopy h us x (length out) ≡ copyAnswer h us x (length out)) × (quickOut h us x out ≡ copyOut h us x out)
 
 pub record Demand2 : Type 0 where
   -- "Given a large enough work map, a hive is accepted exactly when it is clean and well formed by the published regf description as document 01
@@ -93,6 +101,12 @@ pub record Demand2 : Type 0 where
   -- and a view, on any bytes, answers as value_info does and shows the same bytes
   pub view : (h us x : List ℕ) (i : Info) → viewAnswer h us x ≡ valued.At i
       → (infoAnswer h us x ≡ valued.At i) × (viewBytes h us x ≡ bytesOf (binsData h) (i .content))
+  -- "On each accepted hive it must answer as the first one does for every path": the lookup by halving, of a hive of bytes, so that its counts are below
+  -- 65,536; and the value calls over it
+  pub quick-same : (h : List ℕ) → Bytes h → CleanAndWellFormed h → (us : List ℕ) → quickAnswer h us ≡ findAnswer h us
+  pub quick-values : (h : List ℕ) → Bytes h → CleanAndWellFormed h → (us x : List ℕ) → AnswersSame h us x
+  -- and on every hive it answers with no key of another name
+  pub quick-called : (h us : List ℕ) (o : Offset) → quickAnswer h us ≡ found.At o → Holds (binsData h) (hiveOf h .root) (partsOf us) o
   -- "On a hive that isn't clean, a log is accepted exactly when document 01 lists no fault for the two."
   pub log-accepted : (h l : List ℕ) → (startAnswer h l ≡ started.Pages (loggedCount l)) ↔ Accepted h l
   -- "Recovery from an old-format log puts each logged page in its place and then rewrites the first sector, and touches nothing else."

@@ -14,10 +14,10 @@ use Rattle.cells.specs.Survey.{mapLeft}
 use Rattle.tree.specs.declared.Checked.the-variants as checked
 use Rattle.tree.specs.Tree.{checkAnswer}
 use Rattle.paths.specs.declared.KeyFound.the-variants as key
-use Rattle.paths.specs.Answers.{findAnswer}
+use Rattle.paths.specs.Answers.{findAnswer, quickAnswer}
 use Rattle.lookup.specs.declared.Copied.the-variants as copied
 use Rattle.lookup.specs.declared.ValueFound.the-variants as value
-use Rattle.lookup.specs.Answers.{infoAnswer, viewAnswer, viewBytes, copyAnswer, copyOut}
+use Rattle.lookup.specs.Answers.{infoAnswer, viewAnswer, viewBytes, copyAnswer, copyOut, quickInfo, quickView, quickViewBytes, quickCopy, quickOut}
 use Rattle.listing.specs.declared.KeyFacts.the-variants as facts
 use Rattle.listing.specs.declared.Member.the-variants as member
 use Rattle.listing.specs.Members.{subkeyAnswer, valueAnswer, infoAt, copyAt, outAt, factsAnswer}
@@ -39,6 +39,11 @@ pub record Unread (d : List ℕ) (r : Refusal) : Type 0 where
   pub view-info : (us x : List ℕ) → viewAnswer d us x ≡ value.Refused r
   pub value-view : (us x : List ℕ) → viewBytes d us x ≡ []
   pub value-copy : (us x out : List ℕ) → (copyAnswer d us x (length out) ≡ copied.Refused r) × (copyOut d us x out ≡ out)
+  pub quick-key : (us : List ℕ) → quickAnswer d us ≡ key.Refused r
+  pub quick-info : (us x : List ℕ) → quickInfo d us x ≡ value.Refused r
+  pub quick-view-info : (us x : List ℕ) → quickView d us x ≡ value.Refused r
+  pub quick-view : (us x : List ℕ) → quickViewBytes d us x ≡ []
+  pub quick-copy : (us x out : List ℕ) → (quickCopy d us x (length out) ≡ copied.Refused r) × (quickOut d us x out ≡ out)
   pub nth-subkey : (o : Offset) (i : ℕ) → subkeyAnswer d o i ≡ member.Refused r
   pub nth-value : (o : Offset) (i : ℕ) → valueAnswer d o i ≡ member.Refused r
   pub info-at : (v : Offset) → infoAt d v ≡ value.Refused r

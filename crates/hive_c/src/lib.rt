@@ -43,8 +43,8 @@ ghost use mathlib.Core.Path.{_≡_};
 ghost use lib.ListN.{length};
 ghost use Rattle.cells.specs.Survey.{mapLeft};
 ghost use Rattle.tree.specs.Tree.{checkAnswer};
-ghost use Rattle.paths.specs.Answers.{findAnswer};
-ghost use Rattle.lookup.specs.Answers.{infoAnswer, viewAnswer, copyAnswer, copyOut};
+ghost use Rattle.paths.specs.Answers.{findAnswer, quickAnswer};
+ghost use Rattle.lookup.specs.Answers.{infoAnswer, viewAnswer, copyAnswer, copyOut, quickInfo, quickView, quickCopy, quickOut};
 ghost use Rattle.listing.specs.Members.{subkeyAnswer, valueAnswer, infoAt, copyAt, outAt, factsAnswer};
 ghost use Rattle.recovery.specs.Calls.{startAnswer, pageAnswer, pageHive, closeAnswer, closeHive, nextAnswer};
 ghost use Rattle.recovery.specs.AtOnce.{allAnswer, allHive, markAnswer, markedAnswer, markedMap, factsAnswer as logAnswer};
@@ -78,8 +78,8 @@ const OLD_VALUE: u64 = 2;
 const NO_KEY: u32 = 0xffff_ffff;
 
 // Part of every answer. number: 0, or the refusal's number. place: the refusal's place. key: the refusal's key, else
-// HIVE_NO_KEY. value: the offset of the key or value that hive_find_key, hive_nth_subkey, hive_nth_value, hive_key_at or
-// hive_next_remnant found, else 0.
+// HIVE_NO_KEY. value: the offset of the key or value that hive_find_key, hive_quick_key, hive_nth_subkey, hive_nth_value,
+// hive_key_at or hive_next_remnant found, else 0.
 // Where number is not 0, every other field of the answer but place and key is 0.
 #[repr(C)]
 pub struct HiveAnswer {
@@ -387,6 +387,52 @@ pub extern "C" fn hive_value_copy(
     ensures { λ _. ⌜ now (out .exit) ≡ copyOut (now (hive .entry)) (now (path .entry)) (now (name .entry)) (now (out .entry)) ⌝ }
 {
     copied(lookup::value_copy(hive, path, name, out))
+}
+
+// Finds a key as hive_find_key does, by halving: a key's leaves by the first and last name of each, then one leaf. So it reads some
+// 30 key records for each part of the path, where hive_find_key reads those of all siblings up to the match. On a hive that
+// hive_check accepts the two answer the same.
+//
+// They may differ only on a hive that hive_check refuses. Each tests what it reads (11, 12), and hive_quick_key reads less: in lists
+// that are not sorted it may miss a key (17) or find another of that name, and it may pass by a fault that hive_find_key would meet.
+// A key that it finds has the name that was asked for, in any hive, and it never takes more than 16 + 16 turns for a part: lists that
+// name a leaf again and again do not make it slow.
+#[no_mangle]
+pub extern "C" fn hive_quick_key(hive: &[u8], path: &[u16]) -> HiveAnswer
+    ensures { λ r. ⌜ r ≡ keyIn (quickAnswer (now (hive .entry)) (now (path .entry))) ⌝ }
+{
+    key_answer(paths::quick_key(hive, path))
+}
+
+// As hive_value_info, of the key that hive_quick_key finds: the two answer the same on a hive that hive_check accepts. The values of
+// a key have no order and are read one after the other.
+#[no_mangle]
+pub extern "C" fn hive_quick_info(hive: &[u8], path: &[u16], name: &[u16]) -> HiveValue
+    ensures { λ r. ⌜ r ≡ valueIn (quickInfo (now (hive .entry)) (now (path .entry)) (now (name .entry))) ⌝ }
+{
+    value_answer(lookup::quick_info(hive, path, name))
+}
+
+// As hive_value_view, of the key that hive_quick_key finds.
+#[no_mangle]
+pub extern "C" fn hive_quick_view(hive: &[u8], path: &[u16], name: &[u16]) -> HiveValue
+    ensures { λ r. ⌜ r ≡ valueIn (quickView (now (hive .entry)) (now (path .entry)) (now (name .entry))) ⌝ }
+{
+    value_answer(lookup::quick_view_info(hive, path, name))
+}
+
+// As hive_value_copy, of the key that hive_quick_key finds. A refusal leaves `out` as it was.
+#[no_mangle]
+pub extern "C" fn hive_quick_copy(
+    hive: &[u8],
+    path: &[u16],
+    name: &[u16],
+    out: &mut [u8],
+) -> HiveCopy
+    ensures { λ r. ⌜ r ≡ copyIn (quickCopy (now (hive .entry)) (now (path .entry)) (now (name .entry)) (length (now (out .entry)))) ⌝ }
+    ensures { λ _. ⌜ now (out .exit) ≡ quickOut (now (hive .entry)) (now (path .entry)) (now (name .entry)) (now (out .entry)) ⌝ }
+{
+    copied(lookup::quick_copy(hive, path, name, out))
 }
 
 fn narrow_of(narrow: bool) -> u64

@@ -26,15 +26,16 @@ use Rattle.values.specs.Steps.{Lies}
 use Rattle.values.proofs.LawsData.{isOne, part-whole, part-lies}
 use Rattle.values.proofs.LawsValues.{lies as data-lies}
 use Rattle.paths.specs.declared.KeyFound.the-variants as found
-use Rattle.paths.specs.Answers.{findAnswer}
+use Rattle.paths.specs.Answers.{findBy}
 use Rattle.paths.proofs.Opens.{find-at}
+use Rattle.search.specs.declared.How.{How}
 use Rattle.lookup.specs.declared.Copied.the-variants.{Done, Refused as Uncopied}
 use Rattle.lookup.specs.declared.Info.{Info}
 use Rattle.lookup.specs.declared.Spot.{Spot}
 use Rattle.lookup.specs.declared.Spot.the-variants.{Found, Missing, Faulty}
 use Rattle.lookup.specs.declared.ValueFound.{ValueFound}
 use Rattle.lookup.specs.declared.ValueFound.the-variants.{At, Refused}
-use Rattle.lookup.specs.Answers.{valueLook, placeIn, infoOf, viewFault, infoWhere, valueFound, infoAnswer, viewAnswer, viewStart, viewBytes, copiedTo, keyAsked, copyAnswer, written, copyOut}
+use Rattle.lookup.specs.Answers.{valueLookBy, placeIn, infoOf, viewFault, infoWhere, valueFound, infoBy, viewBy, viewStartBy, viewBytesBy, copiedTo, keyAsked, copyBy, written, copyOutBy}
 use Rattle.lookup.proofs.Value_searches.{value-key, value-facts}
 
 pub where-at : (k : Offset) (v : Verdict) (i : Info) {j : Info} → infoWhere k v i ≡ At j → (v ≡ Sound) × (i ≡ j)
@@ -48,10 +49,10 @@ found-at (Missing k) go e = absurd (let z : _≡_ {A = ℕ} 0 1 = cc in omega ar
 found-at (Faulty f) go e = absurd (let z : _≡_ {A = ℕ} 0 1 = cc in omega arith)
 
 -- the value behind an answer
-pub record Answered (h us x : List ℕ) (i : Info) : Type 0 where
+pub record Answered (how : How) (h us x : List ℕ) (i : Info) : Type 0 where
   pub key : Offset
   pub value : Offset
-  pub found : valueLook h us x ≡ Found key value
+  pub found : valueLookBy how h us x ≡ Found key value
   pub info : i ≡ infoOf (valueOf (binsData h) (minorOf (sector h)) value)
   pub content : i .content ≡ dataIn (binsData h) (minorOf (sector h)) value
   pub base : baseFault h ≡ Sound
@@ -63,12 +64,12 @@ pub content-as : (d : List ℕ) (minor : ℕ) (i : Info) (v : Offset) → infoOf
 unfolding infoOf valueOf fieldsOf dataIn
 content-as d minor i v q = sym (ap (λ (j : Info). j .content) q)
 
-answered-as : (h us x : List ℕ) (i : Info) (k v : Offset) → valueLook h us x ≡ Found k v
+answered-as : (how : How) (h us x : List ℕ) (i : Info) (k v : Offset) → valueLookBy how h us x ≡ Found k v
     → dataFault Header (binsData h) [] (dataIn (binsData h) (minorOf (sector h)) v) ≡ Sound
-    → infoOf (valueOf (binsData h) (minorOf (sector h)) v) ≡ i → Answered h us x i
+    → infoOf (valueOf (binsData h) (minorOf (sector h)) v) ≡ i → Answered how h us x i
 unfolding infoOf valueOf fieldsOf dataIn
-answered-as h us x i k v e s q =
-    let f = value-facts h us x e in
+answered-as how h us x i k v e s q =
+    let f = value-facts how h us x e in
     record {
       key = k;
       value = v;
@@ -87,30 +88,30 @@ one-case v (Inline o len) e = refl
 one-case v (OneCell o len) e = refl
 one-case v (Segments o len) e = absurd (let z : _≡_ {A = ℕ} 0 1 = cc in omega arith)
 
-module _ (h us x : List ℕ) {i : Info} where
-  pub info-answered : infoAnswer h us x ≡ At i → Answered h us x i
-  unfolding infoAnswer
+module _ (how : How) (h us x : List ℕ) {i : Info} where
+  pub info-answered : infoBy how h us x ≡ At i → Answered how h us x i
+  unfolding infoBy
   info-answered e =
-      let f = found-at (valueLook h us x) _ e in
+      let f = found-at (valueLookBy how h us x) _ e in
       let w = where-at (f .0) (dataFault Header (binsData h) [] (dataIn (binsData h) (minorOf (sector h)) (f .1))) _ (f .3) in
-      answered-as h us x i (f .0) (f .1) (f .2) (w .0) (w .1)
+      answered-as how h us x i (f .0) (f .1) (f .2) (w .0) (w .1)
 
-  pub view-answered : viewAnswer h us x ≡ At i → Answered h us x i × (isOne (i .content) ≡ true)
-  unfolding viewAnswer
+  pub view-answered : viewBy how h us x ≡ At i → Answered how h us x i × (isOne (i .content) ≡ true)
+  unfolding viewBy
   view-answered e =
-      let f = found-at (valueLook h us x) _ e in
+      let f = found-at (valueLookBy how h us x) _ e in
       let y = dataIn (binsData h) (minorOf (sector h)) (f .1) in
       let w = where-at (f .0) (viewFault (f .1) y next dataFault Header (binsData h) [] y) _ (f .3) in
       let b = both (viewFault (f .1) y) _ (w .0) in (
-        answered-as h us x i (f .0) (f .1) (f .2) (b .1) (w .1),
+        answered-as how h us x i (f .0) (f .1) (f .2) (b .1) (w .1),
         ap isOne (content-as (binsData h) (minorOf (sector h)) i (f .1) (w .1)) ∙ one-case (f .1) y (b .0),
       )
 
 -- where the view's sister answers, value_info gives the same facts
-pub view-info-same : (h us x : List ℕ) {i : Info} → viewAnswer h us x ≡ At i → infoAnswer h us x ≡ At i
-unfolding viewAnswer infoAnswer
-view-info-same h us x e =
-    let f = found-at (valueLook h us x) _ e in
+pub view-info-same : (how : How) (h us x : List ℕ) {i : Info} → viewBy how h us x ≡ At i → infoBy how h us x ≡ At i
+unfolding viewBy infoBy
+view-info-same how h us x e =
+    let f = found-at (valueLookBy how h us x) _ e in
     let y = dataIn (binsData h) (minorOf (sector h)) (f .1) in
     let w = where-at (f .0) (viewFault (f .1) y next dataFault Header (binsData h) [] y) _ (f .3) in
     rw (f .2, both (viewFault (f .1) y) _ (w .0) .1) (ap At (w .1))
@@ -120,9 +121,9 @@ pub record Shown (h : List ℕ) (i : Info) : Type 0 where
   pub ends : i .at .0 + i .len ≤ length h
   pub bytes : take (i .len) (drop (i .at .0) h) ≡ bytesOf (binsData h) (i .content)
 
-pub view-shown : (h us x : List ℕ) (i : Info) → Answered h us x i → isOne (i .content) ≡ true → Shown h i
+pub view-shown : (how : How) (h us x : List ℕ) (i : Info) → Answered how h us x i → isOne (i .content) ≡ true → Shown h i
 unfolding placeIn
-view-shown h us x i a t =
+view-shown how h us x i a t =
     let p = partOf (i .content) in
     let w = part-lies (binsData h) (i .content) t (a .lies) in
     let len : i .len ≡ p .len = a .long ∙ sym (part-whole (i .content)) in
@@ -157,53 +158,53 @@ refused-stays k d out (At i) e = cut (leb (i .len) (length out)) refl
     cut false p = rw p
 
 -- the ways out of a view and a copy
-module _ (h us x : List ℕ) where
-  pub view-none : {f : Refusal} → viewAnswer h us x ≡ Refused f → viewBytes h us x ≡ []
-  unfolding viewBytes
+module _ (how : How) (h us x : List ℕ) where
+  pub view-none : {f : Refusal} → viewBy how h us x ≡ Refused f → viewBytesBy how h us x ≡ []
+  unfolding viewBytesBy
   view-none e = rw e
 
-  pub start-none : {f : Refusal} → viewAnswer h us x ≡ Refused f → viewStart h us x ≡ 0
-  unfolding viewStart
+  pub start-none : {f : Refusal} → viewBy how h us x ≡ Refused f → viewStartBy how h us x ≡ 0
+  unfolding viewStartBy
   start-none e = rw e
 
-  pub start-part : {i : Info} → viewAnswer h us x ≡ At i → viewStart h us x ≡ i .at .0
-  unfolding viewStart
+  pub start-part : {i : Info} → viewBy how h us x ≡ At i → viewStartBy how h us x ≡ i .at .0
+  unfolding viewStartBy
   start-part e = rw e
 
-  pub view-part : {i : Info} → viewAnswer h us x ≡ At i → viewBytes h us x ≡ take (i .len) (drop (i .at .0) h)
-  unfolding viewBytes
+  pub view-part : {i : Info} → viewBy how h us x ≡ At i → viewBytesBy how h us x ≡ take (i .len) (drop (i .at .0) h)
+  unfolding viewBytesBy
   view-part e = rw e
 
   module _ (out : List ℕ) where
-    module _ {f : Refusal} (e : infoAnswer h us x ≡ Refused f) where
-      pub copy-refused : copyAnswer h us x (length out) ≡ Uncopied f
-      unfolding copyAnswer
+    module _ {f : Refusal} (e : infoBy how h us x ≡ Refused f) where
+      pub copy-refused : copyBy how h us x (length out) ≡ Uncopied f
+      unfolding copyBy
       copy-refused = rw e
 
-      pub copy-untouched : copyOut h us x out ≡ out
-      unfolding copyOut
+      pub copy-untouched : copyOutBy how h us x out ≡ out
+      unfolding copyOutBy
       copy-untouched = rw e
 
-    module _ {i : Info} (e : infoAnswer h us x ≡ At i) where
-      pub copy-told : {k : Offset} → findAnswer h us ≡ found.At k → copyAnswer h us x (length out) ≡ copiedTo k (length out) (At i)
-      unfolding copyAnswer
+    module _ {i : Info} (e : infoBy how h us x ≡ At i) where
+      pub copy-told : {k : Offset} → findBy how h us ≡ found.At k → copyBy how h us x (length out) ≡ copiedTo k (length out) (At i)
+      unfolding copyBy
       copy-told q = rw (q, e)
 
-      pub out-told : copyOut h us x out ≡ written (binsData h) out (At i)
-      unfolding copyOut
+      pub out-told : copyOutBy how h us x out ≡ written (binsData h) out (At i)
+      unfolding copyOutBy
       out-told = rw e
 
-      pub copy-short : {k : Offset} → findAnswer h us ≡ found.At k → length out < i .len
-          → copyAnswer h us x (length out) ≡ Uncopied (refusalOf k (flaw OutputShort nowhere))
+      pub copy-short : {k : Offset} → findBy how h us ≡ found.At k → length out < i .len
+          → copyBy how h us x (length out) ≡ Uncopied (refusalOf k (flaw OutputShort nowhere))
       copy-short {k} q p = copy-told q ∙ told-short k out i p
 
-      pub copy-done : i .len ≤ length out → copyAnswer h us x (length out) ≡ Done (i .len)
-      unfolding copyAnswer
-      copy-done p = rw e (told-done (keyAsked (findAnswer h us)) out i p)
+      pub copy-done : i .len ≤ length out → copyBy how h us x (length out) ≡ Done (i .len)
+      unfolding copyBy
+      copy-done p = rw e (told-done (keyAsked (findBy how h us)) out i p)
 
-      pub copy-written : i .len ≤ length out → copyOut h us x out ≡ bytesOf (binsData h) (i .content) ++ drop (i .len) out
-      copy-written p = out-told ∙ told-written (keyAsked (findAnswer h us)) out i p (binsData h)
+      pub copy-written : i .len ≤ length out → copyOutBy how h us x out ≡ bytesOf (binsData h) (i .content) ++ drop (i .len) out
+      copy-written p = out-told ∙ told-written (keyAsked (findBy how h us)) out i p (binsData h)
 
   -- the key of the value that is found
-  pub found-key : {k v : Offset} → valueLook h us x ≡ Found k v → findAnswer h us ≡ found.At k
-  found-key e = find-at h us (value-key h us x e .0)
+  pub found-key : {k v : Offset} → valueLookBy how h us x ≡ Found k v → findBy how h us ≡ found.At k
+  found-key e = find-at how h us (value-key how h us x e .0)

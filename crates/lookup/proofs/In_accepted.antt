@@ -19,16 +19,17 @@ use Rattle.values.specs.Segments.{dataFault, bytesOf, lengthOf}
 use Rattle.values.specs.Lists.{valuesOf}
 use Rattle.tree.specs.Tree.{levels, hiveOf}
 use Rattle.tree.specs.WellFormed.{CleanAndWellFormed, ValuesStand}
+use Rattle.search.specs.declared.How.the-variants.{InTurn}
 use Rattle.paths.specs.declared.KeyFound.the-variants.{At}
 use Rattle.paths.specs.declared.Way.the-variants as way
 use Rattle.paths.specs.Paths.{partsOf}
-use Rattle.paths.specs.Answers.{keyLook, findAnswer}
+use Rattle.paths.specs.Answers.{keyLook, findBy, findAnswer}
 use Rattle.paths.proofs.Exact.{find-exactly, found-look-is}
 use Rattle.paths.proofs.In_accepted.{holds-stands}
 use Rattle.lookup.specs.declared.Copied.the-variants.{Done, Refused as Uncopied}
 use Rattle.lookup.specs.declared.Spot.the-variants.{Found}
 use Rattle.lookup.specs.declared.ValueFound.the-variants.{At as ValueAt, Refused as Unvalued}
-use Rattle.lookup.specs.Answers.{inKey, valueLook, infoOf, viewFault, infoAnswer, viewAnswer, viewBytes, copyAnswer, copyOut}
+use Rattle.lookup.specs.Answers.{inKey, valueLook, infoOf, viewFault, infoBy, infoAnswer, viewBy, viewAnswer, viewBytesBy, viewBytes, copyAnswer, copyOut}
 use Rattle.lookup.specs.Reach.{FirstNamed, first, later}
 use Rattle.lookup.proofs.ValueFinds.{value-exactly, value-none, data-good}
 use Rattle.lookup.proofs.Value_searches.{value-below}
@@ -52,7 +53,7 @@ module _ (h : List ℕ) (w : CleanAndWellFormed h) (us : List ℕ) where
   -- ---- values of the key that is found
   module _ (o : Offset) (found : findAnswer h us ≡ At o) where
     at : keyLook h us ≡ way.Found o
-    unfolding findAnswer
+    unfolding findBy
     at = found-look-is (keyLook h us) found
 
     stands : ValuesStand (binsData h) (minorOf (sector h)) (keyOf (binsData h) o)
@@ -62,7 +63,7 @@ module _ (h : List ℕ) (w : CleanAndWellFormed h) (us : List ℕ) where
     module _ (x : List ℕ) where
       look-first : {v : Offset} → FirstNamed (binsData h) (minorOf (sector h)) x (valuesOf (binsData h) (keyOf (binsData h) o)) v → valueLook h us x ≡ Found o v
       look-first {v} f =
-          value-below h us x at
+          value-below InTurn h us x at
           ∙ ap (inKey o) (value-exactly (binsData h) (w .formed .tiled) (minorOf (sector h)) (keyOf (binsData h) o) stands x v .1 f)
 
       whole : {v : Offset} → FirstNamed (binsData h) (minorOf (sector h)) x (valuesOf (binsData h) (keyOf (binsData h) o)) v
@@ -72,26 +73,26 @@ module _ (h : List ℕ) (w : CleanAndWellFormed h) (us : List ℕ) where
       -- the first value of that name answers
       pub info-first : {v : Offset} → FirstNamed (binsData h) (minorOf (sector h)) x (valuesOf (binsData h) (keyOf (binsData h) o)) v
           → infoAnswer h us x ≡ ValueAt (infoOf (valueOf (binsData h) (minorOf (sector h)) v))
-      unfolding infoAnswer
+      unfolding infoBy
       info-first f = rw (look-first f, whole f)
 
       -- and 18 where there is none
       pub info-none : ((v : Offset) → FirstNamed (binsData h) (minorOf (sector h)) x (valuesOf (binsData h) (keyOf (binsData h) o)) v → ⊥)
           → infoAnswer h us x ≡ Unvalued (refusalOf o (flaw NoValue nowhere))
       info-none f =
-          info-missing h us x
-          (value-below h us x at ∙ ap (inKey o) (value-none (binsData h) (w .formed .tiled) (minorOf (sector h)) (keyOf (binsData h) o) stands x f))
+          info-missing InTurn h us x
+          (value-below InTurn h us x at ∙ ap (inKey o) (value-none (binsData h) (w .formed .tiled) (minorOf (sector h)) (keyOf (binsData h) o) stands x f))
 
       -- ---- the bytes of the first value of that name
       module _ (v : Offset) (named : FirstNamed (binsData h) (minorOf (sector h)) x (valuesOf (binsData h) (keyOf (binsData h) o)) v) where
         view-sound : viewFault v (dataIn (binsData h) (minorOf (sector h)) v) ≡ Sound
             → viewAnswer h us x ≡ ValueAt (infoOf (valueOf (binsData h) (minorOf (sector h)) v))
-        unfolding viewAnswer
+        unfolding viewBy
         view-sound q = rw (look-first named, on (viewFault v (dataIn (binsData h) (minorOf (sector h)) v)) (dataFault Header (binsData h) [] (dataIn (binsData h) (minorOf (sector h)) v)) q, whole named)
 
         shows : viewFault v (dataIn (binsData h) (minorOf (sector h)) v) ≡ Sound → viewBytes h us x ≡ bytesOf (binsData h) (dataIn (binsData h) (minorOf (sector h)) v)
         shows q =
-            view-is h us x (view-sound q)
+            view-is InTurn h us x (view-sound q)
             ∙ ap (bytesOf (binsData h)) (content-as (binsData h) (minorOf (sector h)) (infoOf (valueOf (binsData h) (minorOf (sector h)) v)) v refl)
 
         -- data that are not segmented are answered, with the record's facts and bytes
@@ -103,7 +104,7 @@ module _ (h : List ℕ) (w : CleanAndWellFormed h) (us : List ℕ) where
         -- in segments: 19 at the value
         pub segments-unviewed : (a : Offset) (n : ℕ) → dataIn (binsData h) (minorOf (sector h)) v ≡ Segments a n
             → (viewAnswer h us x ≡ Unvalued (refusalOf o (flaw Segmented v))) × (viewBytes h us x ≡ [])
-        unfolding viewAnswer viewBytes viewFault _next_
+        unfolding viewBy viewBytesBy viewFault _next_
         segments-unviewed a n e = (rw (look-first named, e), rw (look-first named, e))
 
         -- the copy, of each case: where there is room it is done, with the data's length; where there is not it is 20
@@ -113,17 +114,17 @@ module _ (h : List ℕ) (w : CleanAndWellFormed h) (us : List ℕ) where
         pub copy-says : (out : List ℕ) → lengthOf (dataIn (binsData h) (minorOf (sector h)) v) ≤ length out
             → copyAnswer h us x (length out) ≡ Done (lengthOf (dataIn (binsData h) (minorOf (sector h)) v))
         unfolding infoOf
-        copy-says out p = copy-done h us x out (info-first named) (rw (← content) at p) ∙ ap (λ (y : ValueData). Done (lengthOf y)) content
+        copy-says out p = copy-done InTurn h us x out (info-first named) (rw (← content) at p) ∙ ap (λ (y : ValueData). Done (lengthOf y)) content
 
         pub copy-20 : (out : List ℕ) → length out < lengthOf (dataIn (binsData h) (minorOf (sector h)) v)
             → copyAnswer h us x (length out) ≡ Uncopied (refusalOf o (flaw OutputShort nowhere))
         unfolding infoOf
-        copy-20 out p = copy-short h us x out (info-first named) found (rw (← content) at p)
+        copy-20 out p = copy-short InTurn h us x out (info-first named) found (rw (← content) at p)
 
         pub copied : (out : List ℕ) → lengthOf (dataIn (binsData h) (minorOf (sector h)) v) ≤ length out
             → copyOut h us x out
             ≡ bytesOf (binsData h) (dataIn (binsData h) (minorOf (sector h)) v) ++ drop (lengthOf (dataIn (binsData h) (minorOf (sector h)) v)) out
         unfolding infoOf
         copied out p =
-            copy-written h us x out (info-first named) (rw (← content) at p)
+            copy-written InTurn h us x out (info-first named) (rw (← content) at p)
             ∙ ap (λ (y : ValueData). bytesOf (binsData h) y ++ drop (lengthOf y) out) content

@@ -5,3 +5,4 @@ pub mod Agree
 pub mod ValueFinds
 pub mod In_accepted
 pub mod Refusals
+pub mod Quick

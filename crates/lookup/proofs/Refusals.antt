@@ -28,11 +28,12 @@ use Rattle.values.specs.Refused.{one-of}
 use Rattle.values.proofs.Refusals.{value-fit, value-unfit, value-list-unfit, value-named, data-unfit}
 use Rattle.paths.specs.declared.KeyFound.{KeyFound}
 use Rattle.paths.specs.declared.KeyFound.the-variants.{At, Refused}
+use Rattle.search.specs.declared.How.{How}
 use Rattle.search.specs.declared.Look.{Look}
 use Rattle.search.specs.declared.Look.the-variants.{Found, Missing, Faulty}
 use Rattle.paths.specs.declared.Way.{Way}
 use Rattle.paths.specs.declared.Way.the-variants as way
-use Rattle.paths.specs.Answers.{keyLook, keyFound, findAnswer}
+use Rattle.paths.specs.Answers.{keyLookBy, keyFound, findBy}
 use Rattle.search.proofs.Found.{sound-found}
 use Rattle.paths.proofs.Opens.{find-at}
 use Rattle.search.proofs.Refusals.{Each, each-found, each-missing, each-cond, each-sound, each-first}
@@ -43,8 +44,8 @@ use Rattle.lookup.specs.declared.Spot.the-variants as spot
 use Rattle.lookup.specs.declared.ValueFound.{ValueFound}
 use Rattle.lookup.specs.declared.ValueFound.the-variants.{At as ValueAt, Refused as Unvalued}
 use Rattle.lookup.specs.Search.{valueNamed, lookupValue}
-use Rattle.lookup.specs.Answers.{inKey, onKey, valueLook, viewFault, infoWhere, valueFound, infoAnswer, viewAnswer, copiedTo, keyAsked, copyAnswer}
-use Rattle.lookup.specs.Refused.{Finds, OfValue, of-key, of-values, of-data, no-value, OfView, as-value, segmented, OfCopy, as-info, too-short}
+use Rattle.lookup.specs.Answers.{inKey, onKey, valueLookBy, viewFault, infoWhere, valueFound, infoBy, viewBy, copiedTo, keyAsked, copyBy}
+use Rattle.lookup.specs.Refused.{FindsBy, OfValueBy, of-key, of-values, of-data, no-value, OfViewBy, as-value, segmented, OfCopyBy, as-info, too-short}
 use Rattle.lookup.proofs.ValueFinds.{found-first}
 use Rattle.lookup.proofs.Answered.{info-answered, found-key}
 use Rattle.lookup.proofs.Value_searches.{value-below, value-key, value-facts}
@@ -62,50 +63,50 @@ copied-refuses P k n (ValueAt i) p s {r} q = cut (leb (i .len) n) refl
         (k, flaw OutputShort nowhere, let z : refusalOf k (flaw OutputShort nowhere) ≡ r = cc in sym z, s i refl (leb-false _ _ e))
 
 -- ---- the searches
-module _ (h us x : List ℕ) where
+module _ (how : How) (h us x : List ℕ) where
   ruled : Ruled Header (binsData h) []
   ruled = by-header (binsData h) []
 
-  value-each : (k : Offset) → findAnswer h us ≡ At k → Each (OfValue h us x k) (lookupValue (binsData h) (minorOf (sector h)) x (keyOf (binsData h) k))
+  value-each : (k : Offset) → findBy how h us ≡ At k → Each (OfValueBy how h us x k) (lookupValue (binsData h) (minorOf (sector h)) x (keyOf (binsData h) k))
   unfolding lookupValue valueNamed
   value-each k w =
       let d = binsData h in
-      let P = OfValue h us x k in
+      let P = OfValueBy how h us x k in
       each-sound P (valueListFault Header d [] (keyOf d k)) _ (λ f e. of-values w (value-list-unfit Header d [] ruled k f e))
       (λ s. each-first P (valueNamed d (minorOf (sector h)) x) (valuesOf d (keyOf d k))
       (λ v i. each-sound P (valueFault Header d [] v) _ (λ f e. of-values w (one-of (value-named Header d [] ruled k v s i) (value-unfit Header d [] ruled v f e)))
       (λ t. each-cond P (sameName (codesOf d (valueOf d (minorOf (sector h)) v .name)) x) (Found v) Missing (λ y. each-found P v) (λ y. each-missing P))))
 
   -- the value that is found
-  finds : {k v : Offset} → valueLook h us x ≡ spot.Found k v → Finds h us x k v
+  finds : {k v : Offset} → valueLookBy how h us x ≡ spot.Found k v → FindsBy how h us x k v
   unfolding lookupValue
   finds {k} {v} e =
-      let w = value-key h us x e in
+      let w = value-key how h us x e in
       record {
-        found = find-at h us (w .0);
+        found = find-at how h us (w .0);
         first-of = found-first (binsData h) (minorOf (sector h)) x (valuesOf (binsData h) (keyOf (binsData h) k)) (sound-found (valueListFault Header (binsData h) [] (keyOf (binsData h) k)) _ (w .1) .1);
-        fit = value-fit Header (binsData h) [] ruled v (value-facts h us x e .1);
+        fit = value-fit Header (binsData h) [] ruled v (value-facts how h us x e .1);
       }
 
   -- the answers, by the value that is found
-  found-refuses : (P : Offset → Flaw → Type 0) → ((k : Offset) (f : Flaw) → OfValue h us x k f → P k f) → (go : Offset → Offset → ValueFound)
-      → ((k v : Offset) → Finds h us x k v → (r : Refusal) → go k v ≡ Unvalued r → Because P r)
-      → (r : Refusal) → valueFound (valueLook h us x) go ≡ Unvalued r → Because P r
-  unfolding valueLook
-  found-refuses P up go each r e = by (keyLook h us) refl e
+  found-refuses : (P : Offset → Flaw → Type 0) → ((k : Offset) (f : Flaw) → OfValueBy how h us x k f → P k f) → (go : Offset → Offset → ValueFound)
+      → ((k v : Offset) → FindsBy how h us x k v → (r : Refusal) → go k v ≡ Unvalued r → Because P r)
+      → (r : Refusal) → valueFound (valueLookBy how h us x) go ≡ Unvalued r → Because P r
+  unfolding valueLookBy
+  found-refuses P up go each r e = by (keyLookBy how h us) refl e
     where
       -- a refusal on the way to the key
-      early : keyFound (keyLook h us) ≡ Refused r → Because P r
-      early q = let w = look-each h us r q in (w .0, w .1, w .2, up (w .0) (w .1) (of-key (w .3)))
+      early : keyFound (keyLookBy how h us) ≡ Refused r → Because P r
+      early q = let w = look-each how h us r q in (w .0, w .1, w .2, up (w .0) (w .1) (of-key (w .3)))
 
-      in-key : (o : Offset) → keyLook h us ≡ way.Found o → (l : Look) → lookupValue (binsData h) (minorOf (sector h)) x (keyOf (binsData h) o) ≡ l
+      in-key : (o : Offset) → keyLookBy how h us ≡ way.Found o → (l : Look) → lookupValue (binsData h) (minorOf (sector h)) x (keyOf (binsData h) o) ≡ l
           → valueFound (inKey o l) go ≡ Unvalued r → Because P r
-      in-key o p (Found v) s q = each o v (finds (value-below h us x p ∙ ap (inKey o) s)) r q
+      in-key o p (Found v) s q = each o v (finds (value-below how h us x p ∙ ap (inKey o) s)) r q
       in-key o p Missing s q =
-          (o, flaw NoValue nowhere, let z : refusalOf o (flaw NoValue nowhere) ≡ r = cc in sym z, up o (flaw NoValue nowhere) (no-value (find-at h us p) s))
-      in-key o p (Faulty g) s q = (o, g, let z : refusalOf o g ≡ r = cc in sym z, up o g (value-each o (find-at h us p) g s))
+          (o, flaw NoValue nowhere, let z : refusalOf o (flaw NoValue nowhere) ≡ r = cc in sym z, up o (flaw NoValue nowhere) (no-value (find-at how h us p) s))
+      in-key o p (Faulty g) s q = (o, g, let z : refusalOf o g ≡ r = cc in sym z, up o g (value-each o (find-at how h us p) g s))
 
-      by : (w : Way) → keyLook h us ≡ w → valueFound (onKey w (λ o. lookupValue (binsData h) (minorOf (sector h)) x (keyOf (binsData h) o))) go ≡ Unvalued r
+      by : (w : Way) → keyLookBy how h us ≡ w → valueFound (onKey w (λ o. lookupValue (binsData h) (minorOf (sector h)) x (keyOf (binsData h) o))) go ≡ Unvalued r
           → Because P r
       by (way.Found o) p q = in-key o p _ refl q
       by (way.Missing k) p q = let z : refusalOf k (flaw NoKey nowhere) ≡ r = cc in early (ap keyFound p ∙ ap Refused z)
@@ -115,37 +116,37 @@ module _ (h us x : List ℕ) where
   where-refuses P k Sound i p r q = absurd (let z : _≡_ {A = ℕ} 0 1 = cc in omega arith)
   where-refuses P k (Flawed g) i p r q = (k, g, let z : refusalOf k g ≡ r = cc in sym z, p g refl)
 
-  data-each : (k v : Offset) → Finds h us x k v → Every (OfValue h us x k) (dataFault Header (binsData h) [] (dataIn (binsData h) (minorOf (sector h)) v))
+  data-each : (k v : Offset) → FindsBy how h us x k v → Every (OfValueBy how h us x k) (dataFault Header (binsData h) [] (dataIn (binsData h) (minorOf (sector h)) v))
   data-each k v w f e = of-data w (data-unfit Header (binsData h) [] ruled (dataIn (binsData h) (minorOf (sector h)) v) f e)
 
   -- value_info
-  pub info-refuses : {r : Refusal} → infoAnswer h us x ≡ Unvalued r → Because (OfValue h us x) r
-  unfolding infoAnswer
+  pub info-refuses : {r : Refusal} → infoBy how h us x ≡ Unvalued r → Because (OfValueBy how h us x) r
+  unfolding infoBy
   info-refuses {r} =
-      found-refuses (OfValue h us x) (λ k f p. p) _
-      (λ k v w. where-refuses (OfValue h us x) k (dataFault Header (binsData h) [] (dataIn (binsData h) (minorOf (sector h)) v)) _ (data-each k v w)) r
+      found-refuses (OfValueBy how h us x) (λ k f p. p) _
+      (λ k v w. where-refuses (OfValueBy how h us x) k (dataFault Header (binsData h) [] (dataIn (binsData h) (minorOf (sector h)) v)) _ (data-each k v w)) r
 
-  view-each : (k v : Offset) → Finds h us x k v → (y : ValueData) → dataIn (binsData h) (minorOf (sector h)) v ≡ y → Every (OfView h us x k) (viewFault v y)
+  view-each : (k v : Offset) → FindsBy how h us x k v → (y : ValueData) → dataIn (binsData h) (minorOf (sector h)) v ≡ y → Every (OfViewBy how h us x k) (viewFault v y)
   unfolding viewFault
-  view-each k v w (Inline at len) e = every-sound (OfView h us x k)
-  view-each k v w (OneCell o len) e = every-sound (OfView h us x k)
-  view-each k v w (Segments o len) e = every-flaw (OfView h us x k) (segmented w e)
+  view-each k v w (Inline at len) e = every-sound (OfViewBy how h us x k)
+  view-each k v w (OneCell o len) e = every-sound (OfViewBy how h us x k)
+  view-each k v w (Segments o len) e = every-flaw (OfViewBy how h us x k) (segmented w e)
 
   -- view_info
-  pub view-refuses : {r : Refusal} → viewAnswer h us x ≡ Unvalued r → Because (OfView h us x) r
-  unfolding viewAnswer
+  pub view-refuses : {r : Refusal} → viewBy how h us x ≡ Unvalued r → Because (OfViewBy how h us x) r
+  unfolding viewBy
   view-refuses {r} =
-      found-refuses (OfView h us x) (λ k f p. as-value p) _
+      found-refuses (OfViewBy how h us x) (λ k f p. as-value p) _
       (λ k v w. let y = dataIn (binsData h) (minorOf (sector h)) v in
-      where-refuses (OfView h us x) k (viewFault v y next dataFault Header (binsData h) [] y) _
-      (every-next (OfView h us x k) (viewFault v y) _ (view-each k v w y refl) (λ s f e. as-value (data-each k v w f e)))) r
+      where-refuses (OfViewBy how h us x) k (viewFault v y next dataFault Header (binsData h) [] y) _
+      (every-next (OfViewBy how h us x k) (viewFault v y) _ (view-each k v w y refl) (λ s f e. as-value (data-each k v w f e)))) r
 
   -- value_copy
-  copy-key : {i : Info} → infoAnswer h us x ≡ ValueAt i → findAnswer h us ≡ At (keyAsked (findAnswer h us))
-  copy-key p = let f = found-key h us x (info-answered h us x p .found) in f ∙ sym (ap (λ (k : KeyFound). At (keyAsked k)) f)
+  copy-key : {i : Info} → infoBy how h us x ≡ ValueAt i → findBy how h us ≡ At (keyAsked (findBy how h us))
+  copy-key p = let f = found-key how h us x (info-answered how h us x p .found) in f ∙ sym (ap (λ (k : KeyFound). At (keyAsked k)) f)
 
-  pub copy-refuses : (n : ℕ) {r : Refusal} → copyAnswer h us x n ≡ Uncopied r → Because (OfCopy h us x n) r
-  unfolding copyAnswer
+  pub copy-refuses : (n : ℕ) {r : Refusal} → copyBy how h us x n ≡ Uncopied r → Because (OfCopyBy how h us x n) r
+  unfolding copyBy
   copy-refuses n =
-      copied-refuses (OfCopy h us x n) (keyAsked (findAnswer h us)) n (infoAnswer h us x) (λ g p. let w = info-refuses p in (w .0, w .1, w .2, as-info (w .3)))
+      copied-refuses (OfCopyBy how h us x n) (keyAsked (findBy how h us)) n (infoBy how h us x) (λ g p. let w = info-refuses p in (w .0, w .1, w .2, as-info (w .3)))
       (λ i p s. too-short (copy-key p) p s)

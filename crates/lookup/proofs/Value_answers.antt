@@ -18,10 +18,11 @@ use Rattle.values.specs.Records.{valueFault, dataIn, fieldsOf, valueOf, valued}
 use Rattle.values.specs.Segments.{dataFault}
 use Rattle.values.specs.Lists.{wholeValueFault}
 use Rattle.values.proofs.Valued_at.{is-whole, is-flawed, whole-stop, whole-on}
+use Rattle.search.specs.declared.How.{How}
 use Rattle.lookup.specs.declared.Info.{Info}
 use Rattle.lookup.specs.declared.Spot.the-variants.{Found, Missing, Faulty}
 use Rattle.lookup.specs.declared.ValueFound.the-variants.{At, Refused}
-use Rattle.lookup.specs.Answers.{valueLook, infoOf, viewFault, viewedFault, infoWhere, infoAnswer, viewAnswer}
+use Rattle.lookup.specs.Answers.{valueLookBy, infoOf, viewFault, viewedFault, infoWhere, infoBy, viewBy}
 use Rattle.lookup.proofs.Value_searches.{value-facts}
 
 -- a verdict and the answer where it is sound
@@ -69,36 +70,36 @@ module _ (d : List ℕ) (minor : ℕ) (k v : Offset) where
         (on _ _ (whole .0) ∙ on _ _ (ap (viewFault v) data-is ∙ q) ∙ ap (dataFault Header d []) data-is) (whole .1)
 
 -- in a hive: the value that is found has passed its own tests
-module _ (h us x : List ℕ) where
-  module _ {k v : Offset} (e : valueLook h us x ≡ Found k v) where
-    pub info-found : infoAnswer h us x ≡ infoWhere k (wholeValueFault Header (binsData h) [] (minorOf (sector h)) v) (infoOf (valueOf (binsData h) (minorOf (sector h)) v))
-    unfolding infoAnswer wholeValueFault
-    info-found = rw (e, on (valueFault Header (binsData h) [] v) (dataFault Header (binsData h) [] (dataIn (binsData h) (minorOf (sector h)) v)) (value-facts h us x e .1))
+module _ (how : How) (h us x : List ℕ) where
+  module _ {k v : Offset} (e : valueLookBy how h us x ≡ Found k v) where
+    pub info-found : infoBy how h us x ≡ infoWhere k (wholeValueFault Header (binsData h) [] (minorOf (sector h)) v) (infoOf (valueOf (binsData h) (minorOf (sector h)) v))
+    unfolding infoBy wholeValueFault
+    info-found = rw (e, on (valueFault Header (binsData h) [] v) (dataFault Header (binsData h) [] (dataIn (binsData h) (minorOf (sector h)) v)) (value-facts how h us x e .1))
 
-    pub view-found : viewAnswer h us x ≡ infoWhere k (viewedFault (binsData h) (minorOf (sector h)) v) (infoOf (valueOf (binsData h) (minorOf (sector h)) v))
-    unfolding viewAnswer viewedFault
+    pub view-found : viewBy how h us x ≡ infoWhere k (viewedFault (binsData h) (minorOf (sector h)) v) (infoOf (valueOf (binsData h) (minorOf (sector h)) v))
+    unfolding viewBy viewedFault
     view-found =
         rw (
           e,
           on (valueFault Header (binsData h) [] v)
               (viewFault v (dataIn (binsData h) (minorOf (sector h)) v) next dataFault Header (binsData h) [] (dataIn (binsData h) (minorOf (sector h)) v))
-              (value-facts h us x e .1),
+              (value-facts how h us x e .1),
         )
 
-  module _ {k : Offset} (e : valueLook h us x ≡ Missing k) where
-    pub info-missing : infoAnswer h us x ≡ Refused (refusalOf k (flaw NoValue nowhere))
-    unfolding infoAnswer
+  module _ {k : Offset} (e : valueLookBy how h us x ≡ Missing k) where
+    pub info-missing : infoBy how h us x ≡ Refused (refusalOf k (flaw NoValue nowhere))
+    unfolding infoBy
     info-missing = rw e
 
-    pub view-missing : viewAnswer h us x ≡ Refused (refusalOf k (flaw NoValue nowhere))
-    unfolding viewAnswer
+    pub view-missing : viewBy how h us x ≡ Refused (refusalOf k (flaw NoValue nowhere))
+    unfolding viewBy
     view-missing = rw e
 
-  module _ {r : Refusal} (e : valueLook h us x ≡ Faulty r) where
-    pub info-faulty : infoAnswer h us x ≡ Refused r
-    unfolding infoAnswer
+  module _ {r : Refusal} (e : valueLookBy how h us x ≡ Faulty r) where
+    pub info-faulty : infoBy how h us x ≡ Refused r
+    unfolding infoBy
     info-faulty = rw e
 
-    pub view-faulty : viewAnswer h us x ≡ Refused r
-    unfolding viewAnswer
+    pub view-faulty : viewBy how h us x ≡ Refused r
+    unfolding viewBy
     view-faulty = rw e

@@ -27,16 +27,17 @@ use Rattle.values.proofs.LawsLists.{list-room, list-values}
 use Rattle.values.proofs.LawsValues.{name-inside}
 use Rattle.values.proofs.Segment_faults.{entered-whole, entered-flawed}
 use Rattle.values.proofs.Valued_at.{is-whole, is-flawed}
+use Rattle.search.specs.declared.How.{How}
 use Rattle.search.specs.declared.Look.{Look}
 use Rattle.search.specs.declared.Look.the-variants.{Found, Missing, Faulty}
 use Rattle.paths.specs.declared.Way.{Way}
 use Rattle.paths.specs.declared.Way.the-variants as way
-use Rattle.paths.specs.Answers.{keyLook}
+use Rattle.paths.specs.Answers.{keyLookBy}
 use Rattle.search.proofs.Found.{first-at, sound-found, picked}
 use Rattle.paths.proofs.Opens.{look-facts}
 use Rattle.lookup.specs.declared.Spot.the-variants as spot
 use Rattle.lookup.specs.Search.{valueNamed, searchValues, lookupValue}
-use Rattle.lookup.specs.Answers.{inKey, onKey, valueLook}
+use Rattle.lookup.specs.Answers.{inKey, onKey, valueLookBy}
 
 -- one value
 module _ (d : List ℕ) (minor : ℕ) (x : List ℕ) (v : Offset) where
@@ -84,35 +85,35 @@ in-found o Missing e = absurd (let z : _≡_ {A = ℕ} 0 1 = cc in omega arith)
 in-found o (Faulty f) e = absurd (let z : _≡_ {A = ℕ} 0 1 = cc in omega arith)
 
 -- in a hive
-module _ (h us x : List ℕ) where
-  pub value-faulty : {r : Refusal} → keyLook h us ≡ way.Faulty r → valueLook h us x ≡ spot.Faulty r
-  unfolding valueLook
+module _ (how : How) (h us x : List ℕ) where
+  pub value-faulty : {r : Refusal} → keyLookBy how h us ≡ way.Faulty r → valueLookBy how h us x ≡ spot.Faulty r
+  unfolding valueLookBy
   value-faulty e = rw e
 
-  pub value-keyless : {k : Offset} → keyLook h us ≡ way.Missing k → valueLook h us x ≡ spot.Faulty (refusalOf k (flaw NoKey nowhere))
-  unfolding valueLook
+  pub value-keyless : {k : Offset} → keyLookBy how h us ≡ way.Missing k → valueLookBy how h us x ≡ spot.Faulty (refusalOf k (flaw NoKey nowhere))
+  unfolding valueLookBy
   value-keyless e = rw e
 
-  pub value-below : {o : Offset} → keyLook h us ≡ way.Found o
-      → valueLook h us x ≡ inKey o (lookupValue (binsData h) (minorOf (sector h)) x (keyOf (binsData h) o))
-  unfolding valueLook
+  pub value-below : {o : Offset} → keyLookBy how h us ≡ way.Found o
+      → valueLookBy how h us x ≡ inKey o (lookupValue (binsData h) (minorOf (sector h)) x (keyOf (binsData h) o))
+  unfolding valueLookBy
   value-below e = rw e
 
   -- the key whose values were searched, and the search
-  pub value-key : {k v : Offset} → valueLook h us x ≡ spot.Found k v
-      → (keyLook h us ≡ way.Found k) × (lookupValue (binsData h) (minorOf (sector h)) x (keyOf (binsData h) k) ≡ Found v)
-  unfolding valueLook
-  value-key {k} {v} e = by (keyLook h us) refl e
+  pub value-key : {k v : Offset} → valueLookBy how h us x ≡ spot.Found k v
+      → (keyLookBy how h us ≡ way.Found k) × (lookupValue (binsData h) (minorOf (sector h)) x (keyOf (binsData h) k) ≡ Found v)
+  unfolding valueLookBy
+  value-key {k} {v} e = by (keyLookBy how h us) refl e
     where
-      by : (w : Way) → keyLook h us ≡ w → onKey w (λ o. lookupValue (binsData h) (minorOf (sector h)) x (keyOf (binsData h) o)) ≡ spot.Found k v
-          → (keyLook h us ≡ way.Found k) × (lookupValue (binsData h) (minorOf (sector h)) x (keyOf (binsData h) k) ≡ Found v)
+      by : (w : Way) → keyLookBy how h us ≡ w → onKey w (λ o. lookupValue (binsData h) (minorOf (sector h)) x (keyOf (binsData h) o)) ≡ spot.Found k v
+          → (keyLookBy how h us ≡ way.Found k) × (lookupValue (binsData h) (minorOf (sector h)) x (keyOf (binsData h) k) ≡ Found v)
       by (way.Found o) p q =
           let f = in-found o (lookupValue (binsData h) (minorOf (sector h)) x (keyOf (binsData h) o)) q in
           (p ∙ ap way.Found (f .0), subst (λ (y : Offset). lookupValue (binsData h) (minorOf (sector h)) x (keyOf (binsData h) y) ≡ Found v) (f .0) (f .1))
       by (way.Missing y) p q = absurd (let z : _≡_ {A = ℕ} 0 1 = cc in omega arith)
       by (way.Faulty f) p q = absurd (let z : _≡_ {A = ℕ} 0 1 = cc in omega arith)
 
-  pub value-facts : {k v : Offset} → valueLook h us x ≡ spot.Found k v → (baseFault h ≡ Sound) × (valueFault Header (binsData h) [] v ≡ Sound)
+  pub value-facts : {k v : Offset} → valueLookBy how h us x ≡ spot.Found k v → (baseFault h ≡ Sound) × (valueFault Header (binsData h) [] v ≡ Sound)
   value-facts {k} {v} e =
       let w = value-key e in
-      (look-facts h us (w .0) .0, value-tested (binsData h) (minorOf (sector h)) x (keyOf (binsData h) k) (w .1))
+      (look-facts how h us (w .0) .0, value-tested (binsData h) (minorOf (sector h)) x (keyOf (binsData h) k) (w .1))

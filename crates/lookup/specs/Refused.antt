@@ -14,42 +14,53 @@ use Rattle.values.specs.declared.ValueData.the-variants.{Segments}
 use Rattle.values.specs.Records.{dataIn}
 use Rattle.values.specs.Lists.{valuesOf}
 use Rattle.values.specs.Refused.{a-value, Fit, Among, Values, Data}
+use Rattle.search.specs.declared.How.{How}
+use Rattle.search.specs.declared.How.the-variants.{InTurn}
 use Rattle.paths.specs.declared.KeyFound.the-variants.{At}
 use Rattle.search.specs.declared.Look.the-variants.{Missing}
-use Rattle.paths.specs.Answers.{findAnswer}
-use Rattle.paths.specs.Refused.{OfKey}
+use Rattle.paths.specs.Answers.{findBy}
+use Rattle.paths.specs.Refused.{OfKeyBy}
 use Rattle.lookup.specs.declared.Info.{Info}
 use Rattle.lookup.specs.declared.ValueFound.the-variants.{At as ValueAt}
 use Rattle.lookup.specs.Search.{lookupValue}
-use Rattle.lookup.specs.Answers.{infoAnswer}
+use Rattle.lookup.specs.Answers.{infoBy}
 use Rattle.lookup.specs.Reach.{FirstNamed}
 
 -- the value v that lookup finds: of the key k of that path, the first of its values that has the name
-pub record Finds (h us x : List ℕ) (k v : Offset) : Type 0 where
-  pub found : findAnswer h us ≡ At k
+pub record FindsBy (how : How) (h us x : List ℕ) (k v : Offset) : Type 0 where
+  pub found : findBy how h us ≡ At k
   pub first-of : FirstNamed (binsData h) (minorOf (sector h)) x (valuesOf (binsData h) (keyOf (binsData h) k)) v
   pub fit : Fit Header (binsData h) a-value v
 
--- value_info: the key under examination, and the flaw. Past the lookup of the key it is that key.
-pub data OfValue (h us x : List ℕ) : Offset → Flaw → Type 0 where
-  of-key : {k : Offset} {f : Flaw} → OfKey h us k f → OfValue h us x k f
+-- value_info and quick_info: the key under examination, and the flaw. Past the lookup of the key it is that key.
+pub data OfValueBy (how : How) (h us x : List ℕ) : Offset → Flaw → Type 0 where
+  of-key : {k : Offset} {f : Flaw} → OfKeyBy how h us k f → OfValueBy how h us x k f
   -- 11 and 12: the values of that key, and the data of the value that is found
-  of-values : {k : Offset} {f : Flaw} → findAnswer h us ≡ At k → Among Header (binsData h) (Values Header (binsData h) k) f → OfValue h us x k f
-  of-data : {k v : Offset} {f : Flaw} → Finds h us x k v → Among Header (binsData h) (Data Header (binsData h) (dataIn (binsData h) (minorOf (sector h)) v)) f
-      → OfValue h us x k f
+  of-values : {k : Offset} {f : Flaw} → findBy how h us ≡ At k → Among Header (binsData h) (Values Header (binsData h) k) f → OfValueBy how h us x k f
+  of-data : {k v : Offset} {f : Flaw} → FindsBy how h us x k v → Among Header (binsData h) (Data Header (binsData h) (dataIn (binsData h) (minorOf (sector h)) v)) f
+      → OfValueBy how h us x k f
   -- 18: "no such value"
-  no-value : {k : Offset} → findAnswer h us ≡ At k → lookupValue (binsData h) (minorOf (sector h)) x (keyOf (binsData h) k) ≡ Missing
-      → OfValue h us x k (flaw NoValue nowhere)
+  no-value : {k : Offset} → findBy how h us ≡ At k → lookupValue (binsData h) (minorOf (sector h)) x (keyOf (binsData h) k) ≡ Missing
+      → OfValueBy how h us x k (flaw NoValue nowhere)
 
--- view_info
-pub data OfView (h us x : List ℕ) : Offset → Flaw → Type 0 where
-  as-value : {k : Offset} {f : Flaw} → OfValue h us x k f → OfView h us x k f
+abbrev pub OfValue : List ℕ → List ℕ → List ℕ → Offset → Flaw → Type 0
+OfValue h us x = OfValueBy InTurn h us x
+
+-- view_info and quick_view_info
+pub data OfViewBy (how : How) (h us x : List ℕ) : Offset → Flaw → Type 0 where
+  as-value : {k : Offset} {f : Flaw} → OfValueBy how h us x k f → OfViewBy how h us x k f
   -- 19: "view asked of segmented data", at the value
-  segmented : {k v o : Offset} {n : ℕ} → Finds h us x k v → dataIn (binsData h) (minorOf (sector h)) v ≡ Segments o n → OfView h us x k (flaw Segmented v)
+  segmented : {k v o : Offset} {n : ℕ} → FindsBy how h us x k v → dataIn (binsData h) (minorOf (sector h)) v ≡ Segments o n → OfViewBy how h us x k (flaw Segmented v)
 
--- value_copy, to an output of so many bytes
-pub data OfCopy (h us x : List ℕ) (room : ℕ) : Offset → Flaw → Type 0 where
-  as-info : {k : Offset} {f : Flaw} → OfValue h us x k f → OfCopy h us x room k f
+abbrev pub OfView : List ℕ → List ℕ → List ℕ → Offset → Flaw → Type 0
+OfView h us x = OfViewBy InTurn h us x
+
+-- value_copy and quick_copy, to an output of so many bytes
+pub data OfCopyBy (how : How) (h us x : List ℕ) (room : ℕ) : Offset → Flaw → Type 0 where
+  as-info : {k : Offset} {f : Flaw} → OfValueBy how h us x k f → OfCopyBy how h us x room k f
   -- 20: "output too short"
-  too-short : {k : Offset} {i : Info} → findAnswer h us ≡ At k → infoAnswer h us x ≡ ValueAt i → room < i .len
-      → OfCopy h us x room k (flaw OutputShort nowhere)
+  too-short : {k : Offset} {i : Info} → findBy how h us ≡ At k → infoBy how h us x ≡ ValueAt i → room < i .len
+      → OfCopyBy how h us x room k (flaw OutputShort nowhere)
+
+abbrev pub OfCopy : List ℕ → List ℕ → List ℕ → ℕ → Offset → Flaw → Type 0
+OfCopy h us x room = OfCopyBy InTurn h us x room

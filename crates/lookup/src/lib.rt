@@ -8,6 +8,7 @@ use fields::Refusal;
 use fields::Verdict;
 use paths::Way;
 use records::Key;
+use search::How;
 use search::Look;
 use values::Entered;
 use values::Entries;
@@ -30,7 +31,7 @@ ghost use Rattle.values.specs.Lists.{wholeValueFault};
 ghost use Rattle.lookup.specs.Search.{valueNamed, searchValues, lookupValue};
 ghost use Rattle.fields.specs.declared.Fault.the-variants.{NoValue};
 ghost use Rattle.fields.specs.Faults.{flaw, nowhere, refusalOf};
-ghost use Rattle.lookup.specs.Answers.{inKey, valueLook, infoOf, viewFault, viewedFault, infoWhere, infoAnswer, viewAnswer, viewStart, viewBytes, copiedTo, copyAnswer, written, copyOut};
+ghost use Rattle.lookup.specs.Answers.{inKey, valueLookBy, infoOf, viewFault, viewedFault, infoWhere, infoBy, infoAnswer, quickInfo, viewBy, viewAnswer, quickView, viewStartBy, viewStart, quickViewStart, viewBytesBy, viewBytes, quickViewBytes, copiedTo, copyBy, copyAnswer, quickCopy, written, copyOutBy, copyOut, quickOut};
 
 // One value, against a name, which is compared in place.
 fn value_named(bins: &[u8], minor: u32, name: &[u16], v: Offset) -> Look
@@ -101,10 +102,10 @@ fn in_key(key: Offset, l: Look) -> Spot
 }
 
 // The value of a name, of the key of a path in a hive.
-fn value_look(hive: &[u8], path: &[u16], name: &[u16]) -> Spot
-    ensures { λ r. ⌜ r ≡ valueLook (now (hive .entry)) (now (path .entry)) (now (name .entry)) ⌝ }
+fn value_look(hive: &[u8], path: &[u16], name: &[u16], how: How) -> Spot
+    ensures { λ r. ⌜ r ≡ valueLookBy how (now (hive .entry)) (now (path .entry)) (now (name .entry)) ⌝ }
 {
-    match paths::key_look(hive, path) {
+    match paths::key_look(hive, path, how) {
         Way::Faulty(r) => Spot::Faulty(r),
         Way::Missing(key) => Spot::Faulty(fields::refused(
             key,
@@ -208,12 +209,35 @@ fn no_value(key: Offset) -> Refusal
     )
 }
 
+fn info_by(hive: &[u8], path: &[u16], name: &[u16], how: How) -> ValueFound
+    ensures { λ r. ⌜ r ≡ infoBy how (now (hive .entry)) (now (path .entry)) (now (name .entry)) ⌝ }
+{
+    match value_look(hive, path, name, how) {
+        Spot::Found(key, v) => whole_info(base::bins_of(hive), base::minor_of(hive), key, v),
+        Spot::Missing(key) => ValueFound::Refused(no_value(key)),
+        Spot::Faulty(r) => ValueFound::Refused(r),
+    }
+}
+
 // The facts of a value, for all three cases of data.
 pub fn value_info(hive: &[u8], path: &[u16], name: &[u16]) -> ValueFound
     ensures { λ r. ⌜ r ≡ infoAnswer (now (hive .entry)) (now (path .entry)) (now (name .entry)) ⌝ }
 {
-    match value_look(hive, path, name) {
-        Spot::Found(key, v) => whole_info(base::bins_of(hive), base::minor_of(hive), key, v),
+    info_by(hive, path, name, How::InTurn)
+}
+
+// The same, its key searched by halves.
+pub fn quick_info(hive: &[u8], path: &[u16], name: &[u16]) -> ValueFound
+    ensures { λ r. ⌜ r ≡ quickInfo (now (hive .entry)) (now (path .entry)) (now (name .entry)) ⌝ }
+{
+    info_by(hive, path, name, How::Halving)
+}
+
+fn viewed_by(hive: &[u8], path: &[u16], name: &[u16], how: How) -> ValueFound
+    ensures { λ r. ⌜ r ≡ viewBy how (now (hive .entry)) (now (path .entry)) (now (name .entry)) ⌝ }
+{
+    match value_look(hive, path, name, how) {
+        Spot::Found(key, v) => view_at(base::bins_of(hive), base::minor_of(hive), key, v),
         Spot::Missing(key) => ValueFound::Refused(no_value(key)),
         Spot::Faulty(r) => ValueFound::Refused(r),
     }
@@ -223,10 +247,26 @@ pub fn value_info(hive: &[u8], path: &[u16], name: &[u16]) -> ValueFound
 pub fn view_info(hive: &[u8], path: &[u16], name: &[u16]) -> ValueFound
     ensures { λ r. ⌜ r ≡ viewAnswer (now (hive .entry)) (now (path .entry)) (now (name .entry)) ⌝ }
 {
-    match value_look(hive, path, name) {
-        Spot::Found(key, v) => view_at(base::bins_of(hive), base::minor_of(hive), key, v),
-        Spot::Missing(key) => ValueFound::Refused(no_value(key)),
-        Spot::Faulty(r) => ValueFound::Refused(r),
+    viewed_by(hive, path, name, How::InTurn)
+}
+
+pub fn quick_view_info(hive: &[u8], path: &[u16], name: &[u16]) -> ValueFound
+    ensures { λ r. ⌜ r ≡ quickView (now (hive .entry)) (now (path .entry)) (now (name .entry)) ⌝ }
+{
+    viewed_by(hive, path, name, How::Halving)
+}
+
+fn view_by<'a>(hive: &'a [u8], path: &[u16], name: &[u16], how: How) -> &'a [u8]
+    ensures { λ r. ⌜ now r ≡ viewBytesBy how (now (hive .entry)) (now (path .entry)) (now (name .entry)) ⌝ }
+    ensures { λ r. ⌜ ptr r ≡ (ptr (hive .entry) .0, viewStartBy how (now (hive .entry)) (now (path .entry)) (now (name .entry)) + ptr (hive .entry) .1) ⌝ }
+{
+    match viewed_by(hive, path, name, how) {
+        ValueFound::Refused(_) => &hive[0..0],
+        ValueFound::At(i) => {
+            let at = i.at.0;
+            let end = at + i.len;
+            &hive[at..end]
+        }
     }
 }
 
@@ -235,14 +275,14 @@ pub fn value_view<'a>(hive: &'a [u8], path: &[u16], name: &[u16]) -> &'a [u8]
     ensures { λ r. ⌜ now r ≡ viewBytes (now (hive .entry)) (now (path .entry)) (now (name .entry)) ⌝ }
     ensures { λ r. ⌜ ptr r ≡ (ptr (hive .entry) .0, viewStart (now (hive .entry)) (now (path .entry)) (now (name .entry)) + ptr (hive .entry) .1) ⌝ }
 {
-    match view_info(hive, path, name) {
-        ValueFound::Refused(_) => &hive[0..0],
-        ValueFound::At(i) => {
-            let at = i.at.0;
-            let end = at + i.len;
-            &hive[at..end]
-        }
-    }
+    view_by(hive, path, name, How::InTurn)
+}
+
+pub fn quick_view<'a>(hive: &'a [u8], path: &[u16], name: &[u16]) -> &'a [u8]
+    ensures { λ r. ⌜ now r ≡ quickViewBytes (now (hive .entry)) (now (path .entry)) (now (name .entry)) ⌝ }
+    ensures { λ r. ⌜ ptr r ≡ (ptr (hive .entry) .0, quickViewStart (now (hive .entry)) (now (path .entry)) (now (name .entry)) + ptr (hive .entry) .1) ⌝ }
+{
+    view_by(hive, path, name, How::Halving)
 }
 
 pub enum Copied {
@@ -273,12 +313,11 @@ pub fn copy_info(hive: &[u8], key: Offset, i: Info, out: &mut [u8]) -> Copied
     Copied::Done(len)
 }
 
-// The first value of that name, copied.
-pub fn value_copy(hive: &[u8], path: &[u16], name: &[u16], out: &mut [u8]) -> Copied
-    ensures { λ r. ⌜ r ≡ copyAnswer (now (hive .entry)) (now (path .entry)) (now (name .entry)) (length (now (out .entry))) ⌝ }
-    ensures { λ _. ⌜ now (out .exit) ≡ copyOut (now (hive .entry)) (now (path .entry)) (now (name .entry)) (now (out .entry)) ⌝ }
+fn copy_by(hive: &[u8], path: &[u16], name: &[u16], out: &mut [u8], how: How) -> Copied
+    ensures { λ r. ⌜ r ≡ copyBy how (now (hive .entry)) (now (path .entry)) (now (name .entry)) (length (now (out .entry))) ⌝ }
+    ensures { λ _. ⌜ now (out .exit) ≡ copyOutBy how (now (hive .entry)) (now (path .entry)) (now (name .entry)) (now (out .entry)) ⌝ }
 {
-    match value_look(hive, path, name) {
+    match value_look(hive, path, name, how) {
         Spot::Missing(key) => Copied::Refused(no_value(key)),
         Spot::Faulty(r) => Copied::Refused(r),
         Spot::Found(key, v) => {
@@ -288,4 +327,19 @@ pub fn value_copy(hive: &[u8], path: &[u16], name: &[u16], out: &mut [u8]) -> Co
             }
         }
     }
+}
+
+// The first value of that name, copied.
+pub fn value_copy(hive: &[u8], path: &[u16], name: &[u16], out: &mut [u8]) -> Copied
+    ensures { λ r. ⌜ r ≡ copyAnswer (now (hive .entry)) (now (path .entry)) (now (name .entry)) (length (now (out .entry))) ⌝ }
+    ensures { λ _. ⌜ now (out .exit) ≡ copyOut (now (hive .entry)) (now (path .entry)) (now (name .entry)) (now (out .entry)) ⌝ }
+{
+    copy_by(hive, path, name, out, How::InTurn)
+}
+
+pub fn quick_copy(hive: &[u8], path: &[u16], name: &[u16], out: &mut [u8]) -> Copied
+    ensures { λ r. ⌜ r ≡ quickCopy (now (hive .entry)) (now (path .entry)) (now (name .entry)) (length (now (out .entry))) ⌝ }
+    ensures { λ _. ⌜ now (out .exit) ≡ quickOut (now (hive .entry)) (now (path .entry)) (now (name .entry)) (now (out .entry)) ⌝ }
+{
+    copy_by(hive, path, name, out, How::Halving)
 }

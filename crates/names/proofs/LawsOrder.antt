@@ -52,7 +52,7 @@ compare-turned : (xs ys : List ℕ) → compare ys xs ≡ turned (compare xs ys)
 unfolding compare
 compare-turned xs ys = code-turned (uppers xs) (uppers ys)
 
-after-turned : (xs ys : List ℕ) → compare xs ys ≡ After → compare ys xs ≡ Before
+pub after-turned : (xs ys : List ℕ) → compare xs ys ≡ After → compare ys xs ≡ Before
 after-turned xs ys a = compare-turned xs ys ∙ ap turned a
 
 pub before-turned : (xs ys : List ℕ) → compare xs ys ≡ Before → compare ys xs ≡ After

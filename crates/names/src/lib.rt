@@ -110,6 +110,33 @@ pub fn compare_stored(a: &[u8], a_narrow: bool, b: &[u8], b_narrow: bool) -> Ord
     }
 }
 
+// A stored name against a given one, by the same comparison.
+pub fn compare_name(s: &[u8], narrow: bool, name: &[u16]) -> Order
+    ensures { λ r. ⌜ r ≡ compare (codes narrow (now (s .entry))) (now (name .entry)) ⌝ }
+{
+    let end = count(s, narrow);
+    let mut i = 0;
+    while i < end {
+        if name.len() <= i {
+            return Order::After;
+        }
+        let x = code_at(s, narrow, i);
+        let y = name[i];
+        if !same_letter(x, y) {
+            if upper(x) < upper(y) {
+                return Order::Before;
+            }
+            return Order::After;
+        }
+        i += 1;
+    }
+    if i < name.len() {
+        Order::Before
+    } else {
+        Order::Same
+    }
+}
+
 // Whether a stored name is the given one, by the same comparison.
 pub fn is_named(s: &[u8], narrow: bool, name: &[u16]) -> bool
     ensures { λ r. ⌜ r ≡ sameName (codes narrow (now (s .entry))) (now (name .entry)) ⌝ }

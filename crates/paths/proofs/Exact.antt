@@ -20,8 +20,8 @@ use Rattle.paths.specs.declared.KeyFound.the-variants.{At, Refused}
 use Rattle.paths.specs.declared.Way.{Way}
 use Rattle.paths.specs.declared.Way.the-variants.{Found, Missing, Faulty}
 use Rattle.paths.specs.Paths.{partsOf, isPath, pathFault}
-use Rattle.paths.specs.Descent.{descend, lookupKey}
-use Rattle.paths.specs.Answers.{openFault, keyLook, keyFound, findAnswer}
+use Rattle.paths.specs.Descent.{descend, lookupKeyBy}
+use Rattle.paths.specs.Answers.{openFault, keyLookBy, keyLook, keyFound, findBy, findAnswer}
 use Rattle.paths.specs.Reach.{Holds, Deepest}
 use Rattle.paths.proofs.Finds.{found-holds, holds-found, never-faulty, missing-deepest}
 use Rattle.paths.proofs.Held.{held-path}
@@ -37,7 +37,7 @@ module _ (h : List ℕ) (w : CleanAndWellFormed h) where
   open-path us p = on _ _ (facts-base h (w .is-clean) (w .inside)) ∙ fails (flaw PathParts nowhere) p
 
   look-is : (us : List ℕ) → isPath us ≡ true → keyLook h us ≡ descend (binsData h) (hiveOf h .root) (partsOf us)
-  unfolding keyLook lookupKey
+  unfolding keyLookBy lookupKeyBy
   look-is us p = rw (open-sound us p, key-good (binsData h) (hiveOf h) (w .formed .tiled) levels (hiveOf h .root) (w .formed .tree))
 
   -- the three ways out of a lookup along a path
@@ -77,7 +77,7 @@ module _ (h : List ℕ) (w : CleanAndWellFormed h) where
 
   -- a malformed path is 16, whatever the tree
   look-malformed : (us : List ℕ) → isPath us ≡ false → keyLook h us ≡ Faulty (refusalOf noKey (flaw PathParts nowhere))
-  unfolding keyLook
+  unfolding keyLookBy
   look-malformed us p = rw (open-path us p)
 
 -- The call find_key, said of its own answer.
@@ -89,7 +89,7 @@ found-look-is (Faulty f) e = absurd (let z : _≡_ {A = ℕ} 0 1 = cc in omega a
 module _ (h : List ℕ) (w : CleanAndWellFormed h) (us : List ℕ) where
   -- 16 where the path is malformed
   pub find-malformed : isPath us ≡ false → findAnswer h us ≡ Refused (refusalOf noKey (flaw PathParts nowhere))
-  unfolding findAnswer
+  unfolding findBy
   find-malformed p = ap keyFound (look-malformed h w us p)
 
   found-path : {o : Offset} → findAnswer h us ≡ At o → isPath us ≡ true
@@ -101,7 +101,7 @@ module _ (h : List ℕ) (w : CleanAndWellFormed h) (us : List ℕ) where
 
   -- a key is found exactly when the tree holds it there, whatever the path
   pub find-exactly : (o : Offset) → (findAnswer h us ≡ At o) ↔ Holds (binsData h) (hiveOf h .root) (partsOf us) o
-  unfolding findAnswer
+  unfolding findBy
   find-exactly o = (
     λ e. look-exactly h w us (found-path e) o .0 (found-look-is (keyLook h us) e),
     λ r. ap keyFound (look-exactly h w us (held-path h w us r) o .1 r),
@@ -110,7 +110,7 @@ module _ (h : List ℕ) (w : CleanAndWellFormed h) (us : List ℕ) where
   -- 17 where the tree holds none under a path, with the deepest key that it holds along it
   pub find-none : isPath us ≡ true → ((o : Offset) → Holds (binsData h) (hiveOf h .root) (partsOf us) o → ⊥)
       → (k : Offset) × (findAnswer h us ≡ Refused (refusalOf k (flaw NoKey nowhere))) × Deepest (binsData h) (hiveOf h .root) (partsOf us) k
-  unfolding findAnswer
+  unfolding findBy
   find-none p f = let x = look-none h w us p f in (x .0, ap keyFound (x .1), x .2)
 
   -- refused exactly if the tree holds no such key, whatever the path

@@ -17,14 +17,15 @@ use Rattle.tree.specs.WellFormed.{TreeStands, key}
 use Rattle.search.specs.declared.Look.{Look}
 use Rattle.search.specs.declared.Look.the-variants.{Found, Missing, Faulty}
 use Rattle.search.specs.Search.{searchKeys}
+use Rattle.search.specs.Quick.{belowBy}
 use Rattle.search.proofs.Finds.{found-in, no-fault, find-there, key-good, search-below}
 use Rattle.paths.specs.declared.Way.the-variants as way
-use Rattle.paths.specs.Descent.{onFound, descend}
+use Rattle.paths.specs.Descent.{onFound, descendBy, descend}
 use Rattle.paths.specs.Reach.{Holds, here, below, Deepest}
 
 module _ (d : List ℕ) (hive : Hive) (tiles : BinsTile d 0) where
   pub found-holds : (n : ℕ) (o : Offset) (xs : List (List ℕ)) {e : Offset} → TreeStands d hive n o → descend d o xs ≡ way.Found e → Holds d o xs e
-  unfolding descend onFound
+  unfolding descendBy onFound belowBy
   found-holds n o [] {e} t p = let q : o ≡ e = cc in subst (λ (y : Offset). Holds d o [] y) q here
   found-holds (suc n) o (x ∷ xs) {e} (key s a ch tree) p =
       by (searchKeys d x (children d o)) refl (λ c i q. found-holds n (c .at) xs (tree c i) q) (rw (search-below d hive tiles (hive .minor) o s x) at p)
@@ -39,14 +40,14 @@ module _ (d : List ℕ) (hive : Hive) (tiles : BinsTile d 0) where
       by (Faulty f) q rest p = absurd (let z : _≡_ {A = ℕ} 0 1 = cc in omega arith)
 
   pub holds-found : (n : ℕ) (o : Offset) (xs : List (List ℕ)) {e : Offset} → TreeStands d hive n o → Holds d o xs e → descend d o xs ≡ way.Found e
-  unfolding descend onFound
+  unfolding descendBy onFound belowBy
   holds-found n o [] t here = refl
   holds-found (suc n) o (x ∷ xs) (key s a ch tree) (below {c = c} i q r) =
       rw (search-below d hive tiles (hive .minor) o s x, find-there d x (children d o) a (λ b j. key-good d hive tiles n (b .at) (tree b j)) c i q)
       (holds-found n (c .at) xs (tree c i) r)
 
   pub never-faulty : (n : ℕ) (o : Offset) (xs : List (List ℕ)) {r : Refusal} → TreeStands d hive n o → descend d o xs ≡ way.Faulty r → ⊥
-  unfolding descend onFound
+  unfolding descendBy onFound belowBy
   never-faulty n o [] t p = let z : _≡_ {A = ℕ} 0 1 = cc in omega arith
   never-faulty (suc n) o (x ∷ xs) {r} (key s a ch tree) p =
       by (searchKeys d x (children d o)) refl (λ c i q. never-faulty n (c .at) xs (tree c i) q) (rw (search-below d hive tiles (hive .minor) o s x) at p)
@@ -62,7 +63,7 @@ module _ (d : List ℕ) (hive : Hive) (tiles : BinsTile d 0) where
 
   -- where the way ends without a key, it has come to the deepest that the tree holds along it
   pub missing-deepest : (n : ℕ) (o : Offset) (xs : List (List ℕ)) {k : Offset} → TreeStands d hive n o → descend d o xs ≡ way.Missing k → Deepest d o xs k
-  unfolding descend onFound
+  unfolding descendBy onFound belowBy
   missing-deepest n o [] t p = absurd (let z : _≡_ {A = ℕ} 0 1 = cc in omega arith)
   missing-deepest (suc n) o (x ∷ xs) {k} (key s a ch tree) p =
       by (searchKeys d x (children d o)) refl (λ c i q. missing-deepest n (c .at) xs (tree c i) q) (rw (search-below d hive tiles (hive .minor) o s x) at p)

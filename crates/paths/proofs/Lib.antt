@@ -9,3 +9,4 @@ pub mod Exact
 pub mod Listed
 pub mod In_accepted
 pub mod Refusals
+pub mod Quick

@@ -14,11 +14,12 @@ use Rattle.base.specs.Block.{binsData, baseFault}
 use Rattle.cells.specs.declared.Rule.the-variants.{Header}
 use Rattle.records.specs.Keys.{keyFault}
 use Rattle.tree.specs.Tree.{hiveOf}
+use Rattle.search.specs.declared.How.{How}
 use Rattle.paths.specs.declared.KeyFound.the-variants.{At, Refused}
 use Rattle.paths.specs.declared.Way.the-variants.{Found, Missing, Faulty}
 use Rattle.paths.specs.Paths.{partsOf, isPath, pathFault}
-use Rattle.paths.specs.Descent.{lookupKey}
-use Rattle.paths.specs.Answers.{openFault, keyLook, findAnswer}
+use Rattle.paths.specs.Descent.{lookupKeyBy}
+use Rattle.paths.specs.Answers.{openFault, keyLookBy, findBy}
 use Rattle.paths.proofs.Descents.{opened-found, lookup-tested}
 
 module _ (h us : List ℕ) where
@@ -38,30 +39,32 @@ module _ (h us : List ℕ) where
   unfolding openFault pathFault
   open-facts e = let b = both (baseFault h) _ e in (b .0, held (isPath us) (flaw PathParts nowhere) (b .1))
 
-  pub look-stop : {f : Flaw} → openFault h us ≡ Flawed f → keyLook h us ≡ Faulty (refusalOf noKey f)
-  unfolding keyLook
+-- the key, by either search
+module _ (how : How) (h us : List ℕ) where
+  pub look-stop : {f : Flaw} → openFault h us ≡ Flawed f → keyLookBy how h us ≡ Faulty (refusalOf noKey f)
+  unfolding keyLookBy
   look-stop e = rw e
 
-  pub look-on : openFault h us ≡ Sound → keyLook h us ≡ lookupKey (binsData h) (hiveOf h .root) (partsOf us)
-  unfolding keyLook
+  pub look-on : openFault h us ≡ Sound → keyLookBy how h us ≡ lookupKeyBy how (binsData h) (hiveOf h .root) (partsOf us)
+  unfolding keyLookBy
   look-on e = rw e
 
   -- the key that is found
-  pub look-facts : {o : Offset} → keyLook h us ≡ Found o → (baseFault h ≡ Sound) × (keyFault Header (binsData h) [] o ≡ Sound)
-  unfolding keyLook
+  pub look-facts : {o : Offset} → keyLookBy how h us ≡ Found o → (baseFault h ≡ Sound) × (keyFault Header (binsData h) [] o ≡ Sound)
+  unfolding keyLookBy
   look-facts e =
       let s = opened-found (openFault h us) _ e in
-      (open-facts (s .0) .0, lookup-tested (binsData h) (hiveOf h .root) (partsOf us) (s .1))
+      (open-facts h us (s .0) .0, lookup-tested how (binsData h) (hiveOf h .root) (partsOf us) (s .1))
 
-  -- find_key
-  pub find-at : {o : Offset} → keyLook h us ≡ Found o → findAnswer h us ≡ At o
-  unfolding findAnswer
+  -- find_key and quick_key
+  pub find-at : {o : Offset} → keyLookBy how h us ≡ Found o → findBy how h us ≡ At o
+  unfolding findBy
   find-at e = rw e
 
-  pub find-missing : {k : Offset} → keyLook h us ≡ Missing k → findAnswer h us ≡ Refused (refusalOf k (flaw NoKey nowhere))
-  unfolding findAnswer
+  pub find-missing : {k : Offset} → keyLookBy how h us ≡ Missing k → findBy how h us ≡ Refused (refusalOf k (flaw NoKey nowhere))
+  unfolding findBy
   find-missing e = rw e
 
-  pub find-faulty : {r : Refusal} → keyLook h us ≡ Faulty r → findAnswer h us ≡ Refused r
-  unfolding findAnswer
+  pub find-faulty : {r : Refusal} → keyLookBy how h us ≡ Faulty r → findBy how h us ≡ Refused r
+  unfolding findBy
   find-faulty e = rw e

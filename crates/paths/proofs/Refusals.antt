@@ -1,7 +1,7 @@
 -- Every refusal of the lookup of a key says why.
 use Prim.Native.Nat.{ℕ}
 use native.Mathlib.Omega.{arith}
-use mathlib.Core.Path.{_≡_, refl, sym, ap, _∙_, subst}
+use mathlib.Core.Path.{_≡_, refl, sym, subst}
 use mathlib.Core.List.{List, [], _∷_}
 use Rattle.fields.specs.declared.Fault.the-variants.{NoKey}
 use Rattle.fields.specs.declared.Flaw.{Flaw}
@@ -20,18 +20,19 @@ use Rattle.records.specs.Keys.{keyFault, keyOf}
 use Rattle.values.specs.Refused.{a-key, Fit}
 use Rattle.values.proofs.Refusals.{key-fit, key-unfit}
 use Rattle.tree.specs.Tree.{hiveOf}
-use Rattle.search.specs.Search.{searchBelow}
-use Rattle.search.proofs.Found.{below-tested}
-use Rattle.search.proofs.Refusals.{Each, below-each, below-found}
+use Rattle.search.specs.declared.How.{How}
+use Rattle.search.specs.Quick.{belowBy}
+use Rattle.search.proofs.Quick_found.{by-tested, by-found, by-each}
+use Rattle.search.proofs.Refusals.{Each}
 use Rattle.paths.specs.declared.KeyFound.the-variants.{Refused}
 use Rattle.search.specs.declared.Look.{Look}
 use Rattle.search.specs.declared.Look.the-variants.{Found, Missing, Faulty}
 use Rattle.paths.specs.declared.Way.{Way}
 use Rattle.paths.specs.declared.Way.the-variants as way
 use Rattle.paths.specs.Paths.{isPath, pathFault, partsOf}
-use Rattle.paths.specs.Descent.{onFound, descend, opened, lookupKey}
-use Rattle.paths.specs.Answers.{openFault, keyLook, keyFound, findAnswer}
-use Rattle.paths.specs.Refused.{OnWay, the-root, a-child, OfKey, of-base, no-path, of-root, of-lists, no-key}
+use Rattle.paths.specs.Descent.{onFound, descendBy, opened, lookupKeyBy}
+use Rattle.paths.specs.Answers.{openFault, keyLookBy, keyFound, findBy}
+use Rattle.paths.specs.Refused.{OnWay, the-root, a-child, OfKeyBy, of-base, no-path, of-root, of-lists, no-key}
 
 -- ---- all refusals of a way
 module _ (P : Offset → Flaw → Type 0) where
@@ -53,37 +54,37 @@ module _ (P : Offset → Flaw → Type 0) where
   ends-on k (Faulty g) go p s q r e = (k, g, let z : refusalOf k g ≡ r = cc in sym z, p g refl)
 
 -- ---- the way
-module _ (h us : List ℕ) where
+module _ (how : How) (h us : List ℕ) where
   ruled : Ruled Header (binsData h) []
   ruled = by-header (binsData h) []
 
-  descend-each : (k : Offset) (xs : List (List ℕ)) → OnWay h us xs k → Ends (OfKey h us) (descend (binsData h) k xs)
-  unfolding descend
-  descend-each k [] w = ends-found (OfKey h us) k
+  descend-each : (k : Offset) (xs : List (List ℕ)) → OnWay h us xs k → Ends (OfKeyBy how h us) (descendBy how (binsData h) k xs)
+  unfolding descendBy
+  descend-each k [] w = ends-found (OfKeyBy how h us) k
   descend-each k (x ∷ xs) w =
-      ends-on (OfKey h us) k (searchBelow (binsData h) x (keyOf (binsData h) k)) _ (λ f e. of-lists w (below-each (binsData h) x k f e)) (λ e. no-key w e)
-      (λ o e. let c = below-found (binsData h) x k e in
-      let g = key-fit Header (binsData h) [] ruled o (below-tested (binsData h) x (keyOf (binsData h) k) e) in
+      ends-on (OfKeyBy how h us) k (belowBy how (binsData h) x (keyOf (binsData h) k)) _ (λ f e. of-lists w (by-each (binsData h) x how k f e)) (λ e. no-key w e)
+      (λ o e. let c = by-found (binsData h) x how k e in
+      let g = key-fit Header (binsData h) [] ruled o (by-tested (binsData h) x how (keyOf (binsData h) k) e) in
       descend-each o xs (onto (c .0) o (sym (c .2)) (λ y. a-child w (c .1) (c .3) y) g))
     where
       onto : (c : Child) (o : Offset) → c .at ≡ o → (Fit Header (binsData h) a-key (c .at) → OnWay h us xs (c .at)) → Fit Header (binsData h) a-key o → OnWay h us xs o
       onto c o e f g = subst (λ (y : Offset). OnWay h us xs y) e (f (subst (λ (y : Offset). Fit Header (binsData h) a-key y) (sym e) g))
 
-  open-each : Every (OfKey h us noKey) (openFault h us)
+  open-each : Every (OfKeyBy how h us noKey) (openFault h us)
   unfolding openFault pathFault
   open-each =
-      every-next (OfKey h us noKey) (baseFault h) _ (λ f e. of-base (base-refuses h f e))
-      (λ s. every-unless (OfKey h us noKey) (isPath us) _ (λ e. no-path e))
+      every-next (OfKeyBy how h us noKey) (baseFault h) _ (λ f e. of-base (base-refuses h f e))
+      (λ s. every-unless (OfKeyBy how h us noKey) (isPath us) _ (λ e. no-path e))
 
-  pub look-each : Ends (OfKey h us) (keyLook h us)
-  unfolding keyLook lookupKey
+  pub look-each : Ends (OfKeyBy how h us) (keyLookBy how h us)
+  unfolding keyLookBy lookupKeyBy
   look-each =
-      ends-opened (OfKey h us) (openFault h us) _ open-each
-      (λ a. ends-opened (OfKey h us) (keyFault Header (binsData h) [] (hiveOf h .root)) _
+      ends-opened (OfKeyBy how h us) (openFault h us) _ open-each
+      (λ a. ends-opened (OfKeyBy how h us) (keyFault Header (binsData h) [] (hiveOf h .root)) _
       (λ f e. of-root (key-unfit Header (binsData h) [] ruled (hiveOf h .root) f e))
       (λ b. descend-each (hiveOf h .root) (partsOf us) (the-root (key-fit Header (binsData h) [] ruled (hiveOf h .root) b))))
 
-  -- find_key
-  pub find-refuses : {r : Refusal} → findAnswer h us ≡ Refused r → Because (OfKey h us) r
-  unfolding findAnswer
+  -- find_key and quick_key
+  pub find-refuses : {r : Refusal} → findBy how h us ≡ Refused r → Because (OfKeyBy how h us) r
+  unfolding findBy
   find-refuses {r} = look-each r

@@ -18,8 +18,10 @@ use Rattle.records.specs.Keys.{keyOf}
 use Rattle.records.specs.Lists.{children}
 use Rattle.values.specs.Refused.{a-key, Fit, Unfit, Among, Lists}
 use Rattle.tree.specs.Tree.{nameAt, hiveOf}
+use Rattle.search.specs.declared.How.{How}
+use Rattle.search.specs.declared.How.the-variants.{InTurn}
 use Rattle.search.specs.declared.Look.the-variants.{Missing}
-use Rattle.search.specs.Search.{searchBelow}
+use Rattle.search.specs.Quick.{belowBy}
 use Rattle.paths.specs.Paths.{partsOf, isPath}
 
 -- the keys on the way of a path, each with the parts that are still to go
@@ -28,15 +30,18 @@ pub data OnWay (h us : List ℕ) : List (List ℕ) → Offset → Type 0 where
   a-child : {x : List ℕ} {xs : List (List ℕ)} {k : Offset} {c : Child} → OnWay h us (x ∷ xs) k → List·Memᴰ c (children (binsData h) k)
       → compare (nameAt (binsData h) (c .at)) x ≡ Same → Fit Header (binsData h) a-key (c .at) → OnWay h us xs (c .at)
 
--- find_key: the key under examination, and the flaw
-pub data OfKey (h us : List ℕ) : Offset → Flaw → Type 0 where
-  of-base : {f : Flaw} → OfBase h f → OfKey h us noKey f
+-- find_key and quick_key: the key under examination, and the flaw
+pub data OfKeyBy (how : How) (h us : List ℕ) : Offset → Flaw → Type 0 where
+  of-base : {f : Flaw} → OfBase h f → OfKeyBy how h us noKey f
   -- 16: "path: empty part, part over 255 units, over 512 parts"
-  no-path : isPath us ≡ false → OfKey h us noKey (flaw PathParts nowhere)
+  no-path : isPath us ≡ false → OfKeyBy how h us noKey (flaw PathParts nowhere)
   -- 11 and 12: of the root, with no key yet; of what a key on the way lists, with that key
-  of-root : {f : Flaw} → Unfit Header (binsData h) a-key (hiveOf h .root) f → OfKey h us noKey f
+  of-root : {f : Flaw} → Unfit Header (binsData h) a-key (hiveOf h .root) f → OfKeyBy how h us noKey f
   of-lists : {x : List ℕ} {xs : List (List ℕ)} {k : Offset} {f : Flaw} → OnWay h us (x ∷ xs) k → Among Header (binsData h) (Lists Header (binsData h) k) f
-      → OfKey h us k f
+      → OfKeyBy how h us k f
   -- 17: "no such key", with the key on the way that has none of the next name
-  no-key : {x : List ℕ} {xs : List (List ℕ)} {k : Offset} → OnWay h us (x ∷ xs) k → searchBelow (binsData h) x (keyOf (binsData h) k) ≡ Missing
-      → OfKey h us k (flaw NoKey nowhere)
+  no-key : {x : List ℕ} {xs : List (List ℕ)} {k : Offset} → OnWay h us (x ∷ xs) k → belowBy how (binsData h) x (keyOf (binsData h) k) ≡ Missing
+      → OfKeyBy how h us k (flaw NoKey nowhere)
+
+abbrev pub OfKey : List ℕ → List ℕ → Offset → Flaw → Type 0
+OfKey h us = OfKeyBy InTurn h us

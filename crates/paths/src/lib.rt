@@ -6,6 +6,7 @@ use fields::Offset;
 use fields::Refusal;
 use fields::Verdict;
 use records::Keyed;
+use search::How;
 use search::Look;
 ghost use mathlib.Core.Path.{_≡_};
 ghost use mathlib.Core.Bool.{true};
@@ -16,8 +17,8 @@ ghost use Rattle.fields.specs.declared.Verdict.the-variants.{Sound};
 ghost use Rattle.cells.specs.declared.Rule.the-variants.{Header};
 ghost use Rattle.records.specs.Keys.{keyFault};
 ghost use Rattle.paths.specs.Paths.{firstPart, partsOf, isPath};
-ghost use Rattle.paths.specs.Descent.{descend as descendTo, lookupKey};
-ghost use Rattle.paths.specs.Answers.{openFault, keyLook, findAnswer};
+ghost use Rattle.paths.specs.Descent.{descendBy, lookupKeyBy};
+ghost use Rattle.paths.specs.Answers.{openFault, keyLookBy, findBy, findAnswer, quickAnswer};
 
 const BACKSLASH: u16 = 92;
 
@@ -75,17 +76,17 @@ pub enum Way {
 }
 
 // Along the parts of a path, from a key that was tested. Each search is made on behalf of the key that the way stands on.
-fn descend(bins: &[u8], from: Offset, path: &[u16]) -> Way
+fn descend(bins: &[u8], from: Offset, path: &[u16], how: How) -> Way
     requires { ⌜ isPath (now path) ≡ true ⌝ }
     requires { ⌜ keyFault Header (now bins) [] from ≡ Sound ⌝ }
-    ensures { λ r. ⌜ r ≡ descendTo (now (bins .entry)) from (partsOf (now (path .entry))) ⌝ }
+    ensures { λ r. ⌜ r ≡ descendBy how (now (bins .entry)) from (partsOf (now (path .entry))) ⌝ }
 {
     let mut key = from;
     let mut start: usize = 0;
     while start < path.len() {
         let end = part_end(path, start);
         let k = records::key_fields(bins, key);
-        match search::search_below(bins, &path[start..end], k) {
+        match search::below(bins, &path[start..end], k, how) {
             Look::Missing => {
                 return Way::Missing(key);
             }
@@ -105,13 +106,13 @@ fn descend(bins: &[u8], from: Offset, path: &[u16]) -> Way
 }
 
 // The key of a path. The root's own record is read for every path.
-fn lookup_key(bins: &[u8], root: Offset, path: &[u16]) -> Way
+fn lookup_key(bins: &[u8], root: Offset, path: &[u16], how: How) -> Way
     requires { ⌜ isPath (now path) ≡ true ⌝ }
-    ensures { λ r. ⌜ r ≡ lookupKey (now (bins .entry)) root (partsOf (now (path .entry))) ⌝ }
+    ensures { λ r. ⌜ r ≡ lookupKeyBy how (now (bins .entry)) root (partsOf (now (path .entry))) ⌝ }
 {
     match records::key_at(bins, b"", Rule::Header, root) {
         Keyed::Flawed(f) => Way::Faulty(fields::refused(Offset(fields::NO_KEY), f)),
-        Keyed::Whole(_) => descend(bins, root, path),
+        Keyed::Whole(_) => descend(bins, root, path, how),
     }
 }
 
@@ -131,13 +132,13 @@ fn open_flaw(hive: &[u8], path: &[u16]) -> Verdict
     }
 }
 
-// The key of a path in a hive.
-pub fn key_look(hive: &[u8], path: &[u16]) -> Way
-    ensures { λ r. ⌜ r ≡ keyLook (now (hive .entry)) (now (path .entry)) ⌝ }
+// The key of a path in a hive, by either search.
+pub fn key_look(hive: &[u8], path: &[u16], how: How) -> Way
+    ensures { λ r. ⌜ r ≡ keyLookBy how (now (hive .entry)) (now (path .entry)) ⌝ }
 {
     match open_flaw(hive, path) {
         Verdict::Flawed(f) => Way::Faulty(fields::refused(Offset(fields::NO_KEY), f)),
-        Verdict::Sound => lookup_key(base::bins_of(hive), base::root_of(hive), path),
+        Verdict::Sound => lookup_key(base::bins_of(hive), base::root_of(hive), path, how),
     }
 }
 
@@ -146,11 +147,10 @@ pub enum KeyFound {
     Refused(Refusal),
 }
 
-// The offset of the key under a path.
-pub fn find_key(hive: &[u8], path: &[u16]) -> KeyFound
-    ensures { λ r. ⌜ r ≡ findAnswer (now (hive .entry)) (now (path .entry)) ⌝ }
+fn key_by(hive: &[u8], path: &[u16], how: How) -> KeyFound
+    ensures { λ r. ⌜ r ≡ findBy how (now (hive .entry)) (now (path .entry)) ⌝ }
 {
-    match key_look(hive, path) {
+    match key_look(hive, path, how) {
         Way::Found(o) => KeyFound::At(o),
         Way::Missing(key) => KeyFound::Refused(fields::refused(
             key,
@@ -161,4 +161,19 @@ pub fn find_key(hive: &[u8], path: &[u16]) -> KeyFound
         )),
         Way::Faulty(r) => KeyFound::Refused(r),
     }
+}
+
+// The offset of the key under a path.
+pub fn find_key(hive: &[u8], path: &[u16]) -> KeyFound
+    ensures { λ r. ⌜ r ≡ findAnswer (now (hive .entry)) (now (path .entry)) ⌝ }
+{
+    key_by(hive, path, How::InTurn)
+}
+
+// The same by halves: a few dozen key records for each part of the path, however many siblings there are. It answers as `find_key` in every hive that
+// the check accepts.
+pub fn quick_key(hive: &[u8], path: &[u16]) -> KeyFound
+    ensures { λ r. ⌜ r ≡ quickAnswer (now (hive .entry)) (now (path .entry)) ⌝ }
+{
+    key_by(hive, path, How::Halving)
 }

@@ -168,6 +168,14 @@ pub fn hash_of(bins: &[u8], n: Name) -> u32
     names::hash(name_part(bins, n), n.narrow)
 }
 
+// A stored name against a given one.
+pub fn order_of(bins: &[u8], n: Name, name: &[u16]) -> names::Order
+    requires { ⌜ NameIn (now bins) n ⌝ }
+    ensures { λ r. ⌜ r ≡ compare (codesOf (now (bins .entry)) n) (now (name .entry)) ⌝ }
+{
+    names::compare_name(name_part(bins, n), n.narrow, name)
+}
+
 // Whether a stored name is the given one.
 pub fn is_called(bins: &[u8], n: Name, name: &[u16]) -> bool
     requires { ⌜ NameIn (now bins) n ⌝ }

@@ -3,3 +3,7 @@ pub mod Finds
 pub mod Searches
 pub mod Turns
 pub mod Refusals
+pub mod Asks
+pub mod Halved
+pub mod Quick
+pub mod Quick_found

@@ -35,7 +35,7 @@ use Rattle.records.proofs.Facts.{key-exactly}
 use Rattle.tree.proofs.Stands.{values-of, of-values, lists-of, of-lists, key-of, of-key}
 use Rattle.tree.proofs.Charges.{both-free, free, key-parts, key-zero, key-free, lists-free, tree-free}
 
-before-is : (o : Ordering) → isBefore o ≡ true → o ≡ Before
+pub before-is : (o : Ordering) → isBefore o ≡ true → o ≡ Before
 before-is Before e = refl
 before-is Same e = absurd (let z : _≡_ {A = ℕ} 0 1 = cc in omega arith)
 before-is Behind e = absurd (let z : _≡_ {A = ℕ} 0 1 = cc in omega arith)

@@ -52,7 +52,7 @@ lastArrival : Offset → Arrival → List Child → Arrival
 lastArrival key l [] = l
 lastArrival key l (c ∷ cs) = lastArrival key (After key (c .at)) cs
 
-last-at : (c e : Child) (cs : List Child) → getD (c ∷ e ∷ cs) (length (c ∷ e ∷ cs) - 1) noChild ≡ getD (e ∷ cs) (length (e ∷ cs) - 1) noChild
+pub last-at : (c e : Child) (cs : List Child) → getD (c ∷ e ∷ cs) (length (c ∷ e ∷ cs) - 1) noChild ≡ getD (e ∷ cs) (length (e ∷ cs) - 1) noChild
 last-at c e cs =
     let p : length (c ∷ e ∷ cs) - 1 ≡ suc (length (e ∷ cs) - 1) = omega arith in
     ap (λ (i : ℕ). getD (c ∷ e ∷ cs) i noChild) p

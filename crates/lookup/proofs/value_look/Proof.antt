@@ -24,13 +24,13 @@ enum-known-o : tie.Need-enum-known-o
 enum-known-o c = search needs
 
 bins-of-requires : tie.Need-bins-of-requires
-bins-of-requires c κs = look-facts _ _ (sym (c .before .before .before .key-look .ensures) ∙ c .before .o .given .1) .0
+bins-of-requires c κs = look-facts _ _ _ (sym (c .before .before .before .key-look .ensures) ∙ c .before .o .given .1) .0
 
 key-fields-requires : tie.Need-key-fields-requires
-key-fields-requires c κs = rw (c .bins-of .ensures) (key-room _ _ _ _ (look-facts _ _ (sym (c .before .before .before .before .key-look .ensures) ∙ c .before .before .o .given .1) .1))
+key-fields-requires c κs = rw (c .bins-of .ensures) (key-room _ _ _ _ (look-facts _ _ _ (sym (c .before .before .before .before .key-look .ensures) ∙ c .before .before .o .given .1) .1))
 
 minor-of-requires : tie.Need-minor-of-requires
-minor-of-requires c κs = look-facts _ _ (sym (c .before .before .before .before .before .key-look .ensures) ∙ c .before .before .before .o .given .1) .0
+minor-of-requires c κs = look-facts _ _ _ (sym (c .before .before .before .before .before .key-look .ensures) ∙ c .before .before .before .o .given .1) .0
 
 lookup-value-requires : tie.Need-lookup-value-requires
 lookup-value-requires c κs = search needs
@@ -39,13 +39,13 @@ in-key-requires : tie.Need-in-key-requires
 in-key-requires c κs = search needs
 
 returns : tie.Need-returns
-returns c = sym (value-faulty _ _ _ (sym (c .before .before .before .key-look .ensures) ∙ c .before .r .given .1))
+returns c = sym (value-faulty _ _ _ _ (sym (c .before .before .before .key-look .ensures) ∙ c .before .r .given .1))
 
 returns-2 : tie.Need-returns-2
-returns-2 c = ap Faulty (c .refused .ensures) ∙ sym (value-keyless _ _ _ (sym (c .before .before .before .before .key-look .ensures) ∙ c .before .before .key .given .1))
+returns-2 c = ap Faulty (c .refused .ensures) ∙ sym (value-keyless _ _ _ _ (sym (c .before .before .before .before .key-look .ensures) ∙ c .before .before .key .given .1))
 
 returns-3 : tie.Need-returns-3
-returns-3 c = c .in-key .ensures ∙ ap (inKey _) (c .before .lookup-value .ensures) ∙ rw (c .before .before .before .key-fields .ensures, c .before .before .before .before .bins-of .ensures, c .before .before .minor-of .ensures) (sym (value-below _ _ _ (sym (c .before .before .before .before .before .before .before .before .key-look .ensures) ∙ c .before .before .before .before .before .before .o .given .1)))
+returns-3 c = c .in-key .ensures ∙ ap (inKey _) (c .before .lookup-value .ensures) ∙ rw (c .before .before .before .key-fields .ensures, c .before .before .before .before .bins-of .ensures, c .before .before .minor-of .ensures) (sym (value-below _ _ _ _ (sym (c .before .before .before .before .before .before .before .before .key-look .ensures) ∙ c .before .before .before .before .before .before .o .given .1)))
 
 pub value-look-spec : {M : Type 1} → statement M
 value-look-spec =

@@ -10,13 +10,13 @@ use Rattle.paths.proofs.descend.Statement.{statement}
 use Rattle.paths.proofs.descend.Tie as tie
 
 abbrev Inv-loop : tie.InvT-loop
-Inv-loop bins path key₀ start₀ key start = Descended bins key₀ path key start
+Inv-loop bins path how key₀ start₀ key start = Descended how bins key₀ path key start
 
 abbrev μ-loop : tie.MeasureT-loop
-μ-loop bins path key₀ start₀ key start = length path - start
+μ-loop bins path how key₀ start₀ key start = length path - start
 
 loop-holds : tie.Need-loop-holds Inv-loop μ-loop
-loop-holds c = descended-start _ _ _ (c .before .before .pre .0) (c .before .before .pre .1)
+loop-holds c = descended-start _ _ _ _ (c .before .before .pre .0) (c .before .before .pre .1)
 
 part-end-requires : tie.Need-part-end-requires Inv-loop μ-loop
 part-end-requires c κs = search needs
@@ -24,26 +24,26 @@ part-end-requires c κs = search needs
 key-fields-requires : tie.Need-key-fields-requires Inv-loop μ-loop
 key-fields-requires c κs = key-room _ _ _ _ (c .before .before .loop .inv .tested)
 
-mul-search-below : tie.Need-mul-search-below Inv-loop μ-loop
-mul-search-below c = search needs
+mul-below : tie.Need-mul-below Inv-loop μ-loop
+mul-below c = search needs
 
-sub-search-below : tie.Need-sub-search-below Inv-loop μ-loop
-sub-search-below c = search needs
+sub-below : tie.Need-sub-below Inv-loop μ-loop
+sub-below c = search needs
 
-part-search-below-start : tie.Need-part-search-below-start Inv-loop μ-loop
-part-search-below-start c = search needs
+part-below-start : tie.Need-part-below-start Inv-loop μ-loop
+part-below-start c = search needs
 
-part-search-below-end : tie.Need-part-search-below-end Inv-loop μ-loop
-part-search-below-end c = end-within _ _ _ (c .before .before .loop-test .taken) (c .before .part-end .ensures) (c .before .before .before .loop .inv .good)
+part-below-end : tie.Need-part-below-end Inv-loop μ-loop
+part-below-end c = end-within _ _ _ (c .before .before .loop-test .taken) (c .before .part-end .ensures) (c .before .before .before .loop .inv .good)
 
-search-below-requires : tie.Need-search-below-requires Inv-loop μ-loop
-search-below-requires c κs = search needs
+below-requires : tie.Need-below-requires Inv-loop μ-loop
+below-requires c κs = search needs
 
 enum-told : tie.Need-enum-told Inv-loop μ-loop
 enum-told c = search needs
 
 returns : tie.Need-returns Inv-loop μ-loop
-returns c = let l = c .before .before .before .before .before .before .before .loop in sym (descended-missing _ _ _ _ _ (l .inv) _ (c .before .before .before .before .before .before .loop-test .taken) (c .before .before .before .before .before .part-end .ensures) _ (c .before .before .before .before .key-fields .ensures) _ (c .before .before .search-below .ensures) (c .enum-told .given .1))
+returns c = let l = c .before .before .before .before .before .before .before .loop in sym (descended-missing _ _ _ _ _ _ (l .inv) _ (c .before .before .before .before .before .before .loop-test .taken) (c .before .before .before .before .before .part-end .ensures) _ (c .before .before .before .before .key-fields .ensures) _ (c .before .before .below .ensures) (c .enum-told .given .1))
 
 enum-known-f : tie.Need-enum-known-f Inv-loop μ-loop
 enum-known-f c = search needs
@@ -52,7 +52,7 @@ refused-requires : tie.Need-refused-requires Inv-loop μ-loop
 refused-requires c κs = search needs
 
 returns-2 : tie.Need-returns-2 Inv-loop μ-loop
-returns-2 c = let l = c .before .before .before .before .before .before .before .before .before .loop in ap Faulty (c .refused .ensures) ∙ sym (descended-faulty _ _ _ _ _ (l .inv) _ (c .before .before .before .before .before .before .before .before .loop-test .taken) (c .before .before .before .before .before .before .before .part-end .ensures) _ (c .before .before .before .before .before .before .key-fields .ensures) _ (c .before .before .before .before .search-below .ensures) (c .before .before .f .given .1))
+returns-2 c = let l = c .before .before .before .before .before .before .before .before .before .loop in ap Faulty (c .refused .ensures) ∙ sym (descended-faulty _ _ _ _ _ _ (l .inv) _ (c .before .before .before .before .before .before .before .before .loop-test .taken) (c .before .before .before .before .before .before .before .part-end .ensures) _ (c .before .before .before .before .before .before .key-fields .ensures) _ (c .before .before .before .before .below .ensures) (c .before .before .f .given .1))
 
 enum-known-o : tie.Need-enum-known-o Inv-loop μ-loop
 enum-known-o c = search needs
@@ -64,16 +64,16 @@ loop-less : tie.Need-loop-less Inv-loop μ-loop
 loop-less c = search needs
 
 loop-again : tie.Need-loop-again Inv-loop μ-loop
-loop-again c = let l = c .before .before .before .before .before .before .before .before .before .loop in descended-cut _ _ _ _ _ (l .inv) _ (c .before .before .before .before .before .before .before .before .loop-test .taken) (c .before .before .before .before .before .before .before .part-end .ensures) _ (c .before .before .before .before .before .before .key-fields .ensures) _ (c .before .before .before .before .search-below .ensures) (c .before .before .o .given .1) (c .if1 .taken)
+loop-again c = let l = c .before .before .before .before .before .before .before .before .before .loop in descended-cut _ _ _ _ _ _ (l .inv) _ (c .before .before .before .before .before .before .before .before .loop-test .taken) (c .before .before .before .before .before .before .before .part-end .ensures) _ (c .before .before .before .before .before .before .key-fields .ensures) _ (c .before .before .before .before .below .ensures) (c .before .before .o .given .1) (c .if1 .taken)
 
 loop-less-2 : tie.Need-loop-less-2 Inv-loop μ-loop
 loop-less-2 c = search needs
 
 loop-again-2 : tie.Need-loop-again-2 Inv-loop μ-loop
-loop-again-2 c = let l = c .before .before .before .before .before .before .before .before .before .loop in descended-last _ _ _ _ _ (l .inv) _ (c .before .before .before .before .before .before .before .before .loop-test .taken) (c .before .before .before .before .before .before .before .part-end .ensures) _ (c .before .before .before .before .before .before .key-fields .ensures) _ (c .before .before .before .before .search-below .ensures) (c .before .before .o .given .1) (c .if1 .left)
+loop-again-2 c = let l = c .before .before .before .before .before .before .before .before .before .loop in descended-last _ _ _ _ _ _ (l .inv) _ (c .before .before .before .before .before .before .before .before .loop-test .taken) (c .before .before .before .before .before .before .before .part-end .ensures) _ (c .before .before .before .before .before .before .key-fields .ensures) _ (c .before .before .before .before .below .ensures) (c .before .before .o .given .1) (c .if1 .left)
 
 returns-3 : tie.Need-returns-3 Inv-loop μ-loop
-returns-3 c = sym (descended-end _ _ _ _ _ (c .before .loop .inv) (c .loop-test .left))
+returns-3 c = sym (descended-end _ _ _ _ _ _ (c .before .loop .inv) (c .loop-test .left))
 
 pub descend-spec : {M : Type 1} → statement M
 descend-spec =
@@ -84,11 +84,11 @@ descend-spec =
     loop-holds
     part-end-requires
     key-fields-requires
-    mul-search-below
-    sub-search-below
-    part-search-below-start
-    part-search-below-end
-    search-below-requires
+    mul-below
+    sub-below
+    part-below-start
+    part-below-end
+    below-requires
     enum-told
     returns
     enum-known-f

@@ -28,10 +28,10 @@ lookup-key-requires : tie.Need-lookup-key-requires
 lookup-key-requires c κs = open-facts _ _ (sym (c .before .before .before .before .open-flaw .ensures) ∙ c .before .before .enum-told .given .1) .1
 
 returns : tie.Need-returns
-returns c = ap Faulty (c .refused .ensures) ∙ sym (look-stop _ _ (sym (c .before .before .before .before .open-flaw .ensures) ∙ c .before .before .f .given .1))
+returns c = ap Faulty (c .refused .ensures) ∙ sym (look-stop _ _ _ (sym (c .before .before .before .before .open-flaw .ensures) ∙ c .before .before .f .given .1))
 
 returns-2 : tie.Need-returns-2
-returns-2 c = c .lookup-key .ensures ∙ rw (c .before .before .bins-of .ensures, c .before .root-of .ensures) (sym (look-on _ _ (sym (c .before .before .before .before .before .open-flaw .ensures) ∙ c .before .before .before .enum-told .given .1)))
+returns-2 c = c .lookup-key .ensures ∙ rw (c .before .before .bins-of .ensures, c .before .root-of .ensures) (sym (look-on _ _ _ (sym (c .before .before .before .before .before .open-flaw .ensures) ∙ c .before .before .before .enum-told .given .1)))
 
 pub key-look-spec : {M : Type 1} → statement M
 key-look-spec =

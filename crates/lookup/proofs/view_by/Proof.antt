@@ -5,15 +5,15 @@ use Prim.Native.Nat.{_-_}
 use mathlib.Core.Path.{sym, _∙_}
 use native.Mathlib.Omega.{arith}
 use borrow.Author.Needs.{needs}
-use Rattle.lookup.proofs.value_view.Statement.{statement}
-use Rattle.lookup.proofs.value_view.Tie as tie
+use Rattle.lookup.proofs.view_by.Statement.{statement}
+use Rattle.lookup.proofs.view_by.Tie as tie
 
 -- the part that holds the data
 shown : (c : tie.After-struct-known) → Shown (now (c .before .before .before .before .before .before .before .before .args .hive)) (c .before .before .i .given .0 .0)
-shown c = let a = view-answered _ _ _ (sym (c .before .before .before .before .view-info .ensures) ∙ c .before .before .i .given .1) in view-shown _ _ _ _ (a .0) (a .1)
+shown c = let a = view-answered _ _ _ _ (sym (c .before .before .before .before .viewed-by .ensures) ∙ c .before .before .i .given .1) in view-shown _ _ _ _ _ (a .0) (a .1)
 
-view-info-requires : tie.Need-view-info-requires
-view-info-requires c κs = search needs
+viewed-by-requires : tie.Need-viewed-by-requires
+viewed-by-requires c κs = search needs
 
 enum-told : tie.Need-enum-told
 enum-told c = search needs
@@ -43,16 +43,16 @@ part-result-end-2 : tie.Need-part-result-end-2
 part-result-end-2 c = let s = shown c in omega arith
 
 returns : tie.Need-returns
-returns c = let e = sym (c .before .before .before .view-info .ensures) ∙ c .before .enum-told .given .1 in (sym (view-none _ _ _ e), rw (start-none _ _ _ e))
+returns c = let e = sym (c .before .before .before .viewed-by .ensures) ∙ c .before .enum-told .given .1 in (sym (view-none _ _ _ _ e), rw (start-none _ _ _ _ e))
 
 returns-2 : tie.Need-returns-2
-returns-2 c = let i = c .before .before .before .i .given .0 .0 in let e = sym (c .before .before .before .before .before .view-info .ensures) ∙ c .before .before .before .i .given .1 in (rw (add-sub-cancel-left (i .at .0) (i .len)) (sym (view-part _ _ _ e)), rw (start-part _ _ _ e))
+returns-2 c = let i = c .before .before .before .i .given .0 .0 in let e = sym (c .before .before .before .before .before .viewed-by .ensures) ∙ c .before .before .before .i .given .1 in (rw (add-sub-cancel-left (i .at .0) (i .len)) (sym (view-part _ _ _ _ e)), rw (start-part _ _ _ _ e))
 
-pub value-view-spec : {M : Type 1} → statement M
-value-view-spec =
+pub view-by-spec : {M : Type 1} → statement M
+view-by-spec =
     tie.close
     (tie.spec
-    view-info-requires
+    viewed-by-requires
     enum-told
     sub-result
     part-result-start

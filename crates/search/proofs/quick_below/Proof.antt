@@ -1,0 +1,44 @@
+use Rattle.search.proofs.Searches.{below-room}
+use Rattle.search.proofs.Asks.{below-none, below-bad, below-is}
+use Prim.Native.Nat.{_-_}
+use mathlib.Core.Path.{sym, _∙_}
+use borrow.Author.Needs.{needs}
+use Rattle.search.proofs.quick_below.Statement.{statement}
+use Rattle.search.proofs.quick_below.Tie as tie
+
+returns : tie.Need-returns
+returns c = sym (below-none _ _ _ (c .if1 .taken))
+
+slice-aggregate-head-at : tie.Need-slice-aggregate-head-at
+slice-aggregate-head-at c = search needs
+
+head-at-requires : tie.Need-head-at-requires
+head-at-requires c κs = search needs
+
+enum-known-f : tie.Need-enum-known-f
+enum-known-f c = search needs
+
+enum-known-ls : tie.Need-enum-known-ls
+enum-known-ls c = search needs
+
+quick-leaves-requires : tie.Need-quick-leaves-requires
+quick-leaves-requires c κs = below-room _ (c .before .before .before .before .before .before .before .before .before .args .name .now) (c .before .before .before .before .before .before .before .before .before .args .k) (sym (c .before .before .before .head-at .ensures) ∙ c .before .ls .given .1)
+
+returns-2 : tie.Need-returns-2
+returns-2 c = sym (below-bad _ _ _ (c .before .before .before .before .before .before .if1 .left) (sym (c .before .before .before .head-at .ensures) ∙ c .before .f .given .1))
+
+returns-3 : tie.Need-returns-3
+returns-3 c = c .quick-leaves .ensures ∙ sym (below-is _ _ _ (sym (c .before .before .before .before .head-at .ensures) ∙ c .before .before .ls .given .1) (c .before .before .before .before .before .before .before .if1 .left))
+
+pub quick-below-spec : {M : Type 1} → statement M
+quick-below-spec =
+    tie.close
+    (tie.spec
+    returns
+    slice-aggregate-head-at
+    head-at-requires
+    enum-known-f
+    enum-known-ls
+    quick-leaves-requires
+    returns-2
+    returns-3)

@@ -1,0 +1,101 @@
+use Rattle.records.specs.Steps.{elementsOf, noChild}
+use Rattle.records.proofs.LawsElements.{elements-length, element-at}
+use Rattle.search.specs.Quick.{askKey, quickKeys}
+use Rattle.search.proofs.Asks.{leftOf, halves-start, halves-over, halves-none, halves-left, halves-right, halves-stop}
+use Prim.Native.Nat.{_-_, _≤_}
+use mathlib.Core.Path.{_≡_, sym, _∙_}
+use mathlib.Core.Logic.{⊎-elim}
+use native.Mathlib.Omega.{arith}
+use borrow.Author.Needs.{needs}
+use Rattle.search.proofs.quick_keys.Statement.{statement}
+use Rattle.search.proofs.quick_keys.Tie as tie
+
+abbrev Inv-loop : tie.InvT-loop
+Inv-loop bins name leaf lo₀ hi₀ turns₀ lo hi turns =
+    (hi ≤ leaf .count) × (quickKeys bins name (elementsOf bins leaf) ≡ leftOf (askKey bins name) noChild (elementsOf bins leaf) turns lo hi)
+
+abbrev μ-loop : tie.MeasureT-loop
+μ-loop bins name leaf lo₀ hi₀ turns₀ lo hi turns = turns
+
+loop-holds : tie.Need-loop-holds Inv-loop μ-loop
+unfolding quickKeys
+loop-holds c = (omega arith, halves-start (askKey _ _) noChild _ (elements-length _ _))
+
+returns : tie.Need-returns Inv-loop μ-loop
+returns c =
+    let l = c .before .before .loop in
+    let a = c .before .before .before .before .before .args in
+    sym (halves-none (askKey (a .bins .now) (a .name .now)) noChild (elementsOf (a .bins .now) (a .leaf)) (l .turns) (l .lo) (l .hi) (l .inv .1) (omega arith) (omega arith))
+
+sub-mid : tie.Need-sub-mid Inv-loop μ-loop
+sub-mid c = search needs
+
+add-mid : tie.Need-add-mid Inv-loop μ-loop
+add-mid c = search needs
+
+child-of-requires : tie.Need-child-of-requires Inv-loop μ-loop
+child-of-requires c κs = search needs
+
+ask-key-requires : tie.Need-ask-key-requires Inv-loop μ-loop
+ask-key-requires c κs = search needs
+
+enum-told : tie.Need-enum-told Inv-loop μ-loop
+enum-told c = search needs
+
+enum-told-2 : tie.Need-enum-told-2 Inv-loop μ-loop
+enum-told-2 c = search needs
+
+add-lo : tie.Need-add-lo Inv-loop μ-loop
+add-lo c = search needs
+
+enum-known-a : tie.Need-enum-known-a Inv-loop μ-loop
+enum-known-a c = search needs
+
+returns-2 : tie.Need-returns-2 Inv-loop μ-loop
+returns-2 c =
+    let l = c .before .before .before .before .before .before .before .loop in
+    let a = c .before .before .before .before .before .before .before .before .before .before .args in
+    sym (halves-stop (askKey (a .bins .now) (a .name .now)) noChild (elementsOf (a .bins .now) (a .leaf)) (l .turns) (l .lo) (l .hi) (l .inv .1) (omega arith) (omega arith) (element-at _ _ _ (omega arith) (c .before .before .before .before .child-of .ensures)) (c .before .before .before .ask-key .ensures) (c .before .a .given .1))
+
+sub-turns : tie.Need-sub-turns Inv-loop μ-loop
+sub-turns c = search needs
+
+loop-less : tie.Need-loop-less Inv-loop μ-loop
+loop-less c = search needs
+
+loop-again : tie.Need-loop-again Inv-loop μ-loop
+loop-again c =
+    let l = c .before .before .before .before .before .loop in
+    let a = c .before .before .before .before .before .before .before .before .args in
+    ⊎-elim
+    (λ w. rw (w .2, w .3) (omega arith, halves-left (askKey (a .bins .now) (a .name .now)) noChild (elementsOf (a .bins .now) (a .leaf)) (l .turns) (l .lo) (l .hi) (l .inv .1) (omega arith) (omega arith) (element-at _ _ _ (omega arith) (c .before .before .child-of .ensures)) (c .before .ask-key .ensures) (w .1 .given .1)))
+    (λ w. rw (w .2, w .3) (l .inv .0, halves-right (askKey (a .bins .now) (a .name .now)) noChild (elementsOf (a .bins .now) (a .leaf)) (l .turns) (l .lo) (l .hi) (l .inv .1) (omega arith) (omega arith) (element-at _ _ _ (omega arith) (c .before .before .child-of .ensures)) (c .before .ask-key .ensures) (w .1 .given .1)))
+    (c .match .came)
+
+returns-3 : tie.Need-returns-3 Inv-loop μ-loop
+returns-3 c =
+    let l = c .before .loop in
+    let a = c .before .before .before .before .args in
+    sym (halves-over (askKey (a .bins .now) (a .name .now)) noChild (elementsOf (a .bins .now) (a .leaf)) (l .turns) (l .lo) (l .hi) (l .inv .1) (omega arith))
+
+pub quick-keys-spec : {M : Type 1} → statement M
+quick-keys-spec =
+    tie.close
+    (tie.spec
+    Inv-loop
+    μ-loop
+    loop-holds
+    returns
+    sub-mid
+    add-mid
+    child-of-requires
+    ask-key-requires
+    enum-told
+    enum-told-2
+    add-lo
+    enum-known-a
+    returns-2
+    sub-turns
+    loop-less
+    loop-again
+    returns-3)
