@@ -339,6 +339,17 @@ class Case:
         order(10)
         self.disk[:SECTOR] = self.mem[:SECTOR]
 
+    def end(self):
+        """All pages are in: a closing call whose sector is lost, one whose sector lands, and then the hive is clean."""
+        self.close()
+        self.fail()
+        self.start()
+        self.close()
+        self.land_first()
+        self.fail()
+        self.start()
+        self.show()
+
     def fail(self):
         order(11)
         self.mem[:] = self.disk
@@ -459,14 +470,7 @@ def cuts():
                     case.fail()
                     case.close()
                     case.show()
-            case.close()
-            case.fail()                                    # the closing sector was not sent yet
-            case.start()
-            case.close()
-            case.land_first()
-            case.fail()
-            case.start()
-            case.show()
+            case.end()
 
 
 def refusals():
@@ -645,14 +649,7 @@ def new_cuts():
                     case.fail()
                     case.close()
                     case.show()
-            case.close()
-            case.fail()                                    # the closing sector was not sent yet
-            case.start()
-            case.close()
-            case.land_first()
-            case.fail()
-            case.start()
-            case.show()
+            case.end()
 
 
 def new_versions():
