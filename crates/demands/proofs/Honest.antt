@@ -19,7 +19,9 @@ use Rattle.records.specs.Keys.{isKeyName, isKey, keyFault, keyIn, keyOf, codesO
 use Rattle.records.specs.Lists.{childrenIn, leavesBelow, childrenBelow, listsFault}
 use Rattle.values.specs.Lists.{valuesOf, valueListFault, valuesFault}
 use Rattle.tree.specs.declared.Checked.the-variants as checked
-use Rattle.tree.specs.Tree.{_after_, placeFault, hashFault, levelFault, totalFault, restFault, ownFault, keyCharge, listCharge, treeCharge, joined, keysIn, valuesIn, checkAnswer}
+use Rattle.tree.specs.Tree.{placeFault, hashFault, levelFault, totalFault, restFault, ownFault, keyCharge, listCharge, treeCharge, valuesIn, checkAnswer}
+use Rattle.records.specs.Listed.{joined, keysIn}
+use Rattle.fields.specs.Charges.{_after_}
 use Rattle.tree.proofs.Exactly.{accepted-as}
 use Rattle.paths.specs.declared.KeyFound.the-variants as found
 use Rattle.paths.specs.Paths.{split, partsOf, isPart, areParts, isPath, pathFault}

@@ -22,7 +22,8 @@ use Rattle.values.specs.Lists.{valuesOf}
 use Rattle.tree.specs.declared.Checked.the-variants as checked
 use Rattle.tree.specs.declared.Report.{Report}
 use Rattle.tree.specs.Tree.{hiveOf, keysOf, valuesIn, checkAnswer}
-use Rattle.tree.specs.WellFormed.{Once, CleanAndWellFormed}
+use Rattle.records.specs.Listed.{Once}
+use Rattle.tree.specs.WellFormed.{CleanAndWellFormed}
 use Rattle.paths.specs.declared.KeyFound.the-variants as found
 use Rattle.paths.specs.Paths.{isPath, partsOf}
 use Rattle.paths.specs.Answers.{findAnswer, quickAnswer}

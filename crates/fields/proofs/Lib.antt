@@ -1,5 +1,6 @@
 pub mod Below
 pub mod Bools
+pub mod Charges
 pub mod Every
 pub mod Firsts
 pub mod Loops

@@ -19,7 +19,9 @@ use Rattle.names.specs.Hashing.{mixed, mixedAll, hashOf}
 use Rattle.records.specs.Keys.{isKeyName, isKey, keyFault, keyIn, keyOf, codesOf}
 use Rattle.records.specs.Lists.{childrenIn, leavesBelow, childrenBelow, listsFault}
 use Rattle.values.specs.Lists.{valuesOf, valueListFault, valuesFault}
-use Rattle.tree.specs.Tree.{_after_, placeFault, hashFault, levelFault, totalFault, restFault, ownFault, keyCharge, listCharge, treeCharge, joined, keysIn, valuesIn, checkAnswer}
+use Rattle.tree.specs.Tree.{placeFault, hashFault, levelFault, totalFault, restFault, ownFault, keyCharge, listCharge, treeCharge, valuesIn, checkAnswer}
+use Rattle.records.specs.Listed.{joined, keysIn}
+use Rattle.fields.specs.Charges.{_after_}
 use Rattle.sectors.specs.Sector.{page}
 use Rattle.sectors.proofs.Logged.{same-true}
 use Rattle.bitmap.specs.Bits.{bitsBefore, nextAmong, zeros}

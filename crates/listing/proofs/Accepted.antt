@@ -23,10 +23,11 @@ use Rattle.records.specs.Steps.{noChild}
 use Rattle.values.specs.Records.{valueOf}
 use Rattle.values.specs.Lists.{valuesOf}
 use Rattle.tree.specs.declared.Hive.{Hive}
-use Rattle.tree.specs.Tree.{keysIn, levels, hiveOf, keysOf}
+use Rattle.records.specs.Listed.{keysIn}
+use Rattle.records.proofs.Elements.{at-in}
+use Rattle.records.proofs.Listed.{in-joined}
+use Rattle.tree.specs.Tree.{levels, hiveOf, keysOf}
 use Rattle.tree.specs.WellFormed.{KeyStands, TreeStands, key, CleanAndWellFormed}
-use Rattle.tree.proofs.Elements.{at-in}
-use Rattle.tree.proofs.Once.{in-joined}
 use Rattle.search.specs.declared.Look.{Look}
 use Rattle.search.specs.declared.Look.the-variants.{Found, Missing}
 use Rattle.search.proofs.Finds.{key-good, list-head, leaves-good}

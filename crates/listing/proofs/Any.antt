@@ -32,7 +32,7 @@ use Rattle.values.specs.Lists.{valuesOf, valueListFault, wholeValueFault}
 use Rattle.values.specs.Refused.{a-key, Fit, one-of, Lists, its-list, its-leaf, its-child}
 use Rattle.values.proofs.LawsValues.{name-inside}
 use Rattle.values.proofs.Refusals.{key-fit, key-unfit, list-fit, list-unfit, leaf-unfit, value-fit, value-unfit, value-list-unfit, value-named, data-unfit}
-use Rattle.tree.proofs.Elements.{at-in}
+use Rattle.records.proofs.Elements.{at-in}
 use Rattle.search.specs.declared.Look.{Look}
 use Rattle.search.specs.declared.Look.the-variants.{Found, Missing, Faulty}
 use Rattle.search.specs.Search.{onSound}

@@ -11,9 +11,10 @@ use Rattle.cells.specs.Tiled.{BinsTile}
 use Rattle.names.proofs.LawsOrder.{same-reflexive}
 use Rattle.records.specs.Lists.{children}
 use Rattle.tree.specs.declared.Hive.{Hive}
-use Rattle.tree.specs.Tree.{nameAt, keysIn, levels, hiveOf, keysOf}
+use Rattle.records.specs.Listed.{keysIn}
+use Rattle.records.proofs.Listed.{in-joined}
+use Rattle.tree.specs.Tree.{nameAt, levels, hiveOf, keysOf}
 use Rattle.tree.specs.WellFormed.{CleanAndWellFormed, TreeStands, key}
-use Rattle.tree.proofs.Once.{in-joined}
 use Rattle.search.proofs.Finds.{key-good}
 use Rattle.paths.specs.declared.KeyFound.the-variants.{At}
 use Rattle.paths.specs.Paths.{isPath}

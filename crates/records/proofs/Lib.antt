@@ -10,5 +10,8 @@ pub mod LawsPlaces
 pub mod LawsElements
 pub mod Totals
 pub mod LawsLists
+pub mod Elements
+pub mod Listed
+pub mod Depth
 pub mod ListFronts
 pub mod Figures

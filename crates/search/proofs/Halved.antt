@@ -9,7 +9,7 @@ use mathlib.Core.List.{List, [], _∷_, List·Memᴰ, List·Memᴰ·head}
 use lib.Dec.{ltb}
 use lib.ListN.{length, getD}
 use borrow.Author.Tests.{ltb-true, ltb-false}
-use Rattle.tree.proofs.Elements.{at-in}
+use Rattle.records.proofs.Elements.{at-in}
 use Rattle.search.specs.declared.Look.{Look}
 use Rattle.search.specs.declared.Look.the-variants.{Missing}
 use Rattle.search.specs.declared.Turn.{Turn}

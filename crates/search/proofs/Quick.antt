@@ -29,7 +29,7 @@ use Rattle.tree.specs.declared.Hive.{Hive}
 use Rattle.tree.specs.Tree.{nameAt, isBefore}
 use Rattle.tree.specs.WellFormed.{Ascends, none, more, TreeStands, key}
 use Rattle.tree.proofs.Accepted.{before-is}
-use Rattle.tree.proofs.Elements.{at-in}
+use Rattle.records.proofs.Elements.{at-in}
 use Rattle.tree.proofs.Walks.{last-at}
 use Rattle.search.specs.declared.Look.{Look}
 use Rattle.search.specs.declared.Look.the-variants.{Found, Missing, Faulty}

@@ -27,7 +27,7 @@ use Rattle.records.proofs.LawsPlaces.{leaf-some}
 use Rattle.values.specs.Refused.{one-of, its-list, its-leaf, its-child}
 use Rattle.values.proofs.Refusals.{key-unfit, list-fit, list-unfit, leaf-unfit}
 use Rattle.tree.specs.Tree.{nameAt, isBefore}
-use Rattle.tree.proofs.Elements.{at-in}
+use Rattle.records.proofs.Elements.{at-in}
 use Rattle.search.specs.declared.How.{How}
 use Rattle.search.specs.declared.How.the-variants.{InTurn, Halving}
 use Rattle.search.specs.declared.Look.{Look}

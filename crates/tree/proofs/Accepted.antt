@@ -12,6 +12,8 @@ use Rattle.fields.specs.declared.Offset.{Offset}
 use Rattle.fields.specs.declared.Verdict.the-variants.{Sound}
 use Rattle.fields.specs.declared.Fault.the-variants.{Order, Parent}
 use Rattle.fields.specs.Faults.{flaw, unless}
+use Rattle.fields.specs.Charges.{Free, chargeOf}
+use Rattle.fields.proofs.Charges.{both-free, free}
 use Rattle.fields.proofs.Firsts.{both, sound, held, holds}
 use Rattle.cells.specs.declared.Rule.the-variants.{Map}
 use Rattle.cells.specs.Named.{dataAt}
@@ -29,11 +31,11 @@ use Rattle.records.specs.Lists.{childrenBelow, children}
 use Rattle.tree.specs.declared.Hive.{Hive}
 use Rattle.tree.specs.declared.Arrival.{Arrival}
 use Rattle.tree.specs.declared.Arrival.the-variants.{Start, First, After}
-use Rattle.tree.specs.Tree.{Free, _after_, chargeOf, holder, nameAt, parentFault, isBefore, orderFault, placeFault, hashFault, levelFault, totalFault, restFault, ownFault, keyCharge, listCharge, treeCharge, levels, rootChild}
+use Rattle.tree.specs.Tree.{holder, nameAt, parentFault, isBefore, orderFault, placeFault, hashFault, levelFault, totalFault, restFault, ownFault, keyCharge, listCharge, treeCharge, levels, rootChild}
 use Rattle.tree.specs.WellFormed.{KeyStands, ChildStands, Ascends, none, more, TreeStands, key}
 use Rattle.records.proofs.Facts.{key-exactly}
 use Rattle.tree.proofs.Stands.{values-of, of-values, lists-of, of-lists, key-of, of-key}
-use Rattle.tree.proofs.Charges.{both-free, free, key-parts, key-zero, key-free, lists-free, tree-free}
+use Rattle.tree.proofs.Charges.{key-parts, key-zero, key-free, lists-free, tree-free}
 
 pub before-is : (o : Ordering) → isBefore o ≡ true → o ≡ Before
 before-is Before e = refl

@@ -1,40 +1,34 @@
--- The algebra of charges, and the parts of a key's charge.
+-- The parts of a key's charge, and what an answer says of a charge.
 use Prim.Native.Nat.{ℕ, zero, suc}
 use native.Mathlib.Omega.{arith}
 use mathlib.Core.Path.{_≡_, refl}
 use mathlib.Core.List.{List}
-use Rattle.fields.specs.declared.Offset.{Offset}
-use Rattle.fields.specs.declared.Verdict.{Verdict}
-use Rattle.fields.specs.declared.Verdict.the-variants.{Sound, Flawed}
+use Rattle.fields.specs.declared.Refusal.{Refusal}
+use Rattle.fields.specs.declared.Verdict.the-variants.{Sound}
+use Rattle.fields.specs.Charges.{Charge, Free, Of, chargeOf}
 use Rattle.fields.proofs.Firsts.{both}
+use Rattle.fields.proofs.Charges.{both-free, free, clear-of}
 use Rattle.cells.specs.declared.Rule.the-variants.{Map}
 use Rattle.records.specs.declared.Child.{Child}
 use Rattle.records.specs.declared.Key.{Key}
 use Rattle.records.specs.Keys.{keyFault, keyOf}
 use Rattle.records.specs.Lists.{children, listsFault}
 use Rattle.values.specs.Lists.{valuesFault}
+use Rattle.tree.specs.declared.Checked.the-variants.{Accepted, Refused}
 use Rattle.tree.specs.declared.Hive.{Hive}
+use Rattle.tree.specs.declared.Report.{Report}
 use Rattle.tree.specs.declared.Arrival.{Arrival}
 use Rattle.tree.specs.declared.Arrival.the-variants.{First}
-use Rattle.tree.specs.Tree.{Charge, Free, Of, _after_, chargeOf, holder, placeFault, hashFault, levelFault, totalFault, restFault, ownFault, keyCharge, listCharge, treeCharge}
+use Rattle.tree.specs.Tree.{holder, placeFault, hashFault, levelFault, totalFault, restFault, ownFault, keyCharge, listCharge, treeCharge, answer}
 
-pub both-free : (a b : Charge) → a after b ≡ Free → (a ≡ Free) × (b ≡ Free)
-unfolding _after_
-both-free Free b e = (refl, e)
-both-free (Of f) b e = absurd (let z : _≡_ {A = ℕ} 0 1 = cc in omega arith)
+-- an answer is a refusal exactly when there is a charge
+pub accepted-free : (c : Charge) (r : Report) {s : Report} → answer c r ≡ Accepted s → (c ≡ Free) × (r ≡ s)
+accepted-free Free r e = (refl, cc)
+accepted-free (Of f) r e = absurd (let z : _≡_ {A = ℕ} 0 1 = cc in omega arith)
 
-pub free : (a b : Charge) → a ≡ Free → b ≡ Free → a after b ≡ Free
-unfolding _after_
-free a b p q = rw (p, q)
-
-pub after-assoc : (a b c : Charge) → (a after b) after c ≡ a after b after c
-unfolding _after_
-after-assoc Free b c = refl
-after-assoc (Of f) b c = refl
-
-pub clear-of : (key : Offset) (v : Verdict) → chargeOf key v ≡ Free → v ≡ Sound
-clear-of key Sound e = refl
-clear-of key (Flawed f) e = absurd (let z : _≡_ {A = ℕ} 0 1 = cc in omega arith)
+pub refused-charge : (a : Charge) (r : Report) {f : Refusal} → answer a r ≡ Refused f → a ≡ Of f
+refused-charge Free r e = absurd (let z : _≡_ {A = ℕ} 0 1 = cc in omega arith)
+refused-charge (Of g) r e = cc
 
 -- what a key's own tests say, part by part
 pub record Own (d m : List ℕ) (hive : Hive) (n : ℕ) (k : Key) (c : Child) (l : Arrival) : Type 0 where

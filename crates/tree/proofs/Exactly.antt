@@ -6,6 +6,7 @@ use mathlib.Core.Path.{_≡_, refl, sym, _∙_}
 use mathlib.Core.Logic.{_↔_}
 use mathlib.Core.List.{List}
 use lib.ListN.{length, length-take, length-drop}
+use Rattle.fields.specs.Charges.{Free}
 use Rattle.base.specs.Block.{sector, binsOf, binsData}
 use Rattle.base.proofs.Laws.{base-facts, facts-base}
 use Rattle.cells.specs.declared.Tally.{Tally}
@@ -21,13 +22,10 @@ use Rattle.cells.proofs.Mapped.{surveyed}
 use Rattle.tree.specs.declared.Checked.the-variants.{Accepted}
 use Rattle.tree.specs.declared.Arrival.the-variants.{Start}
 use Rattle.tree.specs.declared.Report.{Report}
-use Rattle.tree.specs.Tree.{Charge, Free, Of, treeCharge, answer, levels, hiveOf, rootChild, keysOf, valuesIn, reportOf, checkAnswer}
+use Rattle.tree.specs.Tree.{treeCharge, levels, hiveOf, rootChild, keysOf, valuesIn, reportOf, checkAnswer}
 use Rattle.tree.specs.WellFormed.{CleanAndWellFormed}
 use Rattle.tree.proofs.Accepted.{root-stands, root-free}
-
-accepted-free : (c : Charge) (r : Report) {s : Report} → answer c r ≡ Accepted s → (c ≡ Free) × (r ≡ s)
-accepted-free Free r e = (refl, cc)
-accepted-free (Of f) r e = absurd (let z : _≡_ {A = ℕ} 0 1 = cc in omega arith)
+use Rattle.tree.proofs.Charges.{accepted-free}
 
 -- what an accepted hive is
 pub record AcceptedAs (h m : List ℕ) (r : Report) : Type 0 where

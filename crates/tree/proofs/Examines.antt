@@ -2,8 +2,7 @@
 use Prim.Native.Nat.{ℕ, suc, _+_, _-_, _%_, _≤_}
 use native.Mathlib.Omega.{arith}
 use mathlib.Core.Path.{_≡_, refl, sym, subst}
-use mathlib.Core.Logic.{⊎-elim}
-use mathlib.Core.List.{List, [], _∷_, List·Memᴰ, List·Memᴰ·head, List·Memᴰ·tail, List·Memᴰ·cases-cons, List·Memᴰ·not-nil, Memᴰ·append-left, Memᴰ·append-right}
+use mathlib.Core.List.{List, List·Memᴰ, List·Memᴰ·head, List·Memᴰ·tail}
 use lib.ListN.{length}
 use Rattle.fields.specs.declared.Flaw.{Flaw}
 use Rattle.fields.specs.declared.Offset.{Offset}
@@ -17,11 +16,12 @@ use Rattle.cells.specs.Tiled.{InUse}
 use Rattle.cells.specs.Refused.{OfSurvey, of-base, map-small, of-bins}
 use Rattle.cells.proofs.Refusals.{bins-number}
 use Rattle.cells.proofs.Tiles.{wholly-inside}
-use Rattle.records.specs.declared.Child.{Child}
 use Rattle.records.specs.Lists.{children}
+use Rattle.records.specs.Listed.{keysIn}
+use Rattle.records.proofs.Listed.{joined-in}
 use Rattle.values.specs.Refused.{Role, a-key, Fit, Unfit, no-cell, no-record}
 use Rattle.tree.specs.declared.Checked.the-variants.{Refused}
-use Rattle.tree.specs.Tree.{joined, keysIn, hiveOf, checkAnswer}
+use Rattle.tree.specs.Tree.{hiveOf, checkAnswer}
 use Rattle.tree.specs.Told.{Reached, the-root, a-child, OfTree, of-root, of-lists, of-values, of-data, no-order, other-hash, other-parent, root-listed, other-total, too-deep, Told, of-survey, of-tree, Examined}
 use Rattle.tree.proofs.Tells.{unfit-number, among-number, check-tells}
 
@@ -32,15 +32,6 @@ fit-not (no-record p q) g = never _ (g .passing) q
 -- no cell starts there: an offset of a cell is a multiple of 8
 no-cell-there : (d : List ℕ) → InUse d noKey → ⊥
 no-cell-there d u = let p : 4294967295 % 8 ≡ 0 = wholly-inside d noKey u .inside .eights in omega arith
-
-joined-in : (f : Offset → List Offset) (cs : List Child) {c : Child} {x : Offset} → List·Memᴰ c cs → List·Memᴰ x (f (c .at)) → List·Memᴰ x (joined f cs)
-unfolding joined
-joined-in f [] i j = absurd (List·Memᴰ·not-nil i)
-joined-in f (b ∷ cs) {c} {x} i j =
-    ⊎-elim
-    (λ (e : c ≡ b). Memᴰ·append-left (joined f cs) (subst (λ (y : Child). List·Memᴰ x (f (y .at))) e j))
-    (λ k. Memᴰ·append-right (f (b .at)) (joined-in f cs k j))
-    (List·Memᴰ·cases-cons i)
 
 -- a key that is reached is one in use, so is the root, and it is listed
 module _ (d : List ℕ) (root : Offset) where

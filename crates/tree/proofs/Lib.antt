@@ -7,7 +7,6 @@ pub mod Counted
 pub mod Exactly
 pub mod Tests
 pub mod Walks
-pub mod Elements
 pub mod Roots
 pub mod Tells
 pub mod Maps

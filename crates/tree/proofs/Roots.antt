@@ -16,11 +16,12 @@ use Rattle.cells.specs.declared.Surveyed.the-variants.{Tiled, Refused as Untile
 use Rattle.cells.specs.Survey.{surveyAnswer, mapLeft}
 use Rattle.cells.proofs.Fronts.{front-facts}
 use Rattle.cells.proofs.Mapped.{surveyed}
+use Rattle.records.specs.Listed.{keysIn}
 use Rattle.tree.specs.declared.Checked.the-variants.{Accepted, Refused}
 use Rattle.tree.specs.declared.Count.{Count}
 use Rattle.tree.specs.declared.Arrival.the-variants.{Start}
 use Rattle.tree.specs.declared.Walk.the-variants.{Counted, Refused as Stopped}
-use Rattle.tree.specs.Tree.{treeCharge, keysIn, tallied, keyAnswer, levels, hiveOf, rootChild, keysOf, valuesIn, checkAnswer}
+use Rattle.tree.specs.Tree.{treeCharge, tallied, keyAnswer, levels, hiveOf, rootChild, keysOf, valuesIn, checkAnswer}
 use Rattle.tree.specs.Steps.{Ready, walkAnswer}
 use Rattle.tree.proofs.Accepted.{root-stands}
 use Rattle.tree.proofs.Counted.{counted}

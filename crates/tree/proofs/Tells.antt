@@ -14,6 +14,8 @@ use Rattle.fields.specs.declared.Refusal.{Refusal}
 use Rattle.fields.specs.declared.Verdict.{Verdict}
 use Rattle.fields.specs.declared.Verdict.the-variants.{Sound, Flawed}
 use Rattle.fields.specs.Faults.{numberOf, flaw, unless, noKey, refusalOf, Because}
+use Rattle.fields.specs.Charges.{Charge, chargeOf}
+use Rattle.fields.proofs.Charges.{clear-of, Charges, after-charges, flaw-charges}
 use Rattle.fields.proofs.Every.{Every, every-sound, every-flaw, every-unless, every-next, every-over}
 use Rattle.base.specs.Block.{binsData}
 use Rattle.cells.specs.declared.Rule.the-variants.{Map}
@@ -38,12 +40,11 @@ use Rattle.values.specs.Refused.{Role, a-key, Fit, Unfit, no-cell, no-record, A
 use Rattle.values.proofs.Refusals.{key-fit, key-unfit, value-fit, value-unfit, lists-unfit, value-list-unfit, value-named, data-unfit}
 use Rattle.tree.specs.declared.Checked.the-variants.{Refused}
 use Rattle.tree.specs.declared.Hive.{Hive}
-use Rattle.tree.specs.declared.Report.{Report}
 use Rattle.tree.specs.declared.Arrival.{Arrival}
 use Rattle.tree.specs.declared.Arrival.the-variants.{Start, First, After}
-use Rattle.tree.specs.Tree.{Charge, Free, Of, chargeOf, _after_, holder, nameAt, isBefore, parentFault, orderFault, placeFault, hashFault, levelFault, totalFault, restFault, ownFault, keyCharge, listCharge, treeCharge, levels, hiveOf, rootChild, answer, onTiled, checkAnswer}
+use Rattle.tree.specs.Tree.{holder, nameAt, isBefore, parentFault, orderFault, placeFault, hashFault, levelFault, totalFault, restFault, ownFault, keyCharge, listCharge, treeCharge, levels, hiveOf, rootChild, onTiled, checkAnswer}
 use Rattle.tree.specs.Told.{Reached, the-root, a-child, Follows, at-once, later, OfTree, of-root, of-lists, of-values, of-data, no-order, other-hash, other-parent, root-listed, other-total, too-deep, Told, of-survey, of-tree}
-use Rattle.tree.proofs.Charges.{clear-of, level-zero, key-parts}
+use Rattle.tree.proofs.Charges.{refused-charge, level-zero, key-parts}
 
 follows-in : {b c : Child} {cs : List Child} → Follows b c cs → List·Memᴰ c cs
 follows-in at-once = List·Memᴰ·tail (List·Memᴰ·head refl)
@@ -147,24 +148,11 @@ module _ (d m : List ℕ) (tiles : BinsTile d 0) (mapped : Mapped d m) (hive : H
       every-next (OfTree d hive (c .at)) (placeFault d (hive .root) (keyOf d (c .at)) (c .at) l) _ (place-tells p g)
       (λ s. every-next (OfTree d hive (c .at)) (hashFault d (keyOf d (c .at)) c) _ (hash-tells p g) (λ t. rest-tells (reached p g) n e))
 
-  -- a charge, as a flaw
-  abbrev Charges : Charge → Type 0
-  Charges a = (r : Refusal) → a ≡ Of r → Because (OfTree d hive) r
-
-  after-charges : (a b : Charge) → Charges a → (a ≡ Free → Charges b) → Charges (a after b)
-  unfolding _after_
-  after-charges Free b p q r e = q refl r e
-  after-charges (Of g) b p q r e = p r e
-
-  flaw-charges : (key : Offset) (v : Verdict) → Every (OfTree d hive key) v → Charges (chargeOf key v)
-  flaw-charges key Sound p r e = absurd (let z : _≡_ {A = ℕ} 0 1 = cc in omega arith)
-  flaw-charges key (Flawed f) p r e = (key, f, let z : refusalOf key f ≡ r = cc in sym z, p f refl)
-
-  key-charges : {lv : ℕ} {c : Child} {l : Arrival} → Place lv c l → (n : ℕ) → lv + n ≡ 513 → Charges (keyCharge d m hive n c l)
+  key-charges : {lv : ℕ} {c : Child} {l : Arrival} → Place lv c l → (n : ℕ) → lv + n ≡ 513 → Charges (OfTree d hive) (keyCharge d m hive n c l)
   unfolding keyCharge
   key-charges {c = c} {l = l} p n e =
-      after-charges (chargeOf (holder l) (keyFault Map d m (c .at))) _ (flaw-charges (holder l) (keyFault Map d m (c .at)) (record-tells p n e))
-      (λ s. flaw-charges (c .at) (ownFault d m hive n (keyOf d (c .at)) c l)
+      after-charges (OfTree d hive) (chargeOf (holder l) (keyFault Map d m (c .at))) _ (flaw-charges (OfTree d hive) (holder l) (keyFault Map d m (c .at)) (record-tells p n e))
+      (λ s. flaw-charges (OfTree d hive) (c .at) (ownFault d m hive n (keyOf d (c .at)) c l)
       (own-tells p (key-fit Map d m ruled (c .at) (clear-of (holder l) _ s)) n e))
 
   -- what is left of a key's children, and where the first of them is listed
@@ -173,21 +161,21 @@ module _ (d m : List ℕ) (tiles : BinsTile d 0) (mapped : Mapped d m) (hive : H
     head : (c : Child) (es : List Child) → cs ≡ c ∷ es → Place (suc lv) c l
 
   list-charges : {lv : ℕ} {k : Offset} → Reached d (hive .root) lv k → (each : Child → Arrival → Charge)
-      → ((c : Child) (l : Arrival) → Place (suc lv) c l → Charges (each c l)) → (l : Arrival) (cs : List Child) → Left lv k l cs → Charges (listCharge each k l cs)
+      → ((c : Child) (l : Arrival) → Place (suc lv) c l → Charges (OfTree d hive) (each c l)) → (l : Arrival) (cs : List Child) → Left lv k l cs → Charges (OfTree d hive) (listCharge each k l cs)
   unfolding listCharge
   list-charges r each p l [] s = λ f e. absurd (let z : _≡_ {A = ℕ} 0 1 = cc in omega arith)
   list-charges {k = k} r each p l (c ∷ cs) s =
-      after-charges (each c l) _ (p c l (s .head c cs refl))
+      after-charges (OfTree d hive) (each c l) _ (p c l (s .head c cs refl))
       (λ x. list-charges r each p (After k (c .at)) cs (record {
         follow = λ a b i. s .follow a b (later i);
         head = λ b es q. at-after r (s .follow c b (subst (λ (xs : List Child). Follows c b (c ∷ xs)) (sym q) at-once));
       }))
 
-  tree-charges : (n : ℕ) {lv : ℕ} {c : Child} {l : Arrival} → Place lv c l → lv + n ≡ 513 → Charges (treeCharge d m hive n c l)
+  tree-charges : (n : ℕ) {lv : ℕ} {c : Child} {l : Arrival} → Place lv c l → lv + n ≡ 513 → Charges (OfTree d hive) (treeCharge d m hive n c l)
   unfolding treeCharge
   tree-charges zero p e = key-charges p zero e
   tree-charges (suc n) {lv} {c} {l} p e =
-      after-charges (keyCharge d m hive (suc n) c l) _ (key-charges p (suc n) e)
+      after-charges (OfTree d hive) (keyCharge d m hive (suc n) c l) _ (key-charges p (suc n) e)
       (λ s. let r = reached p (key-fit Map d m ruled (c .at) (key-parts d m hive (suc n) c l s .0)) in
       list-charges r (treeCharge d m hive n) (λ x y q. tree-charges n q (omega arith)) (First (c .at)) (children d (c .at))
       (record { follow = λ a b i. i; head = λ b es q. at-first r (subst (λ (xs : List Child). List·Memᴰ b xs) (sym q) (List·Memᴰ·head refl)) }))
@@ -214,10 +202,6 @@ module _ (d : List ℕ) (hive : Hive) where
   tree-number (too-deep r p) = omega arith
 
 -- ---- the check
-
-refused-charge : (a : Charge) (r : Report) {f : Refusal} → answer a r ≡ Refused f → a ≡ Of f
-refused-charge Free r e = absurd (let z : _≡_ {A = ℕ} 0 1 = cc in omega arith)
-refused-charge (Of g) r e = cc
 
 module _ (h m : List ℕ) where
   -- past the survey

@@ -3,7 +3,7 @@ use Prim.Native.Nat.{ℕ, zero, suc, _+_, _-_, _<_, _≤_}
 use native.Mathlib.Omega.{arith}
 use native.Mathlib.Numerals.{sub-one, add-one}
 use mathlib.Core.Path.{_≡_, refl, sym, ap, _∙_, subst}
-use mathlib.Core.List.{List, [], _∷_, _++_, append-assoc}
+use mathlib.Core.List.{List, [], _∷_, _++_}
 use lib.ListN.{length, getD, drop}
 use lib.Seq.{drop-cons}
 use Rattle.fields.specs.declared.Offset.{Offset}
@@ -11,6 +11,8 @@ use Rattle.fields.specs.declared.Flaw.{Flaw}
 use Rattle.fields.specs.declared.Refusal.{Refusal}
 use Rattle.fields.specs.declared.Verdict.the-variants.{Sound, Flawed}
 use Rattle.fields.specs.Faults.{nowhere, refusalOf}
+use Rattle.fields.specs.Charges.{Charge, Free, Of, _after_}
+use Rattle.fields.proofs.Charges.{both-free, after-assoc}
 use Rattle.fields.proofs.Loops.{drop-all}
 use Rattle.cells.specs.declared.Rule.the-variants.{Map}
 use Rattle.cells.specs.Named.{dataAt}
@@ -18,16 +20,18 @@ use Rattle.records.specs.declared.Child.{Child}
 use Rattle.records.specs.declared.Key.{Key}
 use Rattle.records.specs.Keys.{keyFault, keyOf}
 use Rattle.records.specs.Lists.{leafChildren, childrenIn, childrenBelow, children}
+use Rattle.records.specs.Listed.{joined, keysIn}
 use Rattle.records.specs.Steps.{noChild}
+use Rattle.records.proofs.Listed.{joined-append}
 use Rattle.records.proofs.LawsKey.{key-room, name-room}
 use Rattle.tree.specs.declared.Count.{Count}
 use Rattle.tree.specs.declared.Hive.{Hive}
 use Rattle.tree.specs.declared.Arrival.{Arrival}
 use Rattle.tree.specs.declared.Arrival.the-variants.{First, After}
 use Rattle.tree.specs.declared.Walk.the-variants.{Counted, Refused}
-use Rattle.tree.specs.Tree.{Charge, Free, Of, _after_, holder, ownFault, keyCharge, listCharge, treeCharge, joined, keysIn, tally, tallied, walked, keyAnswer, listAnswer}
+use Rattle.tree.specs.Tree.{holder, ownFault, keyCharge, listCharge, treeCharge, tally, tallied, walked, keyAnswer, listAnswer}
 use Rattle.tree.specs.Steps.{Fits, lastOf}
-use Rattle.tree.proofs.Charges.{both-free, after-assoc, own-parts, level-zero, key-parts, key-free}
+use Rattle.tree.proofs.Charges.{own-parts, level-zero, key-parts, key-free}
 
 pub refused-of : (a : Charge) (t : Count) {f : Refusal} → walked a t ≡ Refused f → a ≡ Of f
 refused-of Free t e = absurd (let z : _≡_ {A = ℕ} 0 1 = cc in omega arith)
@@ -41,11 +45,6 @@ tallied-append : (d : List ℕ) (t : Count) (ks js : List Offset) → tallied d 
 unfolding tallied
 tallied-append d t [] js = refl
 tallied-append d t (k ∷ ks) js = tallied-append d (tally t (keyOf d k)) ks js
-
-joined-append : (f : Offset → List Offset) (cs es : List Child) → joined f (cs ++ es) ≡ joined f cs ++ joined f es
-unfolding joined
-joined-append f [] es = refl
-joined-append f (c ∷ cs) es = ap (λ (l : List Offset). f (c .at) ++ l) (joined-append f cs es) ∙ sym (append-assoc (f (c .at)) (joined f cs) (joined f es))
 
 -- where the next key stands after some children
 lastArrival : Offset → Arrival → List Child → Arrival

@@ -3,15 +3,15 @@
 -- map; a hive's minor version and root come along.
 use Prim.Native.Nat.{ℕ, zero, suc, _+_, _%_, _^_}
 use mathlib.Core.Bool.{Bool, true, false, not, _||_}
-use mathlib.Core.List.{List, [], _∷_, _++_}
+use mathlib.Core.List.{List, [], _∷_}
 use lib.Dec.{eqb}
 use lib.ListN.{length}
 use Rattle.fields.specs.declared.Offset.{Offset}
-use Rattle.fields.specs.declared.Refusal.{Refusal}
 use Rattle.fields.specs.declared.Verdict.{Verdict}
 use Rattle.fields.specs.declared.Verdict.the-variants.{Sound, Flawed}
 use Rattle.fields.specs.declared.Fault.the-variants.{Order, Parent, Level}
 use Rattle.fields.specs.Faults.{flaw, unless, _next_, noKey, refusalOf}
+use Rattle.fields.specs.Charges.{Charge, Free, Of, chargeOf, _after_}
 use Rattle.base.specs.Block.{sector, minorOf, rootOf, binsData}
 use Rattle.cells.specs.declared.Rule.the-variants.{Map}
 use Rattle.cells.specs.declared.Tally.{Tally}
@@ -26,6 +26,7 @@ use Rattle.records.specs.declared.Child.{Child}
 use Rattle.records.specs.declared.Key.{Key}
 use Rattle.records.specs.Keys.{keyFault, keyOf, codesOf}
 use Rattle.records.specs.Lists.{childrenBelow, children, listsFault}
+use Rattle.records.specs.Listed.{joined, keysIn}
 use Rattle.values.specs.Lists.{valuesFault}
 use Rattle.tree.specs.declared.Checked.{Checked}
 use Rattle.tree.specs.declared.Checked.the-variants.{Accepted, Refused}
@@ -36,22 +37,6 @@ use Rattle.tree.specs.declared.Arrival.the-variants.{Start, First, After
 use Rattle.tree.specs.declared.Report.{Report}
 use Rattle.tree.specs.declared.Walk.{Walk}
 use Rattle.tree.specs.declared.Walk.the-variants.{Counted, Refused as Stopped}
-
--- a refusal, or none
-pub data Charge : Type 0 where
-  Free : Charge
-  Of : Refusal → Charge
-
--- a flaw as a refusal, found in the examination of a key
-abbrev pub chargeOf : Offset → Verdict → Charge
-chargeOf key Sound = Free
-chargeOf key (Flawed f) = Of (refusalOf key f)
-
--- a charge, and another where there is none
-infixr 60 _after_
-unfoldable pub _after_ : Charge → Charge → Charge
-Free after b = b
-(Of f) after b = Of f
 
 -- the codes of the name of the key at an offset
 abbrev pub nameAt : List ℕ → Offset → List ℕ
@@ -126,15 +111,6 @@ unfoldable pub treeCharge : List ℕ → List ℕ → Hive → ℕ → Child →
 treeCharge d m hive zero c l = keyCharge d m hive zero c l
 treeCharge d m hive (suc n) c l =
     keyCharge d m hive (suc n) c l after listCharge (treeCharge d m hive n) (c .at) (First (c .at)) (children d (c .at))
-
--- the keys of the tree below a key with so many levels, itself first: in pre-order
-unfoldable pub joined : (Offset → List Offset) → List Child → List Offset
-joined f [] = []
-joined f (c ∷ cs) = f (c .at) ++ joined f cs
-
-unfoldable pub keysIn : List ℕ → ℕ → Offset → List Offset
-keysIn d zero at = []
-keysIn d (suc n) at = at ∷ joined (keysIn d n) (children d at)
 
 -- "values (one for each value list element of those keys)"
 unfoldable pub valuesIn : List ℕ → List Offset → ℕ

@@ -93,11 +93,6 @@ pub data TreeStands (d : List ℕ) (hive : Hive) : ℕ → Offset → Type 0 whe
       → ((c : Child) → List·Memᴰ c (children d at) → TreeStands d hive n (c .at))
       → TreeStands d hive (suc n) at
 
--- a list that holds no key twice
-pub data Once : List Offset → Type 0 where
-  nil : Once []
-  cons : {c : Offset} {cs : List Offset} → (List·Memᴰ c cs → ⊥) → Once cs → Once (c ∷ cs)
-
 -- the whole
 pub record WellFormed (h : List ℕ) : Type 0 where
   pub tiled : BinsTile (binsData h) 0

@@ -23,7 +23,7 @@ use Rattle.tree.specs.Steps.{ArrivalFits}
 use Rattle.records.proofs.LawsElements.{elements-length, element-at, elements-are}
 use Rattle.tree.proofs.Charges.{own-parts}
 use Rattle.tree.proofs.Walks.{key-record, key-own, level-left, key-on, end-nil, leaf-stop, leaf-on, leaf-end, leaves-stop, leaves-on, leaves-end, key-fits, leaf-fits}
-use Rattle.tree.proofs.Elements.{leaf-there, leaf-in, no-children, head-sound, head-room, as-list, each-sound}
+use Rattle.records.proofs.Elements.{leaf-there, leaf-in, no-children, head-sound, head-room, as-list, each-sound}
 use Rattle.tree.proofs.check_key.Reads as key
 use Rattle.tree.proofs.check_key.Kinds as key-kinds
 use Rattle.tree.proofs.+check_key+check_leaf+check_list.Lts-check_key as key-lts
