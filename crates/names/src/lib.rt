@@ -1,6 +1,6 @@
 // Names: the codes of a stored name, upper case, order and hash. Names are read in place and never copied.
 ghost use mathlib.Core.Path.{_≡_};
-ghost use Prim.Native.Nat.{_*_, _%_, _<_};
+ghost use Prim.Native.Nat.{_*_, _%_, _≤_, _<_};
 ghost use lib.Dec.{eqb};
 ghost use lib.ListN.{length, getD};
 ghost use Rattle.names.specs.Codes.{codes, charactersIn, hasCode, backslash};
@@ -110,16 +110,21 @@ pub fn compare_stored(a: &[u8], a_narrow: bool, b: &[u8], b_narrow: bool) -> Ord
     }
 }
 
-// A stored name against a given one, by the same comparison.
+// The lesser of two counts.
+fn lesser(a: usize, b: usize) -> usize
+    ensures { λ r. ⌜ (r ≤ a) × (r ≤ b) × (r < a → r ≡ b) ⌝ }
+{
+    if a < b { a } else { b }
+}
+
+// A stored name against a given one, by the same comparison. The loop ends with the shorter of the two, so that it has one test of its own.
 pub fn compare_name(s: &[u8], narrow: bool, name: &[u16]) -> Order
     ensures { λ r. ⌜ r ≡ compare (codes narrow (now (s .entry))) (now (name .entry)) ⌝ }
 {
     let end = count(s, narrow);
+    let shared = lesser(end, name.len());
     let mut i = 0;
-    while i < end {
-        if name.len() <= i {
-            return Order::After;
-        }
+    while i < shared {
         let x = code_at(s, narrow, i);
         let y = name[i];
         if !same_letter(x, y) {
@@ -129,6 +134,9 @@ pub fn compare_name(s: &[u8], narrow: bool, name: &[u16]) -> Order
             return Order::After;
         }
         i += 1;
+    }
+    if i < end {
+        return Order::After;
     }
     if i < name.len() {
         Order::Before

@@ -16,6 +16,8 @@ use Rattle.cells.specs.declared.Rule.{Rule}
 use Rattle.cells.specs.Named.{cellFault, dataAt, partIn}
 use Rattle.cells.specs.Steps.{PartIn}
 use Rattle.names.specs.Codes.{codes, charactersIn, hasCode, backslash}
+use Rattle.records.specs.declared.Called.{Called}
+use Rattle.records.specs.declared.Called.the-variants as name
 use Rattle.records.specs.declared.Key.{Key}
 use Rattle.records.specs.declared.Keyed.{Keyed}
 use Rattle.records.specs.declared.Keyed.the-variants as answer
@@ -72,6 +74,11 @@ keyOf d o = keyIn (dataAt d o) o
 abbrev pub keyed : Verdict → Key → Keyed
 keyed Sound k = answer.Whole k
 keyed (Flawed f) k = answer.Flawed f
+
+-- the answer that holds its name alone
+abbrev pub called : Verdict → Name → Called
+called Sound n = name.Whole n
+called (Flawed f) n = name.Flawed f
 
 -- a name lies in its cell's data: its bytes there, and their codes
 abbrev pub NameIn : List ℕ → Name → Type 0

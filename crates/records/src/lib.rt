@@ -6,12 +6,14 @@ use fields::Fault;
 use fields::Flaw;
 use fields::Offset;
 ghost use mathlib.Core.Path.{_≡_};
+ghost use mathlib.Core.List.{[]};
 ghost use Prim.Native.Nat.{_+_, _≤_, _<_};
 ghost use lib.ListN.{length};
 ghost use Rattle.names.specs.Comparison.{compare, sameName};
 ghost use Rattle.names.specs.Hashing.{hashOf};
+ghost use Rattle.cells.specs.declared.Rule.the-variants.{Header};
 ghost use Rattle.cells.specs.Named.{dataAt};
-ghost use Rattle.records.specs.Keys.{isFlagged, isWhole, isKeyName, isKey, keyIn, keyFault, keyOf, keyed, NameIn, nameBytes, codesOf};
+ghost use Rattle.records.specs.Keys.{isFlagged, isWhole, isKeyName, isKey, keyIn, keyFault, keyOf, keyed, called, NameIn, nameBytes, codesOf};
 ghost use Rattle.records.specs.Lists.{hasElements, widthOf, hasLeafSignature, isLeaf, isList, childrenBelow, leafFault, headFault, listsFault};
 ghost use Rattle.records.specs.Steps.{leavesIn, leavesAt, headed, LeavesLie, leafNamed, leafIn, leafOf, leafed, ElementsLie, childNamed, totalled, totalOver};
 
@@ -92,6 +94,19 @@ pub fn is_key(r: &[u8]) -> bool
     is_key_name(&r[76..end], is_flagged(fields::u16_at(r, 2), 32))
 }
 
+// The name of the key record r at an offset.
+fn name_in(r: &[u8], o: Offset) -> Name
+    requires { ⌜ 76 ≤ length (now r) ⌝ }
+    ensures { λ n. ⌜ n ≡ keyIn (now (r .entry)) o .name ⌝ }
+{
+    Name {
+        cell: o,
+        at: 76,
+        len: fields::u16_at(r, 72) as usize,
+        narrow: is_flagged(fields::u16_at(r, 2), 32),
+    }
+}
+
 // The fields of the key record r at an offset.
 fn key_in(r: &[u8], o: Offset) -> Key
     requires { ⌜ 76 ≤ length (now r) ⌝ }
@@ -103,12 +118,7 @@ fn key_in(r: &[u8], o: Offset) -> Key
         list: Offset(fields::u32_at(r, 28)),
         values: fields::u32_at(r, 36),
         value_list: Offset(fields::u32_at(r, 40)),
-        name: Name {
-            cell: o,
-            at: 76,
-            len: fields::u16_at(r, 72) as usize,
-            narrow: is_flagged(fields::u16_at(r, 2), 32),
-        },
+        name: name_in(r, o),
     }
 }
 
@@ -132,6 +142,31 @@ pub fn key_at(bins: &[u8], map: &[u8], rule: Rule, o: Offset) -> Keyed
                 });
             }
             Keyed::Whole(key_in(r, o))
+        }
+    }
+}
+
+pub enum Called {
+    Whole(Name),
+    Flawed(Flaw),
+}
+
+// The key at an offset, tested as `key_at` tests it, by its cell's own header: of its fields the name alone is read, for a search that passes over most
+// of the keys that it meets.
+pub fn name_at(bins: &[u8], o: Offset) -> Called
+    ensures { λ r. ⌜ r ≡ called (keyFault Header (now (bins .entry)) [] o) (keyOf (now (bins .entry)) o .name) ⌝ }
+{
+    match cells::find_cell(bins, b"", Rule::Header, o) {
+        Found::Missing(f) => Called::Flawed(f),
+        Found::Named(c) => {
+            let r = cells::cell_data(bins, c);
+            if !is_key(r) {
+                return Called::Flawed(Flaw {
+                    fault: Fault::Record,
+                    place: o,
+                });
+            }
+            Called::Whole(name_in(r, o))
         }
     }
 }
@@ -368,6 +403,14 @@ pub fn leaf_fields(bins: &[u8], o: Offset) -> Leaf
     ensures { λ l. ⌜ l ≡ leafOf (now (bins .entry)) o ⌝ }
 {
     leaf_in(cells::part_in(bins, o, 0, 4), o)
+}
+
+// The offset of the key that element i of a leaf names, without its hash.
+pub fn child_offset(bins: &[u8], leaf: Leaf, i: usize) -> Offset
+    requires { ⌜ (i < leaf .count) × ElementsLie (now bins) leaf ⌝ }
+    ensures { λ o. ⌜ o ≡ childNamed (now (bins .entry)) leaf i .at ⌝ }
+{
+    Offset(cells::word_in(bins, leaf.cell, 4 + i * leaf.width))
 }
 
 // Element i of a leaf.

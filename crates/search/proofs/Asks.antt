@@ -19,14 +19,15 @@ use Rattle.names.specs.Comparison.{compare}
 use Rattle.records.specs.declared.Child.{Child}
 use Rattle.records.specs.declared.Headed.the-variants as head
 use Rattle.records.specs.declared.Key.{Key}
-use Rattle.records.specs.declared.Keyed.the-variants as key
+use Rattle.records.specs.declared.Called.the-variants as key
 use Rattle.records.specs.declared.Leaf.{Leaf}
 use Rattle.records.specs.declared.Leafed.the-variants as leaf
 use Rattle.records.specs.declared.Leaves.{Leaves}
-use Rattle.records.specs.Keys.{keyFault, keyOf, keyed, codesOf}
+use Rattle.records.specs.declared.Name.{Name}
+use Rattle.records.specs.Keys.{keyFault, keyOf, called, codesOf}
 use Rattle.records.specs.Lists.{leafFault, headFault}
 use Rattle.records.specs.Steps.{leafOf, leafed, childNamed, elementsOf, leavesAt, headed, leavesNamed}
-use Rattle.records.proofs.LawsAnswer.{keyed-whole, keyed-flawed, leafed-whole, leafed-flawed, headed-whole, headed-flawed}
+use Rattle.records.proofs.LawsAnswer.{called-whole, called-flawed, leafed-whole, leafed-flawed, headed-whole, headed-flawed}
 use Rattle.records.proofs.LawsPlaces.{leaf-some, leaf-count, leaves-are}
 use Rattle.records.proofs.LawsElements.{elements-length, element-at, elements-are}
 use Rattle.tree.specs.Tree.{nameAt, isBefore}
@@ -35,18 +36,23 @@ use Rattle.search.specs.declared.Look.the-variants.{Found, Missing, Faul
 use Rattle.search.specs.declared.Turn.{Turn}
 use Rattle.search.specs.declared.Turn.the-variants.{Left, Right, Stop}
 use Rattle.search.specs.Quick.{turnedBy, middle, halve, halving, toward, onSoundTurn, askKey, quickKeys, firstChild, lastChild, isAfter, askKeys, askLeaf, quickBelow}
-use Rattle.search.specs.Steps.{askedLast}
+use Rattle.search.specs.Steps.{byOffset, askedLast}
 
--- ---- one key
-module _ (d x : List ℕ) (c : Child) where
-  pub ask-bad : {f : Flaw} → keyed (keyFault Header d [] (c .at)) (keyOf d (c .at)) ≡ key.Flawed f → askKey d x c ≡ Stop (Faulty f)
+-- ---- one key, by its offset
+module _ (d x : List ℕ) (o : Offset) where
+  pub ask-bad : {f : Flaw} → called (keyFault Header d [] o) (keyOf d o .name) ≡ key.Flawed f → askKey d x (byOffset o) ≡ Stop (Faulty f)
   unfolding askKey
-  ask-bad e = rw (keyed-flawed (keyFault Header d [] (c .at)) _ e)
+  ask-bad e = rw (called-flawed (keyFault Header d [] o) _ e)
 
-  pub ask-is : {k : Key} → keyed (keyFault Header d [] (c .at)) (keyOf d (c .at)) ≡ key.Whole k → {r : Order} → r ≡ compare (codesOf d (k .name)) x
-      → askKey d x c ≡ toward r (c .at)
+  pub ask-is : {n : Name} → called (keyFault Header d [] o) (keyOf d o .name) ≡ key.Whole n → {r : Order} → r ≡ compare (codesOf d n) x
+      → askKey d x (byOffset o) ≡ toward r o
   unfolding askKey
-  ask-is e p = let w = keyed-whole (keyFault Header d [] (c .at)) _ e in rw (w .0, ← w .1, ← p)
+  ask-is e p = let w = called-whole (keyFault Header d [] o) _ e in rw (w .0, ← w .1, ← p)
+
+-- an element of a leaf, by the offset that it holds
+pub ask-by : (d x : List ℕ) (l : Leaf) (i : ℕ) {o : Offset} → o ≡ childNamed d l i .at → askKey d x (byOffset o) ≡ askKey d x (childNamed d l i)
+unfolding askKey
+ask-by d x l i p = rw p
 
 -- ---- the keys of a leaf, by what its first and its last key say
 abbrev pub firstSays : Turn → Turn → Turn
@@ -84,13 +90,16 @@ module _ (d x : List ℕ) (cs : List Child) where
   unfolding askKey
   keys-last = last-says (keyFault Header d [] (lastChild cs .at)) (compare (nameAt d (lastChild cs .at)) x) (lastChild cs .at) (Stop (quickKeys d x cs))
 
-module _ (d x : List ℕ) (l : Leaf) (some : 0 < l .count) {c : Child} where
-  pub first-is : c ≡ childNamed d l 0 → {t u : Turn} → t ≡ askKey d x c → t ≡ u → askKeys d x (elementsOf d l) ≡ firstSays u (askedLast d x (elementsOf d l))
-  first-is p q e = keys-first d x (elementsOf d l) ∙ rw (← element-at d l 0 some p, ← q, e)
+module _ (d x : List ℕ) (l : Leaf) (some : 0 < l .count) {o : Offset} where
+  pub first-is : o ≡ childNamed d l 0 .at → {t u : Turn} → t ≡ askKey d x (byOffset o) → t ≡ u
+      → askKeys d x (elementsOf d l) ≡ firstSays u (askedLast d x (elementsOf d l))
+  first-is p q e = keys-first d x (elementsOf d l) ∙ rw (← element-at d l 0 some refl, ← ask-by d x l 0 p, ← q, e)
 
-  pub last-is : c ≡ childNamed d l (l .count - 1) → {t u : Turn} → t ≡ askKey d x c → t ≡ u
+  pub last-is : o ≡ childNamed d l (l .count - 1) .at → {t u : Turn} → t ≡ askKey d x (byOffset o) → t ≡ u
       → askedLast d x (elementsOf d l) ≡ lastSays u (Stop (quickKeys d x (elementsOf d l)))
-  last-is p q e = keys-last d x (elementsOf d l) ∙ rw (elements-length d l, ← element-at d l (l .count - 1) (omega arith) p, ← q, e)
+  last-is p q e =
+      keys-last d x (elementsOf d l)
+      ∙ rw (elements-length d l, ← element-at d l (l .count - 1) (omega arith) refl, ← ask-by d x l (l .count - 1) p, ← q, e)
 
 -- ---- a leaf
 module _ (d x : List ℕ) (o : Offset) where

@@ -9,39 +9,45 @@ use Rattle.fields.specs.declared.Offset.{Offset}
 use Rattle.fields.specs.declared.Verdict.the-variants.{Sound, Flawed}
 use Rattle.cells.specs.declared.Rule.the-variants.{Header}
 use Rattle.names.specs.Comparison.{sameName}
-use Rattle.records.specs.declared.Child.{Child}
 use Rattle.records.specs.declared.Headed.the-variants as head
 use Rattle.records.specs.declared.Key.{Key}
-use Rattle.records.specs.declared.Keyed.the-variants as key
+use Rattle.records.specs.declared.Called.the-variants as key
 use Rattle.records.specs.declared.Leaf.{Leaf}
 use Rattle.records.specs.declared.Leafed.the-variants as leaf
 use Rattle.records.specs.declared.Leaves.{Leaves}
-use Rattle.records.specs.Keys.{keyFault, keyOf, keyed, codesOf, NameIn}
+use Rattle.records.specs.declared.Name.{Name}
+use Rattle.records.specs.Keys.{keyFault, keyOf, called, codesOf, NameIn}
 use Rattle.records.specs.Lists.{leafFault, headFault}
-use Rattle.records.specs.Steps.{leafOf, leafed, ElementsLie, elementsOf, leavesAt, headed, LeavesLie, leavesNamed}
-use Rattle.records.proofs.LawsAnswer.{keyed-whole, keyed-flawed, leafed-whole, leafed-flawed, headed-whole, headed-flawed}
+use Rattle.records.specs.Steps.{leafOf, leafed, childNamed, ElementsLie, elementsOf, leavesAt, headed, LeavesLie, leavesNamed}
+use Rattle.records.proofs.LawsAnswer.{called-whole, called-flawed, leafed-whole, leafed-flawed, headed-whole, headed-flawed}
 use Rattle.records.proofs.LawsKey.{name-room}
 use Rattle.records.proofs.LawsPlaces.{elements-lie, leaves-lie, leaves-are}
 use Rattle.records.proofs.LawsElements.{elements-are}
 use Rattle.search.specs.declared.Look.the-variants.{Found, Missing, Faulty}
 use Rattle.search.specs.Search.{keyNamed, searchKeys, searchLeaf, searchLeaves, searchBelow}
+use Rattle.search.specs.Steps.{byOffset}
 use Rattle.search.proofs.Finds.{named-bad}
 
--- one key
-module _ (d x : List ℕ) (c : Child) where
-  pub key-bad : {f : Flaw} → keyed (keyFault Header d [] (c .at)) (keyOf d (c .at)) ≡ key.Flawed f → keyNamed d x c ≡ Faulty f
-  key-bad e = named-bad d x c (keyed-flawed _ _ e)
+-- one key, by its offset
+module _ (d x : List ℕ) (o : Offset) where
+  pub key-bad : {f : Flaw} → called (keyFault Header d [] o) (keyOf d o .name) ≡ key.Flawed f → keyNamed d x (byOffset o) ≡ Faulty f
+  key-bad e = named-bad d x (byOffset o) (called-flawed _ _ e)
 
-  module _ {k : Key} (e : keyed (keyFault Header d [] (c .at)) (keyOf d (c .at)) ≡ key.Whole k) where
-    whole : (keyFault Header d [] (c .at) ≡ Sound) × (k ≡ keyOf d (c .at))
-    whole = keyed-whole (keyFault Header d [] (c .at)) _ e
+  module _ {n : Name} (e : called (keyFault Header d [] o) (keyOf d o .name) ≡ key.Whole n) where
+    whole : (keyFault Header d [] o ≡ Sound) × (n ≡ keyOf d o .name)
+    whole = called-whole (keyFault Header d [] o) _ e
 
-    pub key-room : NameIn d (k .name)
-    key-room = rw (whole .1) (name-room Header d [] (c .at) (whole .0))
+    pub key-room : NameIn d n
+    key-room = rw (whole .1) (name-room Header d [] o (whole .0))
 
-    pub key-is : {t : Bool} → t ≡ sameName (codesOf d (k .name)) x → keyNamed d x c ≡ cond t (Found (c .at)) Missing
+    pub key-is : {t : Bool} → t ≡ sameName (codesOf d n) x → keyNamed d x (byOffset o) ≡ cond t (Found o) Missing
     unfolding keyNamed
     key-is p = rw (whole .0, ← whole .1, ← p)
+
+-- an element of a leaf, by the offset that it holds
+pub key-by : (d x : List ℕ) (l : Leaf) (i : ℕ) {o : Offset} → o ≡ childNamed d l i .at → keyNamed d x (byOffset o) ≡ keyNamed d x (childNamed d l i)
+unfolding keyNamed
+key-by d x l i p = rw p
 
 module _ (d x : List ℕ) (o : Offset) where
   pub leaf-bad : {f : Flaw} → leafed (leafFault Header d [] o) (leafOf d o) ≡ leaf.Flawed f → searchLeaf d x o ≡ Faulty f

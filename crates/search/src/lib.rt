@@ -3,10 +3,9 @@ use cells::Rule;
 use fields::Flaw;
 use fields::Offset;
 use names::Order;
-use records::Child;
+use records::Called;
 use records::Headed;
 use records::Key;
-use records::Keyed;
 use records::Leaf;
 use records::Leafed;
 use records::Leaves;
@@ -16,7 +15,7 @@ ghost use Rattle.fields.specs.Faults.{nowhere};
 ghost use Rattle.records.specs.Steps.{ElementsLie, elementsOf, LeavesLie, leavesNamed};
 ghost use Rattle.search.specs.Search.{keyNamed, searchKeys, searchLeaf, searchLeaves, searchBelow};
 ghost use Rattle.search.specs.Quick.{halving, askKey, quickKeys, askKeys, askLeaf, quickBelow, belowBy};
-ghost use Rattle.search.specs.Steps.{askedLast};
+ghost use Rattle.search.specs.Steps.{byOffset, askedLast};
 
 // What a search for a key or a value by its name meets.
 pub enum Look {
@@ -26,14 +25,12 @@ pub enum Look {
 }
 
 // One key, against a name, which is compared in place.
-fn key_named(bins: &[u8], name: &[u16], c: Child) -> Look
-    ensures { λ r. ⌜ r ≡ keyNamed (now (bins .entry)) (now (name .entry)) c ⌝ }
+fn key_named(bins: &[u8], name: &[u16], at: Offset) -> Look
+    ensures { λ r. ⌜ r ≡ keyNamed (now (bins .entry)) (now (name .entry)) (byOffset at) ⌝ }
 {
-    let at = c.at;
-    match records::key_at(bins, b"", Rule::Header, at) {
-        Keyed::Flawed(f) => Look::Faulty(f),
-        Keyed::Whole(k) => {
-            let stored = k.name;
+    match records::name_at(bins, at) {
+        Called::Flawed(f) => Look::Faulty(f),
+        Called::Whole(stored) => {
             if records::is_called(bins, stored, name) {
                 Look::Found(at)
             } else {
@@ -51,8 +48,8 @@ fn search_keys(bins: &[u8], name: &[u16], leaf: Leaf) -> Look
     let count = leaf.count;
     let mut i: usize = 0;
     while i < count {
-        let c = records::child_of(bins, leaf, i);
-        match key_named(bins, name, c) {
+        let at = records::child_offset(bins, leaf, i);
+        match key_named(bins, name, at) {
             Look::Missing => {}
             Look::Found(o) => {
                 return Look::Found(o);
@@ -123,20 +120,16 @@ pub enum Turn {
 }
 
 // One key, which may stand before or behind the name.
-fn ask_key(bins: &[u8], name: &[u16], c: Child) -> Turn
-    ensures { λ r. ⌜ r ≡ askKey (now (bins .entry)) (now (name .entry)) c ⌝ }
+fn ask_key(bins: &[u8], name: &[u16], at: Offset) -> Turn
+    ensures { λ r. ⌜ r ≡ askKey (now (bins .entry)) (now (name .entry)) (byOffset at) ⌝ }
 {
-    let at = c.at;
-    match records::key_at(bins, b"", Rule::Header, at) {
-        Keyed::Flawed(f) => Turn::Stop(Look::Faulty(f)),
-        Keyed::Whole(k) => {
-            let stored = k.name;
-            match records::order_of(bins, stored, name) {
-                Order::Before => Turn::Right,
-                Order::Same => Turn::Stop(Look::Found(at)),
-                Order::After => Turn::Left,
-            }
-        }
+    match records::name_at(bins, at) {
+        Called::Flawed(f) => Turn::Stop(Look::Faulty(f)),
+        Called::Whole(stored) => match records::order_of(bins, stored, name) {
+            Order::Before => Turn::Right,
+            Order::Same => Turn::Stop(Look::Found(at)),
+            Order::After => Turn::Left,
+        },
     }
 }
 
@@ -153,8 +146,8 @@ fn quick_keys(bins: &[u8], name: &[u16], leaf: Leaf) -> Look
             return Look::Missing;
         }
         let mid = lo + (hi - lo) / 2;
-        let c = records::child_of(bins, leaf, mid);
-        match ask_key(bins, name, c) {
+        let at = records::child_offset(bins, leaf, mid);
+        match ask_key(bins, name, at) {
             Turn::Left => {
                 hi = mid;
             }
@@ -176,7 +169,7 @@ fn ask_last(bins: &[u8], name: &[u16], leaf: Leaf) -> Turn
     requires { ⌜ 0 < leaf .count ⌝ }
     ensures { λ r. ⌜ r ≡ askedLast (now (bins .entry)) (now (name .entry)) (elementsOf (now (bins .entry)) leaf) ⌝ }
 {
-    let last = records::child_of(bins, leaf, leaf.count - 1);
+    let last = records::child_offset(bins, leaf, leaf.count - 1);
     match ask_key(bins, name, last) {
         Turn::Right => {
             return Turn::Right;
@@ -199,7 +192,7 @@ fn ask_keys(bins: &[u8], name: &[u16], leaf: Leaf) -> Turn
     requires { ⌜ 0 < leaf .count ⌝ }
     ensures { λ r. ⌜ r ≡ askKeys (now (bins .entry)) (now (name .entry)) (elementsOf (now (bins .entry)) leaf) ⌝ }
 {
-    let first = records::child_of(bins, leaf, 0);
+    let first = records::child_offset(bins, leaf, 0);
     match ask_key(bins, name, first) {
         Turn::Left => {
             return Turn::Left;

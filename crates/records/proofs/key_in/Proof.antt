@@ -18,29 +18,18 @@ u32-at-requires-4 c κs = search needs
 u32-at-requires-5 : tie.Need-u32-at-requires-5
 u32-at-requires-5 c κs = search needs
 
-u16-at-requires : tie.Need-u16-at-requires
-u16-at-requires c κs = search needs
-
-cast-t12 : tie.Need-cast-t12
-cast-t12 c = search needs
-
-u16-at-requires-2 : tie.Need-u16-at-requires-2
-u16-at-requires-2 c κs = search needs
-
-is-flagged-requires : tie.Need-is-flagged-requires
-is-flagged-requires c κs = search needs
+name-in-requires : tie.Need-name-in-requires
+name-in-requires c κs = search needs
 
 returns : tie.Need-returns
 unfolding keyIn
 returns c = rw (
-  c .before .before .before .before .before .before .before .u32-at .ensures,
-  c .before .before .before .before .before .before .u32-at2 .ensures,
-  c .before .before .before .before .before .u32-at3 .ensures,
-  c .before .before .before .before .u32-at4 .ensures,
-  c .before .before .before .u32-at5 .ensures,
-  c .before .before .u16-at .ensures,
-  c .is-flagged .ensures,
-  c .before .u16-at2 .ensures,
+  c .before .before .before .before .before .u32-at .ensures,
+  c .before .before .before .before .u32-at2 .ensures,
+  c .before .before .before .u32-at3 .ensures,
+  c .before .before .u32-at4 .ensures,
+  c .before .u32-at5 .ensures,
+  c .name-in .ensures,
 )
 
 pub key-in-spec : {M : Type 1} → statement M
@@ -52,8 +41,5 @@ key-in-spec =
     u32-at-requires-3
     u32-at-requires-4
     u32-at-requires-5
-    u16-at-requires
-    cast-t12
-    u16-at-requires-2
-    is-flagged-requires
+    name-in-requires
     returns)

@@ -2,24 +2,22 @@ use Rattle.search.proofs.Searches.{key-room}
 use Rattle.search.proofs.Asks.{ask-bad, ask-is}
 use Prim.Native.Nat.{_-_}
 use mathlib.Core.Path.{sym, _∙_}
+use mathlib.Core.List.{[]}
 use borrow.Author.Needs.{needs}
 use Rattle.search.proofs.ask_key.Statement.{statement}
 use Rattle.search.proofs.ask_key.Tie as tie
 
-slice-aggregate-key-at : tie.Need-slice-aggregate-key-at
-slice-aggregate-key-at c = search needs
-
-key-at-requires : tie.Need-key-at-requires
-key-at-requires c κs = search needs
+name-at-requires : tie.Need-name-at-requires
+name-at-requires c κs = search needs
 
 enum-known-f : tie.Need-enum-known-f
 enum-known-f c = search needs
 
-enum-known-k : tie.Need-enum-known-k
-enum-known-k c = search needs
+enum-known-stored : tie.Need-enum-known-stored
+enum-known-stored c = search needs
 
 order-of-requires : tie.Need-order-of-requires
-order-of-requires c κs = key-room _ (c .before .before .before .before .before .before .before .before .before .args .name .now) (c .before .before .before .before .before .before .before .before .before .args .c) (sym (c .before .before .before .before .key-at .ensures) ∙ c .before .before .k .given .1)
+order-of-requires c κs = key-room _ [] _ (sym (c .before .before .before .name-at .ensures) ∙ c .before .stored .given .1)
 
 enum-told : tie.Need-enum-told
 enum-told c = search needs
@@ -31,25 +29,24 @@ enum-told-3 : tie.Need-enum-told-3
 enum-told-3 c = search needs
 
 returns : tie.Need-returns
-returns c = sym (ask-bad _ _ _ (sym (c .before .before .before .key-at .ensures) ∙ c .before .f .given .1))
+returns c = sym (ask-bad _ _ _ (sym (c .before .before .before .name-at .ensures) ∙ c .before .f .given .1))
 
 returns-2 : tie.Need-returns-2
-returns-2 c = sym (ask-is _ _ _ (sym (c .before .before .before .before .before .before .before .key-at .ensures) ∙ c .before .before .before .before .before .k .given .1) (sym (c .enum-told .given .1) ∙ c .before .before .order-of .ensures))
+returns-2 c = sym (ask-is _ _ _ (sym (c .before .before .before .before .before .before .name-at .ensures) ∙ c .before .before .before .before .stored .given .1) (sym (c .enum-told .given .1) ∙ c .before .before .order-of .ensures))
 
 returns-3 : tie.Need-returns-3
-returns-3 c = sym (ask-is _ _ _ (sym (c .before .before .before .before .before .before .before .key-at .ensures) ∙ c .before .before .before .before .before .k .given .1) (sym (c .enum-told2 .given .1) ∙ c .before .before .order-of .ensures))
+returns-3 c = sym (ask-is _ _ _ (sym (c .before .before .before .before .before .before .name-at .ensures) ∙ c .before .before .before .before .stored .given .1) (sym (c .enum-told2 .given .1) ∙ c .before .before .order-of .ensures))
 
 returns-4 : tie.Need-returns-4
-returns-4 c = sym (ask-is _ _ _ (sym (c .before .before .before .before .before .before .before .key-at .ensures) ∙ c .before .before .before .before .before .k .given .1) (sym (c .enum-told3 .given .1) ∙ c .before .before .order-of .ensures))
+returns-4 c = sym (ask-is _ _ _ (sym (c .before .before .before .before .before .before .name-at .ensures) ∙ c .before .before .before .before .stored .given .1) (sym (c .enum-told3 .given .1) ∙ c .before .before .order-of .ensures))
 
 pub ask-key-spec : {M : Type 1} → statement M
 ask-key-spec =
     tie.close
     (tie.spec
-    slice-aggregate-key-at
-    key-at-requires
+    name-at-requires
     enum-known-f
-    enum-known-k
+    enum-known-stored
     order-of-requires
     enum-told
     enum-told-2

@@ -7,11 +7,11 @@ use borrow.Author.Needs.{needs}
 use Rattle.search.proofs.ask_last.Statement.{statement}
 use Rattle.search.proofs.ask_last.Tie as tie
 
-sub-child-of : tie.Need-sub-child-of
-sub-child-of c = search needs
+sub-child-offset : tie.Need-sub-child-offset
+sub-child-offset c = search needs
 
-child-of-requires : tie.Need-child-of-requires
-child-of-requires c κs = search needs
+child-offset-requires : tie.Need-child-offset-requires
+child-offset-requires c κs = search needs
 
 ask-key-requires : tie.Need-ask-key-requires
 ask-key-requires c κs = search needs
@@ -22,7 +22,7 @@ enum-told c = search needs
 returns : tie.Need-returns
 returns c =
     let s = c .before .before .before .before .before .before .before in
-    sym (last-is (s .args .bins .now) (s .args .name .now) (s .args .leaf) (s .pre .1) (c .before .before .before .child-of .ensures) (c .before .before .ask-key .ensures) (c .enum-told .given .1))
+    sym (last-is (s .args .bins .now) (s .args .name .now) (s .args .leaf) (s .pre .1) (c .before .before .before .child-offset .ensures) (c .before .before .ask-key .ensures) (c .enum-told .given .1))
 
 enum-told-2 : tie.Need-enum-told-2
 enum-told-2 c = search needs
@@ -36,7 +36,7 @@ enum-known-a-2 c = search needs
 returns-2 : tie.Need-returns-2
 returns-2 c =
     let s = c .before .before .before .before .before .before .before .before .before .before .before in
-    sym (last-is (s .args .bins .now) (s .args .name .now) (s .args .leaf) (s .pre .1) (c .before .before .before .before .before .before .before .child-of .ensures) (c .before .before .before .before .before .before .ask-key .ensures) (c .before .before .before .before .a .given .1 ∙ ap Stop (c .before .a2 .given .1)))
+    sym (last-is (s .args .bins .now) (s .args .name .now) (s .args .leaf) (s .pre .1) (c .before .before .before .before .before .before .before .child-offset .ensures) (c .before .before .before .before .before .before .ask-key .ensures) (c .before .before .before .before .a .given .1 ∙ ap Stop (c .before .a2 .given .1)))
 
 enum-told-3 : tie.Need-enum-told-3
 enum-told-3 c = search needs
@@ -52,18 +52,18 @@ returns-3 c =
     let s = c .before .before .before .before .before .before .before in
     ap Stop (c .quick-keys .ensures) ∙ sym
     (⊎-elim
-    (λ w. last-is (s .args .bins .now) (s .args .name .now) (s .args .leaf) (s .pre .1) (c .before .before .before .child-of .ensures) (c .before .before .ask-key .ensures) (w .1 .given .1))
+    (λ w. last-is (s .args .bins .now) (s .args .name .now) (s .args .leaf) (s .pre .1) (c .before .before .before .child-offset .ensures) (c .before .before .ask-key .ensures) (w .1 .given .1))
     (⊎-elim
-    (λ w. last-is (s .args .bins .now) (s .args .name .now) (s .args .leaf) (s .pre .1) (c .before .before .before .child-of .ensures) (c .before .before .ask-key .ensures) (w .1 .given .1 ∙ ap Stop (w .4 .given .1)))
-    (λ w. last-is (s .args .bins .now) (s .args .name .now) (s .args .leaf) (s .pre .1) (c .before .before .before .child-of .ensures) (c .before .before .ask-key .ensures) (w .1 .given .1 ∙ ap Stop (w .4 .given .1))))
+    (λ w. last-is (s .args .bins .now) (s .args .name .now) (s .args .leaf) (s .pre .1) (c .before .before .before .child-offset .ensures) (c .before .before .ask-key .ensures) (w .1 .given .1 ∙ ap Stop (w .4 .given .1)))
+    (λ w. last-is (s .args .bins .now) (s .args .name .now) (s .args .leaf) (s .pre .1) (c .before .before .before .child-offset .ensures) (c .before .before .ask-key .ensures) (w .1 .given .1 ∙ ap Stop (w .4 .given .1))))
     (c .before .match .came))
 
 pub ask-last-spec : {M : Type 1} → statement M
 ask-last-spec =
     tie.close
     (tie.spec
-    sub-child-of
-    child-of-requires
+    sub-child-offset
+    child-offset-requires
     ask-key-requires
     enum-told
     returns

@@ -1,9 +1,9 @@
 use Rattle.records.specs.Steps.{elementsOf, noChild}
 use Rattle.records.proofs.LawsElements.{elements-length, element-at}
 use Rattle.search.specs.Quick.{askKey, quickKeys}
-use Rattle.search.proofs.Asks.{leftOf, halves-start, halves-over, halves-none, halves-left, halves-right, halves-stop}
+use Rattle.search.proofs.Asks.{leftOf, halves-start, halves-over, halves-none, halves-left, halves-right, halves-stop, ask-by}
 use Prim.Native.Nat.{_-_, _≤_}
-use mathlib.Core.Path.{_≡_, sym, _∙_}
+use mathlib.Core.Path.{_≡_, refl, sym, _∙_}
 use mathlib.Core.Logic.{⊎-elim}
 use native.Mathlib.Omega.{arith}
 use borrow.Author.Needs.{needs}
@@ -33,8 +33,8 @@ sub-mid c = search needs
 add-mid : tie.Need-add-mid Inv-loop μ-loop
 add-mid c = search needs
 
-child-of-requires : tie.Need-child-of-requires Inv-loop μ-loop
-child-of-requires c κs = search needs
+child-offset-requires : tie.Need-child-offset-requires Inv-loop μ-loop
+child-offset-requires c κs = search needs
 
 ask-key-requires : tie.Need-ask-key-requires Inv-loop μ-loop
 ask-key-requires c κs = search needs
@@ -55,7 +55,7 @@ returns-2 : tie.Need-returns-2 Inv-loop μ-loop
 returns-2 c =
     let l = c .before .before .before .before .before .before .before .loop in
     let a = c .before .before .before .before .before .before .before .before .before .before .args in
-    sym (halves-stop (askKey (a .bins .now) (a .name .now)) noChild (elementsOf (a .bins .now) (a .leaf)) (l .turns) (l .lo) (l .hi) (l .inv .1) (omega arith) (omega arith) (element-at _ _ _ (omega arith) (c .before .before .before .before .child-of .ensures)) (c .before .before .before .ask-key .ensures) (c .before .a .given .1))
+    sym (halves-stop (askKey (a .bins .now) (a .name .now)) noChild (elementsOf (a .bins .now) (a .leaf)) (l .turns) (l .lo) (l .hi) (l .inv .1) (omega arith) (omega arith) (element-at _ _ _ (omega arith) refl) (c .before .before .before .ask-key .ensures ∙ ask-by _ _ _ _ (c .before .before .before .before .child-offset .ensures)) (c .before .a .given .1))
 
 sub-turns : tie.Need-sub-turns Inv-loop μ-loop
 sub-turns c = search needs
@@ -68,8 +68,8 @@ loop-again c =
     let l = c .before .before .before .before .before .loop in
     let a = c .before .before .before .before .before .before .before .before .args in
     ⊎-elim
-    (λ w. rw (w .2, w .3) (omega arith, halves-left (askKey (a .bins .now) (a .name .now)) noChild (elementsOf (a .bins .now) (a .leaf)) (l .turns) (l .lo) (l .hi) (l .inv .1) (omega arith) (omega arith) (element-at _ _ _ (omega arith) (c .before .before .child-of .ensures)) (c .before .ask-key .ensures) (w .1 .given .1)))
-    (λ w. rw (w .2, w .3) (l .inv .0, halves-right (askKey (a .bins .now) (a .name .now)) noChild (elementsOf (a .bins .now) (a .leaf)) (l .turns) (l .lo) (l .hi) (l .inv .1) (omega arith) (omega arith) (element-at _ _ _ (omega arith) (c .before .before .child-of .ensures)) (c .before .ask-key .ensures) (w .1 .given .1)))
+    (λ w. rw (w .2, w .3) (omega arith, halves-left (askKey (a .bins .now) (a .name .now)) noChild (elementsOf (a .bins .now) (a .leaf)) (l .turns) (l .lo) (l .hi) (l .inv .1) (omega arith) (omega arith) (element-at _ _ _ (omega arith) refl) (c .before .ask-key .ensures ∙ ask-by _ _ _ _ (c .before .before .child-offset .ensures)) (w .1 .given .1)))
+    (λ w. rw (w .2, w .3) (l .inv .0, halves-right (askKey (a .bins .now) (a .name .now)) noChild (elementsOf (a .bins .now) (a .leaf)) (l .turns) (l .lo) (l .hi) (l .inv .1) (omega arith) (omega arith) (element-at _ _ _ (omega arith) refl) (c .before .ask-key .ensures ∙ ask-by _ _ _ _ (c .before .before .child-offset .ensures)) (w .1 .given .1)))
     (c .match .came)
 
 returns-3 : tie.Need-returns-3 Inv-loop μ-loop
@@ -88,7 +88,7 @@ quick-keys-spec =
     returns
     sub-mid
     add-mid
-    child-of-requires
+    child-offset-requires
     ask-key-requires
     enum-told
     enum-told-2

@@ -1,6 +1,7 @@
 use Rattle.records.specs.Steps.{elementsOf, noChild}
 use Rattle.records.proofs.LawsElements.{elements-length, element-at}
 use Rattle.search.proofs.Turns.{turn-found, turn-faulty, turn-on, turn-end}
+use Rattle.search.proofs.Searches.{key-by}
 use Rattle.search.specs.Search.{keyNamed, firstOf}
 use lib.ListN.{drop}
 use Prim.Native.Nat.{_-_, _≤_}
@@ -19,8 +20,8 @@ abbrev μ-loop : tie.MeasureT-loop
 loop-holds : tie.Need-loop-holds Inv-loop μ-loop
 loop-holds c = (omega arith, refl, refl)
 
-child-of-requires : tie.Need-child-of-requires Inv-loop μ-loop
-child-of-requires c κs = search needs
+child-offset-requires : tie.Need-child-offset-requires Inv-loop μ-loop
+child-offset-requires c κs = search needs
 
 key-named-requires : tie.Need-key-named-requires Inv-loop μ-loop
 key-named-requires c κs = search needs
@@ -32,13 +33,13 @@ enum-known-o : tie.Need-enum-known-o Inv-loop μ-loop
 enum-known-o c = search needs
 
 returns : tie.Need-returns Inv-loop μ-loop
-returns c = let l = c .before .before .before .before .before .before .loop in let a = c .before .before .before .before .before .before .before .before .before .args in sym (turn-found _ _ (l .i) _ (l .inv .2) _ (omega (arith, elements-length (a .bins .now) (a .leaf))) (element-at _ _ _ (omega arith) (c .before .before .before .before .child-of .ensures)) (sym (c .before .before .before .key-named .ensures) ∙ c .before .o .given .1))
+returns c = let l = c .before .before .before .before .before .before .loop in let a = c .before .before .before .before .before .before .before .before .before .args in sym (turn-found _ _ (l .i) _ (l .inv .2) _ (omega (arith, elements-length (a .bins .now) (a .leaf))) (element-at _ _ _ (omega arith) refl) (sym (key-by _ _ _ _ (c .before .before .before .before .child-offset .ensures)) ∙ sym (c .before .before .before .key-named .ensures) ∙ c .before .o .given .1))
 
 enum-known-f : tie.Need-enum-known-f Inv-loop μ-loop
 enum-known-f c = search needs
 
 returns-2 : tie.Need-returns-2 Inv-loop μ-loop
-returns-2 c = let l = c .before .before .before .before .before .before .loop in let a = c .before .before .before .before .before .before .before .before .before .args in sym (turn-faulty _ _ (l .i) _ (l .inv .2) _ (omega (arith, elements-length (a .bins .now) (a .leaf))) (element-at _ _ _ (omega arith) (c .before .before .before .before .child-of .ensures)) (sym (c .before .before .before .key-named .ensures) ∙ c .before .f .given .1))
+returns-2 c = let l = c .before .before .before .before .before .before .loop in let a = c .before .before .before .before .before .before .before .before .before .args in sym (turn-faulty _ _ (l .i) _ (l .inv .2) _ (omega (arith, elements-length (a .bins .now) (a .leaf))) (element-at _ _ _ (omega arith) refl) (sym (key-by _ _ _ _ (c .before .before .before .before .child-offset .ensures)) ∙ sym (c .before .before .before .key-named .ensures) ∙ c .before .f .given .1))
 
 add-i : tie.Need-add-i Inv-loop μ-loop
 add-i c = search needs
@@ -47,7 +48,7 @@ loop-less : tie.Need-loop-less Inv-loop μ-loop
 loop-less c = search needs
 
 loop-again : tie.Need-loop-again Inv-loop μ-loop
-loop-again c = let l = c .before .before .before .before .before .loop in let a = c .before .before .before .before .before .before .before .before .args in (omega arith, l .inv .1, turn-on _ _ (l .i) _ (l .inv .2) _ (omega (arith, elements-length (a .bins .now) (a .leaf))) (element-at _ _ _ (omega arith) (c .before .before .before .child-of .ensures)) (sym (c .before .before .key-named .ensures) ∙ c .enum-told .given .1))
+loop-again c = let l = c .before .before .before .before .before .loop in let a = c .before .before .before .before .before .before .before .before .args in (omega arith, l .inv .1, turn-on _ _ (l .i) _ (l .inv .2) _ (omega (arith, elements-length (a .bins .now) (a .leaf))) (element-at _ _ _ (omega arith) refl) (sym (key-by _ _ _ _ (c .before .before .before .child-offset .ensures)) ∙ sym (c .before .before .key-named .ensures) ∙ c .enum-told .given .1))
 
 returns-3 : tie.Need-returns-3 Inv-loop μ-loop
 returns-3 c = let l = c .before .loop in let a = c .before .before .before .before .args in sym (turn-end _ _ (l .i) noChild (l .inv .2) (omega (arith, elements-length (a .bins .now) (a .leaf))))
@@ -59,7 +60,7 @@ search-keys-spec =
     Inv-loop
     μ-loop
     loop-holds
-    child-of-requires
+    child-offset-requires
     key-named-requires
     enum-told
     enum-known-o

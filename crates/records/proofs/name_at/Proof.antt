@@ -1,0 +1,75 @@
+use denote.Ref.{now}
+use native.Mathlib.Omega.{arith}
+use mathlib.Core.Path.{_≡_, sym, ap, _∙_}
+use mathlib.Core.List.{[]}
+use borrow.Author.Tests.{not-true, not-false}
+use Rattle.cells.specs.declared.Rule.the-variants.{Header}
+use Rattle.cells.specs.Named.{cellOf}
+use Rattle.cells.specs.declared.Found.the-variants.{Named}
+use Rattle.cells.proofs.Naming.{inside, cell-data-at}
+use Rattle.records.specs.Keys.{isKey, keyFault, keyOf}
+use Rattle.records.proofs.LawsKey.{is-key-facts}
+use Rattle.records.proofs.LawsRecord.{record-missing, record-bad, record-good}
+use borrow.Author.Needs.{needs}
+use Rattle.records.proofs.name_at.Statement.{statement}
+use Rattle.records.proofs.name_at.Tie as tie
+
+-- the cell that was found
+found : (c : tie.After-known-told2) → let a = c .before .before .before .before .before .before .args in
+    cellOf Header (now (a .bins)) [] (a .o) ≡ Named (c .before .c .given .0 .0)
+found c = sym (c .before .before .before .find-cell .ensures) ∙ c .before .c .given .1
+
+slice-aggregate-find-cell : tie.Need-slice-aggregate-find-cell
+slice-aggregate-find-cell c = search needs
+
+find-cell-requires : tie.Need-find-cell-requires
+find-cell-requires c κs = search needs
+
+enum-known-f : tie.Need-enum-known-f
+enum-known-f c = search needs
+
+enum-known-c : tie.Need-enum-known-c
+enum-known-c c = search needs
+
+cell-data-requires : tie.Need-cell-data-requires
+cell-data-requires c κs = inside _ _ _ _ (found c)
+
+is-key-requires : tie.Need-is-key-requires
+is-key-requires c κs = search needs
+
+returns : tie.Need-returns
+unfolding keyFault
+returns c = rw (record-bad isKey _ _ _ _ (found (c .before .before .before)) (ap isKey (sym (c .before .before .cell-data .ensures))
+    ∙ sym (c .before .is-key .ensures) ∙ not-true _ (c .if1 .taken)))
+
+name-in-requires : tie.Need-name-in-requires
+name-in-requires c κs = let k = is-key-facts _ (sym (c .before .is-key .ensures) ∙ not-false _ (c .if1 .left)) in omega arith
+
+returns-2 : tie.Need-returns-2
+unfolding keyFault
+returns-2 c = rw (record-missing isKey _ _ _ _ (sym (c .before .before .before .find-cell .ensures) ∙ c .before .f .given .1))
+
+returns-3 : tie.Need-returns-3
+unfolding keyFault keyOf
+returns-3 c = rw (
+  record-good isKey _ _ _ _ (found (c .before .before .before .before))
+      (ap isKey (sym (c .before .before .before .cell-data .ensures)) ∙ sym (c .before .before .is-key .ensures) ∙ not-false _ (c .before .if1 .left)),
+  ← cell-data-at _ _ _ _ (found (c .before .before .before .before)),
+  ← c .before .before .before .cell-data .ensures,
+  c .name-in .ensures,
+)
+
+pub name-at-spec : {M : Type 1} → statement M
+name-at-spec =
+    tie.close
+    (tie.spec
+    slice-aggregate-find-cell
+    find-cell-requires
+    enum-known-f
+    enum-known-c
+    cell-data-requires
+    is-key-requires
+    returns
+    name-in-requires
+    returns-2
+    returns-3)
