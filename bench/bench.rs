@@ -3,6 +3,7 @@ mod check;
 mod make;
 mod new_log;
 mod quick;
+mod security;
 use check::{Flaw, Idiom, Plain, Report, Style};
 use std::fs::{read, write};
 use std::hint::black_box;
@@ -254,8 +255,8 @@ fn measured(side: &str, i: &mut Input) -> Outcome {
     }
 }
 
-const ROWS: [&str; 31] = [
-    "check-1", "check-4", "check-16", "check-64", "check-1024", "check-wide", "last-100", "absent-100", "last-5000", "absent-5000", "last-60000", "absent-60000",
+const ROWS: [&str; 32] = [
+    "check-1", "check-4", "check-16", "check-64", "check-1024", "check-wide", "check-items", "last-100", "absent-100", "last-5000", "absent-5000", "last-60000", "absent-60000",
     "quick-last-100", "quick-absent-100", "quick-last-5000", "quick-absent-5000", "quick-last-60000", "quick-absent-60000",
     "copy", "deleted-1", "deleted-64", "clean-64", "repair-1000", "repair-1000-of-131072", "repair-100000", "all-1000", "all-1000-of-131072", "all-100000",
     "new-1000", "new-60000", "hash-30M",
@@ -264,6 +265,7 @@ const ROWS: [&str; 31] = [
 fn input(row: &str, folder: &str) -> Input {
     let (kind, file) = match row.split_once('-') {
         Some(("check", "wide")) => (Kind::Check, "wide-60000".into()),
+        Some(("check", "items")) => (Kind::Check, "items-20000".into()),
         Some(("check", n)) => (Kind::Check, format!("mixed-{n}")),
         Some(("last" | "absent", n)) => (Kind::Find, format!("wide-{n}")),
         Some(("quick", rest)) => (Kind::Quick, format!("wide-{}", rest.split_once('-').unwrap().1)),
@@ -319,8 +321,9 @@ fn make_all(folder: &str) {
         write(format!("{folder}/mixed-{n}"), make::mixed(n << 20)).unwrap();
     }
     for n in [100, 5000, 60000] {
-        write(format!("{folder}/wide-{n}"), make::wide(n)).unwrap();
+        write(format!("{folder}/wide-{n}"), make::wide(n, 1)).unwrap();
     }
+    write(format!("{folder}/items-20000"), make::wide(19_999, 20_000)).unwrap();
     write(format!("{folder}/large"), make::large_value()).unwrap();
     for n in [1, 64] {
         write(format!("{folder}/left-{n}"), make::left(n << 20, true)).unwrap();

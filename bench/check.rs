@@ -1,6 +1,7 @@
 // The baseline: the same algorithms in Rust. What differs by style stands in the trait: `Plain` is a translation that indexes byte by byte,
 // `Idiom` uses from_le_bytes, chunks_exact, iterators and slice copies.
 use crate::new_log::Marvin;
+use crate::security::security;
 use std::cmp::Ordering;
 
 #[derive(Clone, Copy, PartialEq, Debug)]
@@ -329,7 +330,7 @@ pub struct Report {
     pub free: u64,
 }
 
-fn survey<S: Style>(bins: &[u8], mut mark: impl FnMut(usize), r: &mut Report) -> Res<()> {
+pub fn survey<S: Style>(bins: &[u8], mut mark: impl FnMut(usize), r: &mut Report) -> Res<()> {
     let mut at = 0;
     while at < bins.len() {
         let n = S::u32_at(bins, at + 8) as usize;
@@ -582,6 +583,7 @@ pub fn check<S: Style>(h: &[u8], map: &mut [u8]) -> Res<Report> {
     w.key::<S>(root, None, None, None, 513)?;
     r.keys = w.keys;
     r.values = w.values;
+    security::<S>(bins, &mut map[..n], root, r.keys)?;
     Ok(r)
 }
 

@@ -5,6 +5,8 @@ pub struct Maker {
     pub file: Vec<u8>,
     bin: usize,
     next: usize,
+    keys: Vec<u32>,
+    items: usize,
 }
 
 fn put32(s: &mut [u8], i: usize, n: u32) {
@@ -21,8 +23,9 @@ pub fn seal(file: &mut [u8]) {
 }
 
 impl Maker {
-    pub fn new() -> Self {
-        Maker { file: vec![0; 4096], bin: 0, next: 4096 }
+    // With a ring of so many security items, which the keys name by turns.
+    pub fn new(items: usize) -> Self {
+        Maker { file: vec![0; 4096], bin: 0, next: 4096, keys: vec![], items }
     }
     fn end_bin(&mut self) {
         let left = self.file.len() - self.next;
@@ -61,6 +64,7 @@ impl Maker {
         put32(d, 16, parent);
         put16(d, 72, name.len() as u16);
         d[76..76 + name.len()].copy_from_slice(name.as_bytes());
+        self.keys.push(o);
         o
     }
     pub fn value(&mut self, name: &str, data: &[u8]) -> u32 {
@@ -97,6 +101,7 @@ impl Maker {
     // Frees cells, and merges those that are neighbours; their bytes stay, or are cleared.
     fn free(&mut self, cells: &[u32], old: bool) {
         let mut behind = 0;
+        self.keys.retain(|k| !cells.contains(k));
         for &o in cells.iter().rev() {
             let at = o as usize + 4096;
             let mut size = u32::from_le_bytes(self.file[at..at + 4].try_into().unwrap()).wrapping_neg();
@@ -157,7 +162,25 @@ impl Maker {
         }
         o
     }
+    // A descriptor of 100 bytes in each. Neighbours in the tree name items that are far apart. Once, before or at the end.
+    fn hang_items(&mut self) {
+        let n = std::mem::take(&mut self.items);
+        let items: Vec<u32> = (0..n).map(|_| self.cell(120)).collect();
+        let mut named = vec![0; n];
+        for (i, k) in std::mem::take(&mut self.keys).into_iter().enumerate() {
+            put32(self.data(k), 44, items[i * 7919 % n]);
+            named[i * 7919 % n] += 1;
+        }
+        for i in 0..n {
+            let d = self.data(items[i]);
+            d[0..2].copy_from_slice(b"sk");
+            for (at, x) in [(4, items[(i + 1) % n]), (8, items[(i + n - 1) % n]), (12, named[i]), (16, 100)] {
+                put32(d, at, x);
+            }
+        }
+    }
     pub fn finish(mut self) -> Vec<u8> {
+        self.hang_items();
         self.end_bin();
         let n = self.file.len() - 4096;
         let f = &mut self.file;
@@ -173,9 +196,9 @@ impl Maker {
     }
 }
 
-// Keys with values of each kind, three levels deep, until the bins are about that long.
+// Keys with values of each kind, three levels deep, until the bins are about that long; 300 security items.
 pub fn mixed(bins: usize) -> Vec<u8> {
-    let mut m = Maker::new();
+    let mut m = Maker::new(300);
     let root = m.key("ROOT", 0);
     let bytes: Vec<u8> = (0..40000u32).map(|i| (i * 7 + i / 251) as u8).collect();
     let (mut tops, mut i) = (vec![], 0);
@@ -203,8 +226,8 @@ pub fn mixed(bins: usize) -> Vec<u8> {
     m.finish()
 }
 
-pub fn wide(n: usize) -> Vec<u8> {
-    let mut m = Maker::new();
+pub fn wide(n: usize, items: usize) -> Vec<u8> {
+    let mut m = Maker::new(items);
     let root = m.key("ROOT", 0);
     let all: Vec<(u32, String)> = (0..n).map(|i| format!("Component{i:06}")).map(|x| (m.key(&x, root), x)).collect();
     m.hang_keys(root, &all);
@@ -213,7 +236,7 @@ pub fn wide(n: usize) -> Vec<u8> {
 
 // Half of the bins in use, and half free: a key and two values freed one after the other and merged, as deletion leaves them, or zeros.
 pub fn left(bins: usize, old: bool) -> Vec<u8> {
-    let mut m = Maker::new();
+    let mut m = Maker::new(1);
     let root = m.key("ROOT", 0);
     let mut i = 0;
     while m.file.len() < bins {
@@ -227,7 +250,7 @@ pub fn left(bins: usize, old: bool) -> Vec<u8> {
 }
 
 pub fn large_value() -> Vec<u8> {
-    let mut m = Maker::new();
+    let mut m = Maker::new(1);
     let root = m.key("ROOT", 0);
     let bytes: Vec<u8> = (0..1_048_576u32).map(|i| (i * 31 + i / 977) as u8).collect();
     let v = m.value("Large", &bytes);
@@ -237,8 +260,9 @@ pub fn large_value() -> Vec<u8> {
 
 // A hive of that many pages and more, before a repair of the first `pages` pages with an odd pattern, and the log.
 pub fn torn(bins: usize, pages: usize) -> (Vec<u8>, Vec<u8>) {
-    let mut m = Maker::new();
+    let mut m = Maker::new(1);
     m.key("ROOT", 0);
+    m.hang_items();
     m.cell(bins - 4096 - 36 - 4);
     let mut hive = m.finish();
     let n = hive.len() - 4096;

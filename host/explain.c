@@ -37,6 +37,7 @@ static const Reason REASONS[] = {
     [HIVE_FAULT_STAMPS] = {false, true, "the time stamps or the numbers of hive and log differ", "This log belongs to another hive, or to another state of this one. A log of Windows 8.1 or later must have the hive's second sequence number; its time stamp is compared where the hive's first sector is damaged, as an old log's always is. If there are two logs, give both."},
     [HIVE_FAULT_NOT_DIRTY] = {false, true, "the page is not marked in the log", "A program asked for a page that the log does not hold; this tool asks only for those it holds."},
     [HIVE_FAULT_NOT_IN] = {false, false, "a logged page is not in the hive yet", "A program asked to close the repair too early; this tool installs all pages first."},
+    [HIVE_FAULT_SECURITY] = {true, false, "the security items of the keys do not fit together", "At the place is the root, whose own item is none; or an item that has no room for its descriptor, whose forward link leads to no item that links back, or whose count is not the number of keys that name it; or a key whose item is not on the ring that starts at the root's. Windows does not load such a hive; its keys and values can be read here."},
 };
 enum { REASON_COUNT = sizeof REASONS / sizeof REASONS[0] };
 

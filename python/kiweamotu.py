@@ -70,8 +70,9 @@ WORDS = {
     25: "the time stamps or the numbers of hive and log differ",
     26: "the page is not marked in the log",
     27: "a logged page is not in the hive yet",
+    28: "the security items of the keys do not fit together",
 }
-PLACED = frozenset((9, 10, 11, 12, 13, 14, 15, 19))
+PLACED = frozenset((9, 10, 11, 12, 13, 14, 15, 19, 28))
 ORDER, PARENT, LEVEL, SEGMENTED, SHORT = 13, 14, 15, 19, 24
 
 # The registry's names of the types, from 0 on.
@@ -532,7 +533,7 @@ class Hive:
         """Checks the hive wholly. What it answers is proved to be exact: a Report where the hive is clean and well formed, else Refused.
 
         >>> Hive("minimal").check()
-        Report(bins=1, keys=1, values=0, used=88, free=3976)
+        Report(bins=1, keys=1, values=0, used=112, free=3952)
         """
         work = bytearray(self._memory[1] // 64)  # never too small: bins that end inside the file are shorter than it
         lent = _Lent(work, writable=True)

@@ -93,10 +93,20 @@ def place(at, i=0):
     return BASE + 4 + at + i
 
 
+def item_place(h, i=0):
+    """Byte i of the data of the root's security item."""
+    return place(u32(h, place(u32(h, 36), 44)), i)
+
+
+def counted(h, keys):
+    """A copy whose root's item is named by so many keys."""
+    return edited(h, (item_place(h, 12), word(keys)))
+
+
 def bases():
     minimal = Builder(Key("R")).hive
-    hive(minimal, "accepted bins 1 keys 1 values 0 used 88 free 3976")
-    hive(minimal + bytes(100), "accepted bins 1 keys 1 values 0 used 88 free 3976")
+    hive(minimal, "accepted bins 1 keys 1 values 0 used 112 free 3952")
+    hive(minimal + bytes(100), "accepted bins 1 keys 1 values 0 used 112 free 3952")
     refused(1, b"")
     refused(1, minimal[:4095])
     refused(2, edited(minimal, (0, b"Regf")))
@@ -113,10 +123,10 @@ def bases():
     refused(7, edited(minimal, (4, word(9))))
     refused(7, edited(minimal, (4, word(9)), (BASE, b"H")))
     for minor in (3, 4):
-        hive(edited(minimal, (24, word(minor))), "accepted bins 1 keys 1 values 0 used 88 free 3976")
+        hive(edited(minimal, (24, word(minor))), "accepted bins 1 keys 1 values 0 used 112 free 3952")
     # the root's parent field is not read, and its list offsets are not where the counts are 0
     hive(edited(minimal, (place(32, 16), word(32)), (place(32, 28), word(77)), (place(32, 40), word(77))),
-         "accepted bins 1 keys 1 values 0 used 88 free 3976")
+         "accepted bins 1 keys 1 values 0 used 112 free 3952")
 
 
 # a XOR, a number stored for it, and whether that is the right one: at both exceptions and beside them
@@ -133,7 +143,7 @@ def checksums():
     for xor, stored, right in STORED:
         h = with_xor(good, xor, stored)
         if right:
-            hive(h, "accepted bins 1 keys 2 values 0 used 192 free 3872")
+            hive(h, "accepted bins 1 keys 2 values 0 used 216 free 3848")
         else:
             refused(3, h)
     refused(7, torn(good))
@@ -158,7 +168,7 @@ def checksums():
 
 def tilings():
     two = Builder(Key("R", [Key("A" * 200), Key("B" * 200)], [Value("v", b"x" * 3900)])).hive
-    hive(two, "accepted bins 2 keys 3 values 1 used 4616 free 3512")
+    hive(two, "accepted bins 2 keys 3 values 1 used 4640 free 3488")
     for at in (0, 4096):
         refused(9, edited(two, (BASE + at, b"hbiN")), at)
         refused(9, edited(two, (BASE + at + 4, word(at + 8))), at)
@@ -173,10 +183,11 @@ def tilings():
     refused(11, edited(two, (BASE + 32, word(4064))), 32)
     # neighbouring free cells
     minimal = Builder(Key("R")).hive
-    hive(edited(minimal, (BASE + 120, word(8)), (BASE + 128, word(3968))), "accepted bins 1 keys 1 values 0 used 88 free 3976")
-    hive(edited(minimal, (BASE + 120, word(-8)), (BASE + 128, word(3968))), "accepted bins 1 keys 1 values 0 used 96 free 3968")
-    for root in (0, 31, 33, 36, 120, 128, 4096, 4095, 0x80000000, 0xFFFFFFFF):
+    hive(edited(minimal, (BASE + 144, word(8)), (BASE + 152, word(3944))), "accepted bins 1 keys 1 values 0 used 112 free 3952")
+    hive(edited(minimal, (BASE + 144, word(-8)), (BASE + 152, word(3944))), "accepted bins 1 keys 1 values 0 used 120 free 3944")
+    for root in (0, 31, 33, 36, 128, 144, 152, 4096, 4095, 0x80000000, 0xFFFFFFFF):
         refused(11, edited(minimal, (36, word(root))), root)
+    refused(12, edited(minimal, (36, word(120))), 120)
 
 
 def keys():
@@ -188,15 +199,15 @@ def keys():
         refused(12, edited(h, change), at)
     refused(12, edited(h, (BASE + at, word(-72)), (BASE + at + 72, word(4064 - 72))), at)
     # the four bytes as two units
-    hive(edited(h, (place(at, 2), half(0))), "accepted bins 1 keys 1 values 0 used 88 free 3976")
+    hive(edited(h, (place(at, 2), half(0))), "accepted bins 1 keys 1 values 0 used 112 free 3952")
     refused(12, edited(h, (place(at, 2), half(0)), (place(at, 72), half(3))), at)
     # 0x5C00 and 0x5C01 are no backslashes
-    hive(edited(h, (place(at, 2), half(0)), (place(at, 76), b"\0\\\1\\")), "accepted bins 1 keys 1 values 0 used 88 free 3976")
+    hive(edited(h, (place(at, 2), half(0)), (place(at, 76), b"\0\\\1\\")), "accepted bins 1 keys 1 values 0 used 112 free 3952")
     refused(12, edited(h, (place(at, 2), half(0)), (place(at, 78), b"\\\0")), at)
     for wide, count in ((False, 255), (True, 255)):
         k = Key("n" * count, wide=wide)
         b = Builder(k, slack=8)
-        used = (4 + 76 + count * (2 if wide else 1) + 8 + 7) // 8 * 8
+        used = (4 + 76 + count * (2 if wide else 1) + 8 + 7) // 8 * 8 + 32
         hive(b.hive, "accepted bins 1 keys 1 values 0 used %d free %d" % (used, 4064 - used))
         more = b"n\0" * (count + 1) if wide else b"n" * (count + 1)
         refused(12, edited(b.hive, (place(k.at, 72), half(len(more))), (place(k.at, 76), more)), k.at)
@@ -224,7 +235,7 @@ def lists():
     refused(14, edited(h, (place(leaf, 2), half(3))), at)
     for count in (1, 3, 5, 0xFFFFFFFF):
         refused(14, edited(h, (place(at, 20), word(count))), at)
-    hive(edited(h, (place(at, 20), word(0))), "accepted bins 1 keys 1 values 0 used 488 free 3576")
+    hive(counted(edited(h, (place(at, 20), word(0))), 1), "accepted bins 1 keys 1 values 0 used 512 free 3552")
     for o in (0, leaf + 4, 8, 0xFFFFFFF8, 0x80000000):
         refused(11, edited(h, (place(at, 28), word(o))), o)
     refused(12, edited(h, (place(at, 28), word(a))), a)
@@ -241,8 +252,8 @@ def lists():
     # the hash is of the upper-cased name, and lf hints are not read
     root, h = family("lf", ("ab",))
     leaf = u32(h, place(root.at, 28))
-    hive(edited(h, (place(leaf, 8), word(7))), "accepted bins 1 keys 2 values 0 used 192 free 3872")
-    hive(edited(h, (place(leaf), b"lh"), (place(leaf, 8), word(2471))), "accepted bins 1 keys 2 values 0 used 192 free 3872")
+    hive(edited(h, (place(leaf, 8), word(7))), "accepted bins 1 keys 2 values 0 used 216 free 3848")
+    hive(edited(h, (place(leaf), b"lh"), (place(leaf, 8), word(2471))), "accepted bins 1 keys 2 values 0 used 216 free 3848")
     refused(13, edited(h, (place(leaf), b"lh"), (place(leaf, 8), word(2470))), root.subkeys[0].at)
     names()
     across()
@@ -264,7 +275,7 @@ def names():
     for first, second, good in (("a", "ab", True), ("ab", "a", False), ("A", "b", True), ("b", "A", False), ("a", "A", False), ("Z", "_", True), ("z", "_", True),
                                 ("_", "z", False), ("z", "{", True), ("a", "\u0416", True), ("\xe9", "\xc9", False), ("\xc9", "\xe9", False), ("\xc5", "\xe4", False), ("\xe4", "\xc5", True), ("\xd7", "\xf7", True),
                                 ("\u0177", "\xff", True), ("\xff", "\u0177", False), ("\xff", "\u0178", False), ("\xff", "\u0179", True), ("\xe0", "\xdf", True), ("\xb5", "\xe0", True)):
-        for lists, used in (("lh", 288), ([("li", 1), ("lh", 1)], 312)):
+        for lists, used in (("lh", 312), ([("li", 1), ("lh", 1)], 336)):
             root = Key("R", [Key(first), Key(second)], lists=lists)
             h = Builder(root).hive
             if good:
@@ -291,7 +302,7 @@ def letters():
         root = Key("R", [Key([code])])
         h = Builder(root).hive
         leaf = u32(h, place(root.at, 28))
-        hive(edited(h, (place(leaf, 8), word(right))), "accepted bins 1 keys 2 values 0 used 192 free 3872")
+        hive(edited(h, (place(leaf, 8), word(right))), "accepted bins 1 keys 2 values 0 used 216 free 3848")
         refused(13, edited(h, (place(leaf, 8), word(wrong))), root.subkeys[0].at)
     names = "Abel caf\xe9 D\xe9p\xf4t fa\xe7ade Gr\xfcn na\xefve Zo\xeb \xc4rger \xc5ngstr\xf6m \xc9diteur \xfcber \xff".split()
     swapped = "aBEL CAF\xc9 d\xc9P\xd4T FA\xc7ADE gR\xdcN NA\xcfVE zO\xcb \xe4RGER \xe5NGSTR\xd6M \xe9DITEUR \xdcBER \u0178".split()
@@ -333,7 +344,7 @@ def below():
     inner = Key("inner", [Key("leaf", values=[Value("v", b"12345678")])])
     root = Key("R", [Key("a", [inner]), Key("b")])
     h = Builder(root).hive
-    hive(h, "accepted bins 1 keys 5 values 1 used 552 free 3512")
+    hive(h, "accepted bins 1 keys 5 values 1 used 576 free 3488")
     leaf, b, a = inner.subkeys[0].at, root.subkeys[1].at, root.subkeys[0].at
     refused(12, edited(h, (place(leaf), b"kn"), (place(b), b"kn")), leaf)
     refused(12, edited(h, (place(leaf), b"kn"), (place(b, 16), word(a))), leaf)
@@ -472,12 +483,260 @@ def broken(root, h, deep):
     path("", "refused 11 at %d" % root.at)
 
 
+# ---- security items
+
+class Ring:
+    """A root and its subkeys, whose items go round a ring in the order of their offsets; each has eight bytes for a descriptor, and uses four of them."""
+
+    def __init__(self, items=5, subkeys=8):
+        self.of = [hives.Item(bytes([i + 1] * 4)) for i in range(items)]
+        self.root = Key("R", [Key("k%d" % i, item=self.of[i % items]) for i in range(subkeys)], item=self.of[0])
+        self.hive = Builder(self.root, items=self.of).hive
+        self.items, self.keys = [x.at for x in self.of], [k.at for k in self.root.subkeys]
+        self.free = next(cell for cell, _ in hives.free_cells(self.hive[BASE:]))
+
+    def named(self, i):
+        """How many keys name an item."""
+        return u32(self.hive, place(self.items[i], 12))
+
+    def set(self, i, forward=None, backward=None, count=None, size=None):
+        """What to write for an item's fields."""
+        fields = ((4, forward), (8, backward), (12, count), (16, size))
+        return [(place(self.items[i], at), word(n)) for at, n in fields if n is not None]
+
+    def linked(self, *order):
+        """What to write so that the ring is in another order."""
+        after = dict(zip(order, order[1:] + order[:1]))
+        return [c for i, j in after.items() for c in self.set(i, forward=self.items[j]) + self.set(j, backward=self.items[i])]
+
+    def moved(self, k, to, counts=True):
+        """What to write so that a subkey names something else, and its item is named once less."""
+        old = k % len(self.items)
+        return [(place(self.keys[k], 44), word(to))] + (self.set(old, count=self.named(old) - 1) if counts else [])
+
+    def carved(self, *cells):
+        """What to write so that cells in use stand where the free cell starts; and where they are."""
+        at, changes, places = self.free, [], []
+        for data in cells:
+            size = (len(data) + 11) // 8 * 8
+            changes += [(BASE + at, word(-size) + data + bytes(size - 4 - len(data)))]
+            places.append(at)
+            at += size
+        return changes + [(BASE + at, word(4096 - at))], places
+
+    def accepted(self, *changes):
+        h = edited(self.hive, *changes)
+        hive(h, "accepted bins 1 keys %d values 0 used %d free %d" % ((1 + len(self.keys),) + sum_used(h)))
+
+    def refused(self, at, *changes):
+        refused(28, edited(self.hive, *changes), at)
+
+
+def item(forward=0, backward=0, count=0, size=0):
+    return b"sk\0\0" + word(forward) + word(backward) + word(count) + word(size)
+
+
+def security():
+    minimal = Builder(Key("R")).hive
+    for at in (0, 32, 116, 124, 128, 144, 4096, 0x80000000, 0xFFFFFFF8, 0xFFFFFFFF):
+        refused(28, edited(minimal, (place(32, 44), word(at))), 32)
+    for change in ((BASE + 120, word(24)), (place(120), b"ks"), (place(120), b"nk"), (BASE + 120, word(-16) + item(120, 120)[:12] + word(-8))):
+        refused(28, edited(minimal, change), 32)
+    for change in ((4, word(144)), (4, word(32)), (8, word(32)), (8, word(0)), (12, word(0)), (12, word(2)), (12, word(65537)), (16, word(1)), (16, word(0xFFFFFFEC))):
+        refused(28, edited(minimal, (place(120, change[0]), change[1])), 120)
+    hive(edited(minimal, (place(120, 2), b"??")), "accepted bins 1 keys 1 values 0 used 112 free 3952")
+    r = Ring()
+    r.accepted()
+    rooms_and_counts(r)
+    links(r)
+    shapes(r)
+    item_pairs(r)
+    off_the_ring(r)
+    lower_numbers()
+
+
+def rooms_and_counts(r):
+    """An item's room and its count, at the first, a middle and the last; none of its other bytes is read."""
+    for i in (0, 2, 4):
+        n = r.named(i)
+        for size in (0, 3, 7, 8):
+            r.accepted(*r.set(i, size=size))
+        for size in (9, 10, 0x10004, 0x7FFFFFFF, 0x80000000, 0xFFFFFFEB, 0xFFFFFFEC, 0xFFFFFFED, 0xFFFFFFFF):
+            r.refused(r.items[i], *r.set(i, size=size))
+        for count in (0, n - 1, n + 1, n + 256, n + 65536, n + 0x1000000, 0xFFFFFFFF):
+            r.refused(r.items[i], *r.set(i, count=count))
+        r.accepted((place(r.items[i], 2), b"sk"), (place(r.items[i], 20), b"\xff" * 8))
+    empty = Ring(5, 2)
+    empty.accepted()
+    empty.refused(empty.items[3], *empty.set(3, count=1))
+    # a key that no list names is not counted
+    refused(28, edited(r.hive, (place(r.root.at, 20), word(0))), r.items[0])
+    alone = edited(r.hive, (place(r.root.at, 20), word(0)), *[c for i in range(5) for c in r.set(i, count=1 if i == 0 else 0)])
+    hive(alone, "accepted bins 1 keys 1 values 0 used %d free %d" % sum_used(alone))
+
+
+def links(r):
+    """Forward links of the first, a middle and the last item to what is none, and to items that name another one back."""
+    cells, (short_at, whole_at) = r.carved(item()[:12], item(r.items[0], r.items[0]))
+    leaf = u32(r.hive, place(r.root.at, 28))
+    for i in (0, 2, 4):
+        at, after, past = r.items[i], r.items[(i + 1) % 5], r.items[(i + 2) % 5]
+        for to in (0, 4, 8, r.free, r.free + 8, 4088, 4096, 8192, 0x80000000, 0xFFFFFFF8, 0xFFFFFFFF, after + 1, after + 4, after + 8, after - 8, r.root.at, r.keys[i], leaf, at, past):
+            r.refused(at, *r.set(i, forward=to))
+        for back in (0, after, past, r.items[i - 1], at + 4, at + 1, at ^ 0x80000000, 0xFFFFFFFF):
+            r.refused(at, *r.set((i + 1) % 5, backward=back))
+        # a cell of 16 bytes that begins as an item; a whole one that names another back; bytes inside a cell that would be one
+        r.refused(at, *cells, *r.set(i, forward=short_at), *r.set((i + 1) % 5, backward=short_at), (place(short_at, 4), word(after) + word(at)))
+        r.refused(at, *cells, *r.set(i, forward=whole_at), (place(whole_at, 8), word(r.items[(i + 3) % 5])))
+        inside, (host,) = r.carved(b"data" + word(-24) + item(after, at))
+        r.refused(at, *inside, *r.set(i, forward=host + 8), *r.set((i + 1) % 5, backward=host + 8))
+        # the item linked to is free, or is another record
+        size = 0x100000000 - u32(r.hive, BASE + after)
+        r.refused(r.root.at if i == 4 else at, (BASE + after, word(size)))
+        r.refused(r.root.at if i == 4 else at, (place(after), b"nk"))
+    # an item that stands in the ring beside the others
+    r.accepted(*cells, *r.set(2, forward=whole_at), *r.set(3, backward=whole_at), (place(whole_at, 4), word(r.items[3]) + word(r.items[2])))
+    r.refused(r.items[2], *cells, *r.set(2, forward=whole_at), (place(whole_at, 4), word(r.items[3]) + word(r.items[2])), (BASE + whole_at, word(24)))
+    r.refused(whole_at, *cells, *r.set(2, forward=whole_at), (place(whole_at, 4), word(r.items[3]) + word(r.items[2])))
+
+
+def shapes(r):
+    """Rings in other orders, short ones, both rho shapes, and rings beside the ring."""
+    for order in ((0, 3, 1, 4, 2), (4, 3, 2, 1, 0), (2, 3, 4, 0, 1)):
+        r.accepted(*r.linked(*order))
+    # the ring's order and not that of the offsets: of two items at fault, and of the item after which the ring is left
+    r.refused(r.items[4], *r.linked(0, 4, 3, 2, 1), *r.set(1, count=99), *r.set(4, count=99))
+    r.refused(r.items[3], *r.linked(0, 4, 3, 2, 1), *r.set(1, size=99), *r.set(3, forward=0))
+    # the first one's backward link is tested with the last item, the last one's with the item before it
+    for back in (0, r.root.at, r.items[0], r.items[2], r.items[4] + 8):
+        r.refused(r.items[4], *r.set(0, backward=back))
+        r.refused(r.items[3], *r.set(4, backward=back))
+    for m in (1, 2, 3, 4):
+        r.refused(r.items[4], *r.set(4, forward=r.items[m]))
+        r.refused(r.items[m - 1], *r.set(4, forward=r.items[m]), *r.set(m, backward=r.items[4]))
+    # one left out: its keys are off the ring
+    r.refused(r.keys[1], *r.linked(0, 2, 3, 4))
+    r.refused(r.keys[1], *r.linked(0, 2, 4), *r.linked(1, 3))
+    r.refused(r.keys[2], *r.linked(0, 1, 3, 4), *r.linked(2))
+    r.refused(r.keys[4], *r.linked(0, 1, 2, 3))
+    # the same without keys there: not judged, whatever it says
+    few = Ring(5, 2)
+    few.accepted(*few.linked(0, 1, 4), *few.linked(2, 3))
+    few.accepted(*few.linked(0, 1), *few.linked(2, 3, 4), *few.set(3, count=7), *few.set(4, size=0xFFFFFFFF))
+    few.accepted(*few.linked(0, 1), *few.set(2, forward=few.items[0], backward=few.items[1]), *few.set(3, forward=0, backward=1))
+    few.refused(few.items[1], *few.linked(0, 1), *few.set(0, backward=few.items[4]))
+    one = Ring(1, 3)
+    one.accepted()
+    one.refused(one.items[0], *one.set(0, count=3))
+    one.refused(one.items[0], *one.set(0, backward=one.root.at))
+    two = Ring(2, 3)
+    two.accepted()
+    two.refused(two.items[0], *two.set(0, forward=two.items[0]))
+    two.refused(two.items[1], *two.set(1, forward=two.items[1]))
+    two.refused(two.items[0], *two.set(1, backward=two.items[1]))
+    two.refused(two.items[1], *two.set(0, backward=two.items[0]))
+    two.refused(two.keys[1], *two.linked(0), *two.linked(1))
+
+
+def item_pairs(r):
+    """Two faults: the earlier item answers, whichever they are; the root's offset before all items, these before all keys."""
+    def fault(kind, i):
+        return {"room": r.set(i, size=9), "forward": r.set(i, forward=r.root.at), "backward": r.set((i + 1) % 5, backward=r.root.at), "count": r.set(i, count=77)}[kind]
+
+    kinds = ("room", "forward", "backward", "count")
+    for a in kinds:
+        for b in kinds:
+            for i, j in ((0, 1), (1, 3), (3, 4)):
+                r.refused(r.items[i], *fault(a, i), *fault(b, j))
+            if a != b:
+                r.refused(r.items[2], *fault(a, 2), *fault(b, 2))
+        r.refused(r.root.at, *fault(a, 0), (place(r.root.at, 44), word(r.root.at)))
+        r.refused(r.items[4], *fault(a, 4), *r.moved(0, 0))
+        r.refused(r.items[0], *fault(a, 0), *r.moved(7, r.free))
+    # the root's own offset is tested first, and the ring starts at its item: from another one it is the same ring
+    for i in (1, 4):
+        changes = [(place(r.root.at, 44), word(r.items[i]))] + r.set(0, count=r.named(0) - 1) + r.set(i, count=r.named(i) + 1)
+        r.accepted(*changes)
+        r.refused(r.items[i], *changes, *r.set(i, size=9), *r.set(0, size=9))
+        r.refused(r.items[0], *changes, *r.set(0, size=9), *r.set(i - 1, size=9))
+
+
+def off_the_ring(r):
+    """Keys whose offset is no ring item's, in the order of the walk; the counts are those of the others."""
+    cells, (self_at, into_at, short_at) = r.carved(item(r.free, r.free, 1), item(r.items[0], r.items[4], 1), item(0, 0)[:12])
+    for k in (0, 4, 7):
+        for to in (0, 4, 8, r.free, 4088, 4096, 8192, 0x80000000, 0xFFFFFFFF, r.items[1] + 4, r.items[1] + 8, r.root.at, r.keys[k]):
+            r.refused(r.keys[k], *r.moved(k, to))
+        for to in (self_at, into_at, short_at):
+            r.refused(r.keys[k], *cells, *r.moved(k, to))
+        # with the count of the item that it named before it is that item
+        r.refused(r.items[k % 5], *r.moved(k, 0, counts=False))
+        r.refused(r.items[k % 5], *cells, *r.moved(k, self_at, counts=False))
+    r.accepted(*cells)
+    r.refused(r.keys[2], *r.moved(2, 0), *r.moved(4, self_at), *cells)
+    r.refused(r.keys[2], *r.moved(2, self_at), *r.moved(4, 0), *cells)
+    walk_order()
+    also_data()
+
+
+def walk_order():
+    """A subtree before the next sibling, and list order where the offsets are in another: the first key of the walk answers."""
+    items = [hives.Item(), hives.Item()]
+    low, deep, high = Key("c", item=items[1]), Key("x", item=items[1]), Key("b", item=items[1])
+    root = Key("R", [low, high, Key("a", [deep])])
+    h = Builder(root, items=items).hive
+    leaf, a = u32(h, place(root.at, 28)), root.subkeys[2]
+    element = {k: h[place(leaf, 4 + 8 * i):place(leaf, 12 + 8 * i)] for i, k in enumerate(root.subkeys)}
+    sorted_list = (place(leaf, 4), element[a] + element[high] + element[low])
+    right = edited(h, sorted_list)
+    hive(right, "accepted bins 1 keys 5 values 0 used %d free %d" % sum_used(right))
+    for moved, first in (((low, high), high), ((low, deep), deep), ((low, high, deep), deep), ((low,), low), ((a, low), a)):
+        changes = [(place(k.at, 44), word(0)) for k in moved]
+        counts = [u32(h, place(x.at, 12)) - sum((k.item or items[0]) is x for k in moved) for x in items]
+        refused(28, edited(right, *changes, *[(place(x.at, 12), word(n)) for x, n in zip(items, counts)]), first.at)
+
+
+def also_data():
+    """A cell may be an item and something else: not judged."""
+    items = [hives.Item(), hives.Item(b"12345678")]
+    v = Value("v", b"12345678")
+    root = Key("R", values=[v], item=items[0])
+    h = Builder(root, items=items).hive
+    for at, size in ((items[0].at, 20), (items[1].at, 28)):
+        changed_h = edited(h, (place(v.at, 8), word(at)), (place(v.at, 4), word(size)))
+        hive(changed_h, "accepted bins 1 keys 1 values 1 used %d free %d" % sum_used(changed_h))
+        refused(12, edited(changed_h, (place(v.at, 4), word(size + 1))), at)
+    refused(28, edited(h, (place(root.at, 44), word(v.at))), root.at)
+
+
+def lower_numbers():
+    """9 to 14 go before 28, wherever they are; 15 is among the larger runs."""
+    root = Key("R", [Key("a", [Key("b", values=[Value("v", b"12345678")])]), Key("z")])
+    h = Builder(root).hive
+    z, b = root.subkeys[1].at, root.subkeys[0].subkeys[0].at
+    v = u32(h, place(u32(h, place(b, 40)), 0))
+    free = next(cell for cell, _ in hives.free_cells(h[BASE:]))
+    first = u32(h, place(root.at, 44))
+    for broken, at in (((place(first, 12), word(9)), first), ((place(first, 4), word(0)), first), ((place(root.at, 44), word(0)), root.at), ((place(z, 44), word(0)), first)):
+        bad = edited(h, broken)
+        refused(28, bad, at)
+        refused(9, edited(bad, (BASE + 4, word(8))), 0)
+        refused(10, edited(bad, (BASE + free, word(4))), free)
+        refused(11, edited(bad, (place(v, 8), word(4))), 4)
+        refused(12, edited(bad, (place(v), b"kv")), v)
+        refused(12, edited(bad, (place(z), b"kn")), z)
+        refused(13, edited(bad, (place(z, 76), b"A")), z)
+        refused(14, edited(bad, (place(z, 16), word(z))), z)
+        refused(14, edited(bad, (place(root.at, 20), word(3))), root.at)
+        refused(7, edited(bad, (4, word(9))))
+
+
 def logs():
     root = Key("Root", [Key("kept")])
     good = Builder(root, stamp=0x1122334455667788).hive
     dirty = torn(good)
     page0, page1 = bytes(good[BASE:BASE + 512]), bytes(good[BASE + 512:BASE + 1024])
-    accepted = "accepted bins 1 keys 2 values 0 used 192 free 3872"
+    accepted = "accepted bins 1 keys 2 values 0 used 216 free 3848"
     whole = old_log(good, {0: page0})
     # a clean hive answers clean, whatever the log
     hive(good, accepted)
@@ -563,7 +822,7 @@ def bad_logs(good, dirty, whole, page0):
     refused(7, dirty)
     log(whole + b"behind", "repaired 1")
     # two bins: the bitmap has two bytes, and the figures of the paper
-    root = Key("R", values=[Value("v", b"x" * 4000)])
+    root = Key("R", values=[Value("v", b"x" * 3976)])
     large = Builder(root, stamp=5).hive
     accepted = "accepted bins 2 keys 1 values 1 used %d free %d" % (sum_used(large))
     hive(large, accepted)
@@ -633,7 +892,7 @@ def new_logs():
     first = entry(NUMBER, bins, pages_of(good, 0, 7))
     whole = new_log(good, [first])
     # a clean hive answers clean, whatever the log
-    hive(good, "accepted bins 1 keys 2 values 0 used 192 free 3872")
+    hive(good, "accepted bins 1 keys 2 values 0 used 216 free 3848")
     log(whole, "clean")
     # page 0 brings a tree back
     refused(7, lost)
@@ -717,7 +976,7 @@ def new_numbers(good, lost, kept):
 
 def new_sizes(good):
     """Growth and shrinkage: 24 reads the largest counted bins size, the closing sector has the last."""
-    root = Key("R", values=[Value("v", b"x" * 4000)])
+    root = Key("R", values=[Value("v", b"x" * 3976)])
     large = Builder(root, stamp=0x1122334455667788).hive
     assert u32(large, 40) == 8192
     small = numbered(edited(good, (40, word(4096))), 1, NUMBER)
@@ -820,7 +1079,7 @@ def write(name, data):
 def ends():
     """Streams that end in every way: (name, bytes, lines). Each is a file of the program frame_ends."""
     minimal = frame(HIVE, Builder(Key("R")).hive)
-    accepted = "accepted bins 1 keys 1 values 0 used 88 free 3976"
+    accepted = "accepted bins 1 keys 1 values 0 used 112 free 3952"
     out = [("empty", b"", [])]
     out += [("head%d" % n, minimal[:n], ["bad frame"]) for n in range(1, 6)]
     out += [("cut", minimal[:-1], ["bad frame"]), ("bare", minimal[:6], ["bad frame"]),
@@ -848,7 +1107,7 @@ def hold(name, data, said):
 
 
 def main():
-    for part in (begin, bases, checksums, tilings, keys, lists, values, paths, logs, new_logs):
+    for part in (begin, bases, checksums, tilings, keys, lists, values, paths, security, logs, new_logs):
         part()
     stream.extend(struct.pack("<IH", 0xFFFFFFFF, PATH))
     lines.append("bad frame")

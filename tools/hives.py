@@ -4,7 +4,7 @@ The other scripts of this folder import it. "The paper" is document 01; a number
 docs/DECISIONS.md that a line follows. Standard library only."""
 import struct
 import sys
-from collections import namedtuple
+from collections import Counter, namedtuple
 
 sys.setrecursionlimit(10000)
 
@@ -183,7 +183,7 @@ class Reader:
         if codes is None or not 1 <= len(codes) <= 255 or BACKSLASH in codes:
             raise Refused(12, at, self.examined)
         return {"at": at, "name": codes, "parent": u32(d, 16), "subkeys": u32(d, 20), "list": u32(d, 28),
-                "values": u32(d, 36), "value_list": u32(d, 40)}
+                "values": u32(d, 36), "value_list": u32(d, 40), "security": u32(d, 44)}
 
     def list_of(self, at, allowed):
         """A list's signature and its elements: (offset, hash or None). 12 at the list (13)."""
@@ -273,10 +273,10 @@ def name_codes(raw, one):
 
 
 class Walk:
-    """The check from the root on."""
+    """The check from the root on. `keys` are those that were reached, in the order of the walk, each with its security offset."""
 
     def __init__(self, reader, root):
-        self.reader, self.root, self.keys, self.values = reader, root, 0, 0
+        self.reader, self.root, self.keys, self.values = reader, root, [], 0
 
     def key(self, at, parent, elder, hashed, level):
         """One key, wholly; answers its name, for the order of the next."""
@@ -295,12 +295,50 @@ class Walk:
         children = [child for leaf in r.leaves(k) for child in leaf]
         if len(children) != k["subkeys"]:
             raise Refused(14, at, at)
-        self.keys += 1
+        self.keys.append((at, k["security"]))
         self.values += k["values"]
         before = None
         for child, child_hash in children:
             before = self.key(child, at, before, child_hash, level + 1)
         return k["name"]
+
+
+Links = namedtuple("Links", "forward backward count size length")
+
+
+def item_of(reader, at):
+    """What the item at an offset says, and how long its data are; None where the offset names no item."""
+    if at not in reader.starts:
+        return None
+    d = reader.cell(at)
+    if len(d) < 20 or d[0:2] != b"sk":
+        return None
+    return Links(u32(d, 4), u32(d, 8), u32(d, 12), u32(d, 16), len(d))
+
+
+def is_right(reader, at, item, named):
+    """Room for its descriptor, a forward link to an item that names it back, and the count of the keys that name it."""
+    then = item_of(reader, item.forward)
+    return 20 + item.size <= item.length and then is not None and then.backward == at and item.count == named
+
+
+def security(reader, keys):
+    """28, by request 2: the root's offset, then the items along the forward links from it on, then the keys whose offset is none of theirs. The ring
+    closes, for an item but the first that is met again would have named two items back."""
+    root, first = keys[0]
+    if item_of(reader, first) is None:
+        raise Refused(28, root, root)
+    named, ring, at = Counter(o for _, o in keys), set(), first
+    while at not in ring:
+        item = item_of(reader, at)
+        if not is_right(reader, at, item, named[at]):
+            raise Refused(28, at, root)
+        ring.add(at)
+        at = item.forward
+    assert at == first
+    for key, o in keys:
+        if o not in ring:
+            raise Refused(28, key, key)
 
 
 def check(hive, work):
@@ -314,7 +352,8 @@ def check(hive, work):
         work[at // 64] |= 1 << at % 64 // 8
     walk = Walk(Reader(bins, u32(hive, 24), starts), u32(hive, 36))
     walk.key(u32(hive, 36), None, None, None, 0)
-    return count, walk.keys, walk.values, used, free
+    security(walk.reader, walk.keys)
+    return count, len(walk.keys), walk.values, used, free
 
 
 # ---- the model: lookup and values
@@ -794,25 +833,35 @@ class Value:
         self.inline = len(data) <= 4 if inline is None else inline
 
 
+class Item:
+    """A security item: its descriptor. `at` is set by the builder."""
+
+    def __init__(self, descriptor=b""):
+        self.descriptor, self.at = descriptor, None
+
+
 class Key:
     """A key of a tree. `lists` says how the subkeys are listed: a signature for one leaf, or a list of
-    (signature, count) for leaves below an `ri`."""
+    (signature, count) for leaves below an `ri`. `item` is one of the builder's; None: its first."""
 
-    def __init__(self, name, subkeys=(), values=(), lists="lh", wide=None):
+    def __init__(self, name, subkeys=(), values=(), lists="lh", wide=None, item=None):
         self.name, self.subkeys, self.values, self.lists = units(name), list(subkeys), list(values), lists
         self.wide = any(c > 255 for c in self.name) if wide is None else wide
-        self.at = None
+        self.item, self.at = item, None
 
 
 class Builder:
-    """Lays a tree out. Afterwards `hive` is the file, and `fields` lists what was written where: (place, width, what)."""
+    """Lays a tree out, and behind it the ring of its security items, in their order: one empty one, unless said. Afterwards `hive` is the file, and
+    `fields` lists what was written where: (place, width, what)."""
 
-    def __init__(self, root, minor=5, stamp=1, sequence=1, bin_size=4096, segmented=None, slack=0):
+    def __init__(self, root, minor=5, stamp=1, sequence=1, bin_size=4096, segmented=None, slack=0, items=None):
         self.minor, self.stamp, self.bin_size, self.slack = minor, stamp, bin_size, slack
         self.segmented = minor >= 4 if segmented is None else segmented
-        self.bins, self.cells, self.fields = bytearray(), [], []
+        self.bins, self.cells, self.fields, self.keys = bytearray(), [], [], []
         self.bin, self.free_at, self.bin_end = 0, 0, 0
+        self.items = [Item()] if items is None else items
         self.lay_key(root, 0xFFFFFFFF)
+        self.lay_items()
         self.end_bin()
         self.root = root.at
         self.hive = self.base(sequence) + self.bins
@@ -881,8 +930,21 @@ class Builder:
         struct.pack_into("<II", d, 36, len(k.values), values)
         struct.pack_into("<H", d, 72, len(name))
         kinds = [(0, 2, "sign"), (2, 2, "flags"), (16, 4, "offset"), (20, 4, "count"), (28, 4, "offset"), (36, 4, "count"),
-                 (40, 4, "offset"), (72, 2, "count"), (76, 1, "name"), (76 + len(name) - 1, 1, "name")]
+                 (40, 4, "offset"), (44, 4, "offset"), (72, 2, "count"), (76, 1, "name"), (76 + len(name) - 1, 1, "name")]
         self.put(k.at, d + name, kinds)
+        self.keys.append(k)
+
+    def lay_items(self):
+        """Each linked to the next and the one before, with the number of the keys that name it."""
+        for x in self.items:
+            x.at = self.cell(20 + len(x.descriptor))
+        owners = [k.item or self.items[0] for k in self.keys]
+        for k, x in zip(self.keys, owners):
+            struct.pack_into("<I", self.bins, k.at + 4 + 44, x.at)
+        named = Counter(x.at for x in owners)
+        for before, x, after in zip(self.items[-1:] + self.items, self.items, self.items[1:] + self.items):
+            d = struct.pack("<2sHIIII", b"sk", 0, after.at, before.at, named[x.at], len(x.descriptor)) + x.descriptor
+            self.put(x.at, d, [(0, 2, "sign"), (4, 4, "offset"), (8, 4, "offset"), (12, 4, "count"), (16, 4, "count")])
 
     def leaf(self, sign, keys):
         d = bytearray(struct.pack("<2sH", sign.encode(), len(keys)))

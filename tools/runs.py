@@ -6,7 +6,7 @@ import os
 import struct
 
 import hives
-from hives import BASE, Builder, Key, Refused, Value, u32
+from hives import BASE, Builder, Item, Key, Refused, Value, u32
 
 orders, lines = bytearray(), []
 work, output = bytearray(32768), bytearray(1048640)
@@ -124,8 +124,9 @@ def levels():
     chain = [Key("k%d" % i) for i in range(514)]
     for above, below in zip(chain, chain[1:]):
         above.subkeys.append(below)
-    store("levels", Builder(chain[0]).hive)
-    last, over = chain[512], chain[513]
+    b = Builder(chain[0])
+    store("levels", b.hive)
+    last, over, item = chain[512], chain[513], b.items[0].at
     say("level 513")
     check("refused 15 at %d" % over.at)
     at("\\".join("K%d" % i for i in range(1, 513)))
@@ -134,6 +135,8 @@ def levels():
     key("refused 16 at 0")
     say("level 512")
     change((BASE + 4 + last.at + 20, word(0)))
+    check("refused 28 at %d" % item)
+    change((BASE + 4 + item + 12, word(513)))
     used = -sum(n for n in sizes(now["hive"]) if n < 0)
     bins = u32(now["hive"], 40) // 4096
     check("accepted bins %d keys 513 values 0 used %d free %d" % (bins, used, 4096 * bins - 32 * bins - used))
@@ -353,6 +356,45 @@ def missing(b, root, empty, sub, vs):
     copy("refused 7 at 0", 100)
 
 
+def security():
+    """5,000 items, which are counted in three batches, and the map after each refusal."""
+    items = [Item() for _ in range(5000)]
+    root = Key("R", [Key("k%03d" % i, item=items[4999 - 8 * i]) for i in range(600)])
+    b = Builder(root, items=items)
+    store("items", b.hive)
+    at, keys = [x.at for x in items], [k.at for k in root.subkeys]
+    used = -sum(n for n in sizes(b.hive) if n < 0)
+    bins = b.hive.count(b"hbin")
+    accepted = "accepted bins %d keys 601 values 0 used %d free %d" % (bins, used, len(b.bins) - 32 * bins - used)
+    place = lambda o, i: BASE + 4 + o + i
+    say("5,000 items")
+    check(accepted)
+    for i in (0, 1, 2047, 2048, 4095, 4096, 4999):
+        say("item %d: its count, its room, its link, and the link back" % i)
+        for there, n in ((place(at[i], 12), u32(b.hive, place(at[i], 12)) + 1), (place(at[i], 16), 1), (place(at[i], 4), at[(i + 2) % 5000]), (place(at[(i + 1) % 5000], 8), at[i - 1])):
+            change((there, word(n)))
+            check("refused 28 at %d" % at[i])
+            change((there, word(u32(b.hive, there))))
+    say("a count in the third batch and a link in the second; a count in the second and a link in the third")
+    for counted, linked in ((4500, 2500), (2500, 4500)):
+        change((place(at[counted], 12), word(7)), (place(at[linked], 4), word(0)))
+        check("refused 28 at %d" % at[2500])
+        change((place(at[counted], 12), word(u32(b.hive, place(at[counted], 12)))), (place(at[linked], 4), word(at[linked + 1])))
+    say("the last key, and the first, name nothing, and the end of the bins data; the map is longer")
+    for k in (599, 0):
+        for to in (0, 40, len(b.bins), len(b.bins) + 6400, 2**32 - 1):
+            change((place(keys[k], 44), word(to)), (place(root.subkeys[k].item.at, 12), word(0)))
+            check("refused 28 at %d" % keys[k], len(b.bins) // 64 + 200)
+    say("one item is left out of the ring")
+    change(*[(place(keys[k], 44), word(root.subkeys[k].item.at)) for k in (0, 599)], *[(place(root.subkeys[k].item.at, 12), word(1)) for k in (0, 599)])
+    check(accepted, len(b.bins) // 64 + 200)
+    change((place(at[4998], 4), word(at[0])), (place(at[0], 8), word(at[4998])))
+    check("refused 28 at %d" % keys[0])
+    say("the same with no key there")
+    change((place(keys[0], 44), word(at[0])), (place(at[0], 12), word(2)))
+    check(accepted)
+
+
 def long_names():
     """A value's name has 16,383 characters at most."""
     for wide in (False, True):
@@ -380,6 +422,7 @@ def main():
     segments()
     values()
     letters()
+    security()
     long_names()
     with open("crates/hive_runs/stdin", "wb") as f:
         f.write(orders)

@@ -1,7 +1,7 @@
 """The hives of docs/COMING-FROM.md: python3 tools/samples.py DIR makes SYSTEM; TORN with its TORN.LOG, a store that was cut; NEW with its NEW.LOG1 and
 NEW.LOG2, the same with logs of Windows 8.1 and later; BAD, a cell of an
 impossible size; CUT, a file that ends early; DELETED, whose key `gone` and its value lie in free cells. Other readers ask for what the paper does
-not: a security item for every key, and a mark on the root. Standard library only."""
+not: a descriptor in the security item, and a mark on the root. Standard library only."""
 import os
 import struct
 import sys
@@ -13,22 +13,19 @@ WRITTEN = 0x01DA6B2F00000000  # 2024-02-29 16:47:36 UTC
 
 
 class Builder(hives.Builder):
+    """One item for all keys: an owner and a group, and no list of rights."""
+
+    def __init__(self, root):
+        system = bytes([1, 1, 0, 0, 0, 0, 0, 5, 18, 0, 0, 0])
+        hives.Builder.__init__(self, root, items=[hives.Item(struct.pack("<BBHIIII", 1, 0, 0x8000, 20, 32, 0, 0) + system + system)])
+
     def lay_key(self, k, parent):
         hives.Builder.lay_key(self, k, parent)
         data = k.at + 4
         struct.pack_into("<Q", self.bins, data + 4, WRITTEN)
-        struct.pack_into("<II", self.bins, data + 44, self.security(), NONE)
+        struct.pack_into("<I", self.bins, data + 48, NONE)
         if parent == NONE:
             struct.pack_into("<H", self.bins, data + 2, 0x2C)
-
-    def security(self):
-        """One item for all keys: an owner and a group, and no list of rights."""
-        if not hasattr(self, "item"):
-            system = bytes([1, 1, 0, 0, 0, 0, 0, 5, 18, 0, 0, 0])
-            who = struct.pack("<BBHIIII", 1, 0, 0x8000, 20, 32, 0, 0) + system + system
-            self.item = self.cell(20 + len(who))
-            self.put(self.item, struct.pack("<2sHIIII", b"sk", 0, self.item, self.item, 7, len(who)) + who)
-        return self.item
 
 
 def text(words):
@@ -50,10 +47,11 @@ def system():
 
 
 def deleted():
-    """A key's cell and its value's cell are free, and the root counts one key less; the bytes stay."""
+    """A key's cell and its value's cell are free, and the root and the security item count one key less; the bytes stay."""
     root = hives.Key("root", [hives.Key("a"), hives.Key("gone", [], [hives.Value("secret", text("old"), 1)])])
-    file = bytearray(Builder(root).hive)
-    gone = root.subkeys[1]
+    made = Builder(root)
+    file, gone = bytearray(made.hive), root.subkeys[1]
+    struct.pack_into("<I", file, 4096 + made.items[0].at + 16, 2)
     for at in (gone.at, gone.values[0].at):
         struct.pack_into("<i", file, 4096 + at, -struct.unpack_from("<i", file, 4096 + at)[0])
     struct.pack_into("<H", file, 4096 + hives.u32(file, 4096 + root.at + 32) + 6, 1)

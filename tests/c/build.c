@@ -43,7 +43,7 @@ static const uint8_t STAMP[8] = {1, 2, 3, 4, 5, 6, 7, 8};
 
 Made made_in(uint8_t *file, size_t bins, uint32_t minor)
 {
-    Made m = {file, bins, 32, 32, minor};
+    Made m = {file, bins, 32, 32, minor, 0};
     memcpy(m.file + 4096, "hbin", 4);
     put32(m.file + 4096 + 8, (uint32_t)bins);
     memcpy(m.file + 4096 + 20, STAMP, 8);
@@ -194,9 +194,48 @@ void hang_values(Made *m, uint32_t key, const uint32_t *values, size_t count)
     put32(data_of(m, key) + 40, list);
 }
 
-/* The rest of the bin is one free cell, and the base block is written. */
+uint32_t new_item(Made *m, size_t room)
+{
+    uint32_t item = new_cell(m, 20 + room);
+    uint8_t *d = data_of(m, item);
+    memcpy(d, "sk", 2);
+    put32(d + 4, item);
+    put32(d + 8, item);
+    return item;
+}
+
+/* No more subkeys than the key counts: a list may be made to repeat itself. */
+static uint32_t secure_list(Made *m, uint32_t list, uint32_t item, uint32_t *left)
+{
+    const uint8_t *d = data_of(m, list);
+    uint32_t count = d[2] | (uint32_t)d[3] << 8, keys = 0;
+    size_t wide = d[1] == 'i' ? 4 : 8;
+    for (uint32_t i = 0; i < count && *left > 0; i++) {
+        uint32_t at = get32(d + 4 + wide * i);
+        if (d[0] == 'r')
+            keys += secure_list(m, at, item, left);
+        else {
+            (*left)--;
+            keys += secure(m, at, item);
+        }
+    }
+    return keys;
+}
+
+uint32_t secure(Made *m, uint32_t key, uint32_t item)
+{
+    uint8_t *d = data_of(m, key);
+    uint32_t left = get32(d + 20);
+    put32(d + 44, item);
+    return 1 + (left == 0 ? 0 : secure_list(m, get32(d + 28), item, &left));
+}
+
+/* One security item for all keys that the root reaches; the rest of the bin is one free cell; and the base block is written. */
 void finish(Made *m)
 {
+    if (m->item == 0)
+        m->item = new_item(m, 0);
+    put32(data_of(m, m->item) + 12, secure(m, m->root, m->item));
     if (m->next < m->bins)
         put32(m->file + 4096 + m->next, (uint32_t)(m->bins - m->next));
     memcpy(m->file, "regf", 4);

@@ -12,6 +12,7 @@ typedef struct {
     uint32_t next;   /* where the next cell goes */
     uint32_t root;
     uint32_t minor;
+    uint32_t item;   /* the security item of all keys, or 0: finish makes it */
 } Made;
 
 void put16(uint8_t *at, uint32_t n);
@@ -30,9 +31,11 @@ uint32_t new_key(Made *m, const char *name, uint32_t parent);
 uint32_t new_leaf(Made *m, const char *kind, const uint32_t *keys, size_t count);
 uint32_t new_index(Made *m, const uint32_t *leaves, size_t count);
 uint32_t new_value(Made *m, const char *name, uint32_t type, const uint8_t *data, size_t length);
+uint32_t new_item(Made *m, size_t room); /* linked to itself, named by no key, with room for a descriptor */
 void hang_keys(Made *m, uint32_t key, uint32_t list, uint32_t count);
 void hang_values(Made *m, uint32_t key, const uint32_t *values, size_t count);
 void finish(Made *m);
+uint32_t secure(Made *m, uint32_t key, uint32_t item); /* this key and all below it name the item; how many they are */
 
 /* A hive with keys in li, lf, lh and ri lists, and values of each form and of many types. */
 Made sample(void);

@@ -31,8 +31,10 @@ static HiveAnswer checked(const uint8_t *file, size_t length)
     HiveReport r = hive_check(h, length, m, length / 64);
     EXPECT(memcmp(h, file, length) == 0);
     EXPECT(r.answer.value == 0);
-    if (r.answer.number <= 10 || r.answer.number >= 13)
+    if (r.answer.number <= 10 || (r.answer.number >= 13 && r.answer.number <= 15))
         EXPECT(r.answer.key == (r.answer.number <= 10 ? NO_KEY : r.answer.place));
+    if (r.answer.number == 28)
+        EXPECT(r.answer.key == r.answer.place || r.answer.key == get32(file + 36));
     EXPECT(r.answer.number == 0 || r.bins + r.keys + r.values + r.used + r.free == 0);
     if (r.answer.number >= 1 && r.answer.number <= 8)
         EXPECT(memcmp(m, map, length / 64) == 0);
@@ -304,9 +306,10 @@ static void t_accepted(void)
     finish(&m);
     uint8_t map[65], *lent = lend(1, memset(map, 0xa5, sizeof map), sizeof map);
     HiveReport r = hive_check(lend(0, m.file, 8192), 8192, lent, sizeof map);
-    EXPECT(is(r.answer, 0, 0) && r.bins == 1 && r.keys == 1 && r.values == 0 && r.used == 88 && r.free == 3976);
+    EXPECT(is(r.answer, 0, 0) && r.bins == 1 && r.keys == 1 && r.values == 0 && r.used == 112 && r.free == 3952);
     memset(map, 0, 64);
     map[0] = 0x10;
+    map[1] = 0x80;
     EXPECT(memcmp(lent, map, 65) == 0);
     EXPECT(is(hive_check(m.file, 8192, map, 63).answer, 8, 0));
     m = sample();
@@ -383,7 +386,7 @@ static void t_bins(void)
     put32(m.file + 8192 + 4, 4096);
     put32(m.file + 8192 + 32, 4096 - 32);
     HiveReport r = hive_check(lend(0, m.file, 12288), 12288, lend(1, m.file, 128), 128);
-    EXPECT(is(r.answer, 0, 0) && r.bins == 2 && r.used == 88 && r.free == 8192 - 64 - 88);
+    EXPECT(is(r.answer, 0, 0) && r.bins == 2 && r.used == 112 && r.free == 8192 - 64 - 112);
     free(m.file);
 }
 
@@ -668,7 +671,7 @@ typedef struct {
     uint32_t at, kind, length, narrow;
 } Left;
 
-enum { KEY = HIVE_OLD_KEY, VALUE = HIVE_OLD_VALUE, LEFT_MOST = 8 };
+enum { KEY = HIVE_OLD_KEY, VALUE = HIVE_OLD_VALUE, LEFT_MOST = 8, FREE = 144 };
 
 /* A record at an offset. The four bytes there stay: they are an old size, or the free cell's own. All that deletion may destroy, and that is not judged, is 0xff. */
 static void leave(Made *m, Left x, const void *name)
@@ -694,7 +697,7 @@ static const char *letters(size_t length)
     return memset(name, 'n', length);
 }
 
-/* A root and a free cell from 120 on, of one bin. */
+/* A root, its security item and a free cell from FREE on, of one bin. */
 static Made free_bin(size_t bins)
 {
     Made m = made(bins, 5);
@@ -763,7 +766,7 @@ static void only(const Made *m, const Left *want, size_t count)
     EXPECT(memcmp(h, m->file, n) == 0);
 }
 
-/* One record at an offset of a free cell from 120 to the end of a bin: whether it is found. */
+/* One record at an offset of a free cell from FREE to the end of a bin: whether it is found. */
 static void tried(size_t bins, Left x, const void *name, bool there)
 {
     Made m = free_bin(bins);
@@ -775,12 +778,12 @@ static void tried(size_t bins, Left x, const void *name, bool there)
 /* The start of a free cell, its last bytes, and what does not end inside it. */
 static void t_left_room(void)
 {
-    tried(4096, (Left){120, KEY, 4, 1}, "gone", true);
-    tried(4096, (Left){120, VALUE, 4, 1}, "gone", true);
+    tried(4096, (Left){FREE, KEY, 4, 1}, "gone", true);
+    tried(4096, (Left){FREE, VALUE, 4, 1}, "gone", true);
     tried(4096, (Left){4096 - 24, VALUE, 0, 1}, "", true);
     tried(4096, (Left){4096 - 88, KEY, 8, 1}, "the last", true);
-    tried(4096, (Left){124, KEY, 4, 1}, "gone", false);
-    tried(4096, (Left){132, VALUE, 4, 1}, "gone", false);
+    tried(4096, (Left){FREE + 4, KEY, 4, 1}, "gone", false);
+    tried(4096, (Left){FREE + 12, VALUE, 4, 1}, "gone", false);
     Made m = free_bin(4096);
     memcpy(data_of(&m, 4096 - 16), "vk\0\0", 4); /* the same 8 bytes later: it ends past the cell */
     only(&m, NULL, 0);
@@ -792,16 +795,17 @@ static void t_left_room(void)
 /* A free cell of 120 bytes before another one: a record ends at its end, one byte past it, or starts in the other. */
 static void t_left_neighbours(void)
 {
-    const Left at_end = {152, KEY, 8, 1}, past = {152, KEY, 9, 1}, other = {240, KEY, 8, 1}, start = {240, VALUE, 3, 1};
+    enum { NEXT = FREE + 120 };
+    const Left at_end = {NEXT - 88, KEY, 8, 1}, past = {NEXT - 88, KEY, 9, 1}, other = {NEXT, KEY, 8, 1}, start = {NEXT, VALUE, 3, 1};
     for (int i = 0; i < 4; i++) {
         Made m = free_bin(4096);
-        split(&m, 120, 120, 4096 - 240);
+        split(&m, FREE, 120, 4096 - NEXT);
         Left x = (Left[]){at_end, past, other, start}[i];
         leave(&m, x, letters(x.length));
         if (i == 1)
-            put32(m.file + 4096 + 240, 4096 - 240); /* its ninth letter lies in the size field there */
+            put32(m.file + 4096 + NEXT, 4096 - NEXT); /* its ninth letter lies in the size field there */
         only(&m, &x, i == 1 ? 0 : 1);
-        put32(m.file + 4096 + 120, 0u - 120); /* the first of them in use */
+        put32(m.file + 4096 + FREE, 0u - 120); /* the first of them in use */
         only(&m, &x, i < 2 ? 0 : 1);
         free(m.file);
     }
@@ -818,10 +822,10 @@ static void t_left_names(void)
         {65535, false, false, false, false},
     };
     for (size_t i = 0; i < sizeof cases / sizeof cases[0]; i++) {
-        tried(20 * 4096, (Left){128, KEY, cases[i].length, 1}, letters(cases[i].length), cases[i].key_narrow);
-        tried(20 * 4096, (Left){128, KEY, cases[i].length, 0}, letters(cases[i].length), cases[i].key_wide);
-        tried(20 * 4096, (Left){128, VALUE, cases[i].length, 1}, letters(cases[i].length), cases[i].value_narrow);
-        tried(20 * 4096, (Left){128, VALUE, cases[i].length, 0}, letters(cases[i].length), cases[i].value_wide);
+        tried(20 * 4096, (Left){FREE + 8, KEY, cases[i].length, 1}, letters(cases[i].length), cases[i].key_narrow);
+        tried(20 * 4096, (Left){FREE + 8, KEY, cases[i].length, 0}, letters(cases[i].length), cases[i].key_wide);
+        tried(20 * 4096, (Left){FREE + 8, VALUE, cases[i].length, 1}, letters(cases[i].length), cases[i].value_narrow);
+        tried(20 * 4096, (Left){FREE + 8, VALUE, cases[i].length, 0}, letters(cases[i].length), cases[i].value_wide);
     }
 }
 
@@ -833,15 +837,15 @@ static void t_left_backslashes(void)
         {"a\\", 2, 1, false}, {"a\0b", 3, 1, true},
     };
     for (size_t i = 0; i < sizeof cases / sizeof cases[0]; i++) {
-        tried(4096, (Left){120, KEY, cases[i].length, cases[i].narrow}, cases[i].name, cases[i].of_key);
-        tried(4096, (Left){120, VALUE, cases[i].length, cases[i].narrow}, cases[i].name, true);
+        tried(4096, (Left){FREE, KEY, cases[i].length, cases[i].narrow}, cases[i].name, cases[i].of_key);
+        tried(4096, (Left){FREE, VALUE, cases[i].length, cases[i].narrow}, cases[i].name, true);
     }
 }
 
 /* Keys that were freed one after the other, the first cell's size grown over the others; records that overlap; a record in a cell in use. */
 static void t_left_merged(void)
 {
-    static const Left keys[] = {{120, KEY, 5, 1}, {208, KEY, 3, 1}, {288, KEY, 4, 0}};
+    static const Left keys[] = {{FREE, KEY, 5, 1}, {FREE + 88, KEY, 3, 1}, {FREE + 168, KEY, 4, 0}};
     Made m = free_bin(4096);
     for (int i = 0; i < 3; i++) {
         leave(&m, keys[i], "a\0b\0c");
@@ -849,20 +853,20 @@ static void t_left_merged(void)
             put32(m.file + 4096 + keys[i].at, i == 1 ? 80 : 0u - 88);
     }
     only(&m, keys, 3);
-    put32(data_of(&m, m.root) + 40, 120); /* the tree does not matter: a value list that is free, and a root that is none */
+    put32(data_of(&m, m.root) + 40, FREE); /* the tree does not matter: a value list that is free, and a root that is none */
     put32(data_of(&m, m.root) + 36, 1);
-    EXPECT(in(checked(m.file, made_length(&m)), 11, 120, 32));
+    EXPECT(in(checked(m.file, made_length(&m)), 11, FREE, 32));
     only(&m, keys, 3);
     put32(m.file + 36, 40);
     reseal(m.file);
     EXPECT(is(checked(m.file, made_length(&m)), 11, 40));
     only(&m, keys, 3);
-    split(&m, 120, 0u - 88, 4096 - 208);
+    split(&m, FREE, 0u - 88, 4096 - FREE - 88);
     only(&m, keys + 1, 2);
-    put32(m.file + 4096 + 208, 0u - (4096 - 208));
+    put32(m.file + 4096 + FREE + 88, 0u - (4096 - FREE - 88));
     only(&m, NULL, 0);
     free(m.file);
-    static const Left both[] = {{120, KEY, 100, 1}, {208, VALUE, 7, 1}, {232, VALUE, 0, 0}};
+    static const Left both[] = {{FREE, KEY, 100, 1}, {FREE + 88, VALUE, 7, 1}, {FREE + 112, VALUE, 0, 0}};
     m = free_bin(4096);
     for (int i = 0; i < 3; i++) /* the second in the name of the first, the third in that of the second */
         leave(&m, both[i], letters(both[i].length));
@@ -873,10 +877,10 @@ static void t_left_merged(void)
 /* Two bins of a page, and padding behind them: what lies there is in no free cell. */
 static void t_left_bins(void)
 {
-    static const Left all[] = {{120, KEY, 1, 1}, {4096 - 24, VALUE, 0, 0}, {4096 + 32, VALUE, 2, 0}, {8192 - 80, KEY, 2, 0}};
+    static const Left all[] = {{FREE, KEY, 1, 1}, {4096 - 24, VALUE, 0, 0}, {4096 + 32, VALUE, 2, 0}, {8192 - 80, KEY, 2, 0}};
     Made m = free_bin(8192);
     put32(m.file + 4096 + 8, 4096);
-    put32(m.file + 4096 + 120, 4096 - 120);
+    put32(m.file + 4096 + FREE, 4096 - FREE);
     memcpy(m.file + 8192, m.file + 4096, 32);
     put32(m.file + 8192 + 4, 4096);
     put32(m.file + 8192 + 32, 4096 - 32);
@@ -919,18 +923,18 @@ static void t_left_refusals(void)
     static const struct { uint32_t at, n, number, place; } changes[] = {
         {0, 0x66676573, 2, 0}, {508, 0, 3, 0}, {24, 6, 4, 0}, {28, 1, 4, 0}, {40, 0, 5, 0}, {40, 0x80000000, 5, 0}, {40, 3 * 4096, 6, 0}, {8, 9, 7, 0},
         {8192, 0, 9, 4096}, {8192 + 4, 0, 9, 4096}, {8192 + 8, 8192, 9, 4096}, {8192 + 8, 0, 9, 4096}, {8192 + 32, 0, 10, 4096 + 32},
-        {8192 + 32, 12, 10, 4096 + 32}, {8192 + 32, 4096, 10, 4096 + 32}, {8192 + 32, 0x80000000, 10, 4096 + 32}, {4096 + 120, 4096 - 116, 10, 120},
+        {8192 + 32, 12, 10, 4096 + 32}, {8192 + 32, 4096, 10, 4096 + 32}, {8192 + 32, 0x80000000, 10, 4096 + 32}, {4096 + FREE, 4096 - FREE + 4, 10, FREE},
         {4096, 0, 9, 0}, {4096 + 32, 0, 10, 32},
     };
     for (size_t i = 0; i < sizeof changes / sizeof changes[0]; i++) {
         Made m = free_bin(8192);
         size_t n = made_length(&m);
         put32(m.file + 4096 + 8, 4096);
-        put32(m.file + 4096 + 120, 4096 - 120);
+        put32(m.file + 4096 + FREE, 4096 - FREE);
         memcpy(m.file + 8192, m.file + 4096, 32);
         put32(m.file + 8192 + 4, 4096);
         put32(m.file + 8192 + 32, 4096 - 32);
-        const Left x = {120, KEY, 4, 1};
+        const Left x = {FREE, KEY, 4, 1};
         leave(&m, x, "gone");
         only(&m, &x, 1);
         put32(m.file + changes[i].at, changes[i].n);
@@ -953,9 +957,9 @@ static void t_left_random(void)
     for (int round = 0; round < 300; round++) {
         Made m = free_bin(4096);
         size_t n = made_length(&m), from = 0, k = 0;
-        for (size_t i = 124; i < 4096; i++)
+        for (size_t i = FREE + 4; i < 4096; i++)
             m.file[4096 + i] = (uint8_t)"vknk\0\0\1 \\n"[dice() % 10];
-        for (size_t i = 124; i + 8 <= 4096; i += 8)
+        for (size_t i = FREE + 4; i + 8 <= 4096; i += 8)
             if (dice() % 2 == 0)
                 memcpy(m.file + 4096 + i, dice() % 4 == 0 ? "nk " : "vk\1", 4);
         const uint8_t *h = lend(0, m.file, n);

@@ -32,7 +32,7 @@ static Made longest(void)
     return made_in(space(FILE_LENGTH), BINS, 5);
 }
 
-/* One bin, the root at 32 and a free cell from 120 on. */
+/* One bin, the root at 32, its security item at 120 and a free cell from 144 on. */
 static Made one_bin(void)
 {
     Made m = longest();
@@ -77,19 +77,19 @@ static HiveAnswer asked(const Made *m)
 
 static void t_one_bin(void)
 {
-    static const uint32_t sizes[] = {2147479440, 0u - 2147479440, 0x7ffffff8, 0x80000008, 0x80000000};
+    static const uint32_t sizes[] = {2147479416, 0u - 2147479416, 0x7ffffff8, 0x80000008, 0x80000000};
     Made m = one_bin();
     HiveReport r = checked(&m);
-    EXPECT(is(r.answer, 0, 0) && r.bins == 1 && r.keys == 1 && r.values == 0 && r.used == 88 && r.free == 2147479432);
-    EXPECT(map[0] == 0x10 && map[1] == 0 && map[MAP - 1] == 0);
+    EXPECT(is(r.answer, 0, 0) && r.bins == 1 && r.keys == 1 && r.values == 0 && r.used == 112 && r.free == 2147479408);
+    EXPECT(map[0] == 0x10 && map[1] == 0x80 && map[2] == 0 && map[MAP - 1] == 0);
     EXPECT(is(hive_check(m.file, FILE_LENGTH, map, MAP - 1).answer, 8, 0));
     EXPECT(is(hive_check(m.file, FILE_LENGTH - 1, map, MAP).answer, 6, 0));
-    put32(m.file + 4096 + 120, 0u - 2147479432);
+    put32(m.file + 4096 + 144, 0u - 2147479408);
     r = checked(&m);
-    EXPECT(is(r.answer, 0, 0) && r.used == 2147479520 && r.free == 0 && map[1] == 0x80);
+    EXPECT(is(r.answer, 0, 0) && r.used == 2147479520 && r.free == 0 && map[1] == 0x80 && map[2] == 4);
     for (size_t i = 0; i < sizeof sizes / sizeof sizes[0]; i++) {
-        put32(m.file + 4096 + 120, sizes[i]);
-        EXPECT(is(check(&m), 10, 120));
+        put32(m.file + 4096 + 144, sizes[i]);
+        EXPECT(is(check(&m), 10, 144));
     }
     drop_made(&m);
 }
@@ -110,18 +110,19 @@ static void t_bins_field(void)
     drop_made(&m);
 }
 
-/* A root in the last 88 bytes, and root offsets that lead nowhere. */
+/* A root in the last 88 bytes, its security item at the start, and root offsets that lead nowhere. */
 static void t_last_cell(void)
 {
     static const uint32_t nowhere[] = {2147479544, 2147479552, 0x7ffffff8, 0x80000000, 0xfffffff8};
     Made m = longest();
+    m.item = new_item(&m, 0);
     m.next = 2147479464;
     m.root = new_key(&m, "R", 0);
     finish(&m);
-    put32(m.file + 4096 + 32, 2147479464 - 32);
+    put32(m.file + 4096 + 56, 2147479464 - 56);
     HiveReport r = checked(&m);
-    EXPECT(is(r.answer, 0, 0) && r.keys == 1 && r.used == 88 && r.free == 2147479432);
-    EXPECT(map[0] == 0 && map[MAP - 2] == 0x20 && map[MAP - 1] == 0);
+    EXPECT(is(r.answer, 0, 0) && r.keys == 1 && r.used == 112 && r.free == 2147479408);
+    EXPECT(map[0] == 0x10 && map[1] == 0 && map[MAP - 2] == 0x20 && map[MAP - 1] == 0);
     EXPECT(root_of(&m).number == 0 && root_of(&m).value == 2147479464);
     HiveKey k = hive_key_at(m.file, FILE_LENGTH, 2147479464);
     EXPECT(k.answer.number == 0 && k.length == 1 && k.name == 4096 + 2147479464 + 80 && m.file[k.name] == 'R');
@@ -141,13 +142,13 @@ static void t_second_bin(void)
     Made m = one_bin();
     uint8_t *bin = m.file + 4096 + second;
     put32(m.file + 4096 + 8, second);
-    put32(m.file + 4096 + 120, second - 120);
+    put32(m.file + 4096 + 144, second - 144);
     memcpy(bin, "hbin", 4);
     put32(bin + 4, second);
     put32(bin + 8, 4096);
     put32(bin + 32, 4096 - 32);
     HiveReport r = checked(&m);
-    EXPECT(is(r.answer, 0, 0) && r.bins == 2 && r.used == 88 && r.free == second - 120 + 4064);
+    EXPECT(is(r.answer, 0, 0) && r.bins == 2 && r.used == 112 && r.free == second - 144 + 4064);
     put32(bin + 8, 8192);
     EXPECT(is(check(&m), 9, second));
     put32(bin + 8, 4096);
@@ -156,20 +157,20 @@ static void t_second_bin(void)
     drop_made(&m);
 }
 
-/* A list that fills the bin from 120 on: its elements are 0 and name no cell. */
+/* A list that fills the bin from 144 on: its elements are 0 and name no cell. */
 static void t_value_list(void)
 {
-    static const uint32_t too_many[] = {536869858, 0x20000000, 0x40000000, 0x40000001, 0x80000000, 0xffffffff};
+    static const uint32_t too_many[] = {536869852, 0x20000000, 0x40000000, 0x40000001, 0x80000000, 0xffffffff};
     Made m = one_bin();
-    put32(m.file + 4096 + 120, 0u - 2147479432);
-    put32(data_of(&m, m.root) + 40, 120);
-    put32(data_of(&m, m.root) + 36, 536869857);
+    put32(m.file + 4096 + 144, 0u - 2147479408);
+    put32(data_of(&m, m.root) + 40, 144);
+    put32(data_of(&m, m.root) + 36, 536869851);
     EXPECT(in(check(&m), 11, 0, m.root) && in(asked(&m), 11, 0, m.root));
-    EXPECT(in(hive_nth_value(m.file, FILE_LENGTH, m.root, 536869856).answer, 11, 0, m.root));
-    EXPECT(hive_nth_value(m.file, FILE_LENGTH, m.root, 536869857).state == 1);
+    EXPECT(in(hive_nth_value(m.file, FILE_LENGTH, m.root, 536869850).answer, 11, 0, m.root));
+    EXPECT(hive_nth_value(m.file, FILE_LENGTH, m.root, 536869851).state == 1);
     for (size_t i = 0; i < sizeof too_many / sizeof too_many[0]; i++) {
         put32(data_of(&m, m.root) + 36, too_many[i]);
-        EXPECT(in(check(&m), 12, 120, m.root) && in(asked(&m), 12, 120, m.root));
+        EXPECT(in(check(&m), 12, 144, m.root) && in(asked(&m), 12, 144, m.root));
     }
     drop_made(&m);
 }
@@ -182,6 +183,7 @@ static void t_last_data(void)
     m.root = new_key(&m, "R", 0);
     uint32_t value = new_value(&m, "v", 3, (const uint8_t *)"?", 1), free_cell;
     hang_values(&m, m.root, &value, 1);
+    m.item = new_item(&m, 0);
     free_cell = m.next;
     m.next = 2147479536;
     uint32_t data = new_cell(&m, 12);
@@ -208,14 +210,14 @@ static void t_last_left(void)
     uint32_t rows[8];
     Made m = one_bin();
     for (int i = 0; i < 2; i++) {
-        uint8_t *d = data_of(&m, i == 0 ? 120 : last);
+        uint8_t *d = data_of(&m, i == 0 ? 144 : last);
         memcpy(d, "nk", 2);
         put16(d + 2, 0x20);
         put16(d + 72, 8);
         memcpy(d + 76, "the last", 8);
     }
     HiveRemnant r = hive_next_remnant(m.file, FILE_LENGTH, 0);
-    EXPECT(r.state == HIVE_THERE && r.answer.value == 120 && r.name == 4096 + 200);
+    EXPECT(r.state == HIVE_THERE && r.answer.value == 144 && r.name == 4096 + 224);
     for (size_t back = 0; back < 3; back++) {
         r = hive_next_remnant(m.file, FILE_LENGTH, last - 5000 * back);
         EXPECT(r.answer.number == 0 && r.state == HIVE_THERE && r.answer.value == last && r.kind == HIVE_OLD_KEY && r.length == 8 && r.narrow == 1);
@@ -230,7 +232,7 @@ static void t_last_left(void)
     EXPECT(is(hive_next_remnant(m.file, FILE_LENGTH - 1, 0).answer, 6, 0));
     put16(data_of(&m, last) + 72, 9); /* it ends one byte past the bins data */
     EXPECT(hive_next_remnant(m.file, FILE_LENGTH, last).state == HIVE_NO_MORE);
-    put32(m.file + 4096 + 120, 0u - 2147479432);
+    put32(m.file + 4096 + 144, 0u - 2147479408);
     EXPECT(hive_next_remnant(m.file, FILE_LENGTH, 0).state == HIVE_NO_MORE);
     drop_made(&m);
 }

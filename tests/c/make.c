@@ -98,6 +98,18 @@ static void write_texts(void)
     write_file("texts", m.file, made_length(&m));
 }
 
+/* A count that is not that of the keys; and a key whose security offset names nothing, with the counts of the others. */
+static void write_insecure(Made *m, uint32_t key)
+{
+    uint8_t *count = data_of(m, m->item) + 12;
+    put32(count, get32(count) - 1);
+    write_file("wrong-count", m->file, made_length(m));
+    put32(data_of(m, key) + 44, 0);
+    write_file("off-ring", m->file, made_length(m));
+    put32(data_of(m, key) + 44, m->item);
+    put32(count, get32(count) + 1);
+}
+
 /* Faults deep in the tree: a value list that is free, a key that is its own parent, a child that is no key. */
 static void write_broken(Made *m, uint32_t parent, const uint32_t *keys)
 {
@@ -134,6 +146,7 @@ static void write_sources(void)
     hang_keys(&m, key, new_leaf(&m, "lh", keys, 3), 3);
     finish(&m);
     write_file("sources", m.file, made_length(&m));
+    write_insecure(&m, keys[1]);
     write_broken(&m, key, keys);
 }
 
@@ -242,6 +255,7 @@ static void write_longest(void)
     m.root = new_key(&m, "R", 0);
     uint32_t value = new_value(&m, "v", 1, (const uint8_t *)"?", 1);
     hang_values(&m, m.root, &value, 1);
+    m.item = new_item(&m, 0);
     uint32_t rest = m.next;
     m.next = (uint32_t)m.bins - 16;
     uint32_t data = new_cell(&m, 12);
@@ -333,6 +347,8 @@ int main(int count, char **words)
     new_key(&small, "R", 0);
     finish(&small);
     write_file("minimal", small.file, made_length(&small));
+    put32(data_of(&small, small.root) + 44, 0);
+    write_file("no-item", small.file, made_length(&small));
     Made good = sample();
     size_t n = made_length(&good);
     write_file("sample", good.file, n);

@@ -175,7 +175,7 @@ def damaged():
         try:
             wanted = hives.check(file, bytearray(len(file) // 64))
         except hives.Refused as refused:
-            expect(refusal(Hive(file).check)[:2], (refused.number, refused.place if 9 <= refused.number <= 15 else None))
+            expect(refusal(Hive(file).check)[:2], (refused.number, refused.place if 9 <= refused.number <= 15 or refused.number == 28 else None))
             continue
         expect(tuple(Hive(file).check()), wanted)
 
@@ -276,6 +276,15 @@ def refusals():
     made = kiweamotu._refusal(12, 32, 120)
     expect((made.place, made.key), (32, 120))
     expect(kiweamotu._refusal(17, 0, 0xFFFFFFFF).key, None)
+
+
+@test
+def security():
+    """security items: the place and the key of 28, and that all else is read"""
+    expect(refusal(Hive("no-item").check), (28, 32, 32))
+    expect(refusal(Hive("wrong-count").check), (28, 1040, 32))
+    expect(refusal(Hive("off-ring").check), (28, 760, 760))
+    expect([key.path for key in Hive("off-ring").walk()], [key.path for key in Hive("sources").walk()])
 
 
 @test

@@ -1,7 +1,7 @@
 # The check, what it reads, usage, explanations, and the example.
 
-try 'check: the minimal hive' 0 'accepted bins 1 keys 1 values 0 used 88 free 3976' '' hive check minimal
-try 'check: letters past z' 0 'accepted bins 1 keys 5 values 0 used 480 free 3584' '' hive check letters
+try 'check: the minimal hive' 0 'accepted bins 1 keys 1 values 0 used 112 free 3952' '' hive check minimal
+try 'check: letters past z' 0 'accepted bins 1 keys 5 values 0 used 504 free 3560' '' hive check letters
 try 'check: cut short' 1 'refused 6 at 0' 'cut: the file ends before its bins do' hive check cut
 try 'check: a record' 1 'refused 12 at 32' 'at offset 32 (0x20), which is byte 4128 (0x1020) of the file' hive check no-root
 application='ControlSet001\Services\EventLog\Application'
@@ -9,6 +9,10 @@ try 'check: in a key' 1 'refused 11 at 848' "which is byte 4944 (0x1350) of the 
 try 'check: a child that is none' 1 'refused 12 at 912' "of the file, in key \\$application (at 440) (see" hive check no-child
 try 'check: a key that is its own parent' 1 'refused 14 at 912' 'of the file, in key (at 912) (see' hive check own-parent
 try 'check: further from the root than a tree is deep' 1 'refused 15 at 53368' 'in key (at 53368) (see' hive check chain
+try 'check: no security item' 1 'refused 28 at 32' 'at offset 32 (0x20), which is byte 4128 (0x1020) of the file, in key \ (at 32) (see' hive check no-item
+try 'check: a count of a security item' 1 'refused 28 at 1040' 'the security items of the keys do not fit together, at offset 1040 (0x410), which is byte 5136 (0x1410) of the file, in key \ (at 32) (see' hive check wrong-count
+try 'check: a key off the ring' 1 'refused 28 at 760' "of the file, in key \\$application\\Esc (at 760) (see" hive check off-ring
+try 'check: off the ring, and read all the same' 0 'key at 760' '' hive key off-ring "$application\Esc"
 try 'check: no key yet' 1 'refused 12 at 32' 'of the file (see' hive check no-root
 try 'check: not finished' 1 'refused 7 at 0' 'give its log with --log, or repair it' hive check spoilt
 try 'check: no file' 2 '' 'hive: nothing: No such file' hive check nothing
@@ -16,12 +20,12 @@ try 'check: a directory' 2 '' 'is a directory' hive check .
 try 'check: an empty file' 1 'refused 1 at 0' 'fewer than 4096 bytes' hive check empty
 try 'check: 5 GiB' 2 '' "vast: it has more than 4294967296 bytes, which is this tool's limit" hive check vast
 try 'check: no hive' 1 'refused 2 at 0' 'regf' hive check "$out/hive"
-try 'check: many' 2 "$(printf '%s\n' 'minimal: accepted bins 1 keys 1 values 0 used 88 free 3976' 'cut: refused 6 at 0' 'empty: refused 1 at 0')" \
+try 'check: many' 2 "$(printf '%s\n' 'minimal: accepted bins 1 keys 1 values 0 used 112 free 3952' 'cut: refused 6 at 0' 'empty: refused 1 at 0')" \
     'hive: nothing: No such file' hive check minimal cut nothing empty
-try 'check: the worst of many' 1 "$(printf '%s\n' 'cut: refused 6 at 0' 'minimal: accepted bins 1 keys 1 values 0 used 88 free 3976')" 'cut: the file' hive check cut minimal
+try 'check: the worst of many' 1 "$(printf '%s\n' 'cut: refused 6 at 0' 'minimal: accepted bins 1 keys 1 values 0 used 112 free 3952')" 'cut: the file' hive check cut minimal
 cp minimal "$(printf 'odd\033[2J\377')"
-try 'check: a name that gives orders' 0 "$(printf '%s\n' 'odd\x1b[2J\xff: accepted bins 1 keys 1 values 0 used 88 free 3976' \
-    'minimal: accepted bins 1 keys 1 values 0 used 88 free 3976')" '' hive check odd* minimal
+try 'check: a name that gives orders' 0 "$(printf '%s\n' 'odd\x1b[2J\xff: accepted bins 1 keys 1 values 0 used 112 free 3952' \
+    'minimal: accepted bins 1 keys 1 values 0 used 112 free 3952')" '' hive check odd* minimal
 try 'check: no file of such a name' 2 '' 'hive: no\x0ane: No such file' hive check "$(printf 'no\nne')"
 
 from_input() { hive "$@" <sample; }
@@ -33,17 +37,18 @@ try 'key: a pipe' 0 "$(hive key sample "$print")" '' from_pipe key - "$print"
 try 'repair: no pipe' 2 '' 'not standard input' from_pipe repair - log
 try 'repair: no pipe for a log' 2 '' 'not standard input' from_pipe repair spoilt -
 
-try 'json: accepted' 0 '{"file":"minimal","answer":"accepted","bins":1,"keys":1,"values":0,"used":88,"free":3976}' '' hive check --json minimal
+try 'json: accepted' 0 '{"file":"minimal","answer":"accepted","bins":1,"keys":1,"values":0,"used":112,"free":3952}' '' hive check --json minimal
 try 'json: many' 2 "$(printf '%s\n' '{"file":"nothing","answer":"trouble","words":"No such file or directory"}' \
     '{"file":"no-root","answer":"refused","number":12,"place":32,"key":null,"words":"a record in a cell is wrong or does not fit its cell, at offset 32 (0x20), which is byte 4128 (0x1020) of the file"}' \
     '{"file":"cut","answer":"refused","number":6,"place":null,"key":null,"words":"the file ends before its bins do"}')" 'nothing: No such' hive check --json nothing no-root cut
-try 'json: a name that is no UTF-8' 0 '{"file":"odd\u001b[2J'"$replaced"'","answer":"accepted","bins":1,"keys":1,"values":0,"used":88,"free":3976,"replaced":true}' '' hive check --json odd*
+try 'json: a name that is no UTF-8' 0 '{"file":"odd\u001b[2J'"$replaced"'","answer":"accepted","bins":1,"keys":1,"values":0,"used":112,"free":3952,"replaced":true}' '' hive check --json odd*
 rm odd*
 
 try 'explain' 0 "17: there is no such key. Letters a to z, and the accented letters of Western Europe, are the same in either case; others must be given as they are." '' hive explain 17
 try 'explain: the order' 0 "13: a key stands out of order, or its hash is wrong. Subkeys stand in the order of their names with a to z, and the accented letters of Western Europe, as capitals, none twice; an lh list holds each name's hash. Windows may not find this key." '' hive explain 13
 try 'explain: the checksum' 0 "3: the checksum of the base block is wrong. The word at byte 508 is not the XOR of the 127 words before it, with 0 stored as 1 and 0xFFFFFFFF as 0xFFFFFFFE: the first sector was changed or half written. A log may repair it." '' hive explain 3
-try 'explain: no number' 2 '' 'from 1 to 27' hive explain 28
+try 'explain: security' 0 "28: the security items of the keys do not fit together. At the place is the root, whose own item is none; or an item that has no room for its descriptor, whose forward link leads to no item that links back, or whose count is not the number of keys that name it; or a key whose item is not on the ring that starts at the root's. Windows does not load such a hive; its keys and values can be read here." '' hive explain 28
+try 'explain: no number' 2 '' 'from 1 to 28' hive explain 29
 try 'usage: nothing' 2 '' 'a verb is wanted: check, key, ls, value, deleted, repair or explain; see: hive --help' hive
 try 'usage: no verb' 2 '' '"chekc" is none of check, key, ls, value, deleted, repair and explain; see: hive --help' hive chekc a
 try 'usage: a word too few' 2 '' 'key wants FILE PATH, and a word is missing; see: hive --help' hive key sample

@@ -20,7 +20,7 @@ try 'deleted: json' 0 "$(printf '%s\n' '{"file":"left","answer":"key","at":120,"
 try 'deleted: json of a refusal' 1 '{"file":"cut","answer":"refused","number":6,"place":null,"key":null,"words":"the file ends before its bins do"}' '' hive deleted --json cut
 # More than one call has room for, and exactly as many.
 for count in 4096 4097; do
-    awk -v n=$count 'BEGIN { for (i = 0; i < n; i++) print "value at " 120 + 24 * i " length 0 @" }' >wanted
+    awk -v n=$count 'BEGIN { for (i = 0; i < n; i++) print "value at " 144 + 24 * i " length 0 @" }' >wanted
     hive deleted left-$count >found
     same "deleted: $count of them" found wanted
 done

@@ -1,17 +1,20 @@
--- A refusal's map: what the walk wrote is cleared again, and the bytes beyond were never written.
-use Prim.Native.Nat.{ℕ, zero, suc, _+_, _-_, _*_, _%_, _≤_}
+-- A refusal's map: what the walk wrote is cleared again, and the bytes beyond were never written. A second pass leaves the map as the first did.
+use Prim.Native.Nat.{ℕ, zero, suc, _+_, _-_, _*_, _/_, _%_, _≤_}
 use native.Mathlib.Omega.{arith}
 use mathlib.Core.Path.{_≡_, refl, ap, _∙_}
 use mathlib.Core.Bool.{Bool, true, false, cond}
 use mathlib.Core.List.{List, _++_}
 use lib.Dec.{ltb, eqb}
-use lib.ListN.{length, drop, replicate, length-replicate}
+use lib.ListN.{length, drop, replicate, length-replicate, length-append, length-drop}
 use lib.Seq.{drop-at}
 use borrow.Author.Tests.{ltb-true, ltb-false, eqb-true, eqb-false}
-use Rattle.cells.specs.Tiling.{Tiling, tiling, rowOf, binSize, layoutN, layout}
+use Rattle.cells.specs.declared.Surveyed.{Surveyed}
+use Rattle.cells.specs.declared.Surveyed.the-variants.{Tiled, Refused}
+use Rattle.cells.specs.Tiling.{Tiling, tiling, rowOf, binSize, Layout, last, badBin, bin, layoutN, layout}
 use Rattle.bitmap.specs.Bits.{zeros}
-use Rattle.cells.specs.Map.{marks, isBad, marksAll}
+use Rattle.cells.specs.Map.{marks, isBad, marksAll, mapAfter}
 use Rattle.cells.proofs.Bit.{tiling-placed}
+use Rattle.cells.proofs.Total.{length-marks}
 use Rattle.cells.proofs.Beyond.{drop-marks}
 use Rattle.cells.proofs.Turns.{Sized, sized, atN, faultN, stepN}
 
@@ -54,3 +57,50 @@ unfolding zeros
 cleared n d m le =
     ap (λ (x : List ℕ). replicate n 0 ++ x)
     (beyond n d (zeros n m) le ∙ drop-at (replicate n 0) (drop n m) n (length-replicate n 0))
+
+-- the map after a pass does not depend on what its first bytes held
+module _ (d : List ℕ) (s : Surveyed) where
+  pub over : (a b : List ℕ) → drop (length d / 64) a ≡ drop (length d / 64) b → mapAfter d s a ≡ mapAfter d s b
+  unfolding mapAfter zeros
+  over a b e = by s
+    where
+      by : (r : Surveyed) → mapAfter d r a ≡ mapAfter d r b
+      by (Tiled t) = rw e
+      by (Refused f) = rw e
+
+  module _ (m : List ℕ) (le : length d ≤ length d / 64 * 64) where
+    pub after-beyond : drop (length d / 64) (mapAfter d s m) ≡ drop (length d / 64) m
+    unfolding mapAfter zeros
+    after-beyond = by s
+      where
+        zeroed : drop (length d / 64) (replicate (length d / 64) 0 ++ drop (length d / 64) m) ≡ drop (length d / 64) m
+        zeroed = drop-at (replicate (length d / 64) 0) (drop (length d / 64) m) (length d / 64) (length-replicate (length d / 64) 0)
+
+        by : (r : Surveyed) → drop (length d / 64) (mapAfter d r m) ≡ drop (length d / 64) m
+        by (Tiled t) = beyond (length d / 64) d (zeros (length d / 64) m) le ∙ zeroed
+        by (Refused f) = zeroed
+
+    -- so a second pass leaves it as it is
+    pub again : mapAfter d s (mapAfter d s m) ≡ mapAfter d s m
+    again = over (mapAfter d s m) m after-beyond
+
+    length-all : (l : Layout) (x : List ℕ) → length (marksAll l x) ≡ length x
+    unfolding marksAll
+    length-all last x = refl
+    length-all (badBin at) x = refl
+    length-all (bin at t b) x = by (length-all b (marks t x)) (isBad (rowOf t 0 0))
+      where
+        by : length (marksAll b (marks t x)) ≡ length (marks t x) → (y : Bool) → length (cond y (marks t x) (marksAll b (marks t x))) ≡ length x
+        by e true = length-marks t x
+        by e false = e ∙ length-marks t x
+
+    pub after-length : length d / 64 ≤ length m → length (mapAfter d s m) ≡ length m
+    unfolding mapAfter zeros
+    after-length room = by s
+      where
+        zeroed : length (replicate (length d / 64) 0 ++ drop (length d / 64) m) ≡ length m
+        zeroed = simp (length-append, length-replicate, length-drop) (omega arith)
+
+        by : (r : Surveyed) → length (mapAfter d r m) ≡ length m
+        by (Tiled t) = length-all (layout d 0) (zeros (length d / 64) m) ∙ zeroed
+        by (Refused f) = zeroed

@@ -51,7 +51,7 @@ module _ (d : List ℕ) where
           → placed (tiling d (at + 32) (at + n)) (length m * 64)
       tiling-room p = placed-more (at + n) (length m * 64) (omega (arith, h .inside)) (tiling d (at + 32) (at + n)) p
 
-zeros-bit : (n : ℕ) (m : List ℕ) (k : ℕ) → k < n * 8 → bit (zeros n m) k ≡ 0
+pub zeros-bit : (n : ℕ) (m : List ℕ) (k : ℕ) → k < n * 8 → bit (zeros n m) k ≡ 0
 unfolding zeros
 zeros-bit n m k lt =
     let j : k / 8 < n = omega arith in

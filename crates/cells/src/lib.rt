@@ -157,7 +157,7 @@ pub fn count_tiles(bins: &[u8]) -> Surveyed
 }
 
 // The tests 9 and 10: one pass, with the map complete where the bins are good, else cleared.
-fn scan(bins: &[u8], map: &mut [u8]) -> Surveyed
+pub fn scan(bins: &[u8], map: &mut [u8]) -> Surveyed
     requires { ⌜ Data (now bins) (now map) ⌝ }
     ensures { λ r. ⌜ r ≡ surveyOf (layout (now (bins .entry)) 0) 0 0 0 ⌝ }
     ensures { λ r. ⌜ now (map .exit) ≡ mapAfter (now (bins .entry)) r (now (map .entry)) ⌝ }
@@ -240,7 +240,7 @@ fn header_length(bins: &[u8], o: Offset) -> usize
 }
 
 // Whether the map has the bit of an offset set.
-fn is_marked(map: &[u8], o: Offset) -> bool
+pub fn is_marked(map: &[u8], o: Offset) -> bool
     ensures { λ r. ⌜ r ≡ isMarked (now (map .entry)) (o .0) ⌝ }
 {
     let at = o.0 as usize;

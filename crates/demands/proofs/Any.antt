@@ -26,7 +26,7 @@ use Rattle.remnants.proofs.Refusals.{next-refuses as remnant-refuses, rows-refu
 use Rattle.demands.specs.First.{Demand1}
 use Rattle.demands.proofs.As_check.{refuses-as-check}
 
-listed : (f : Fault) → (1 ≤ numberOf f) × (numberOf f ≤ 27)
+listed : (f : Fault) → (1 ≤ numberOf f) × (numberOf f ≤ 28)
 listed named.HiveShort = (omega arith, omega arith)
 listed named.NoRegf = (omega arith, omega arith)
 listed named.Checksum = (omega arith, omega arith)
@@ -54,6 +54,7 @@ listed named.HiveCut = (omega arith, omega arith)
 listed named.Stamps = (omega arith, omega arith)
 listed named.NotDirty = (omega arith, omega arith)
 listed named.NotIn = (omega arith, omega arith)
+listed named.Security = (omega arith, omega arith)
 
 -- ---- what a refusal leaves
 

@@ -17,8 +17,8 @@ use Rattle.cells.specs.Survey.{frontFault, surveyAnswer}
 use Rattle.cells.proofs.Fronts.{survey-front, survey-on}
 use Rattle.cells.proofs.Refusals.{front-number, bins-refuse, bins-number}
 use Rattle.tree.specs.declared.Checked.the-variants as checked
-use Rattle.tree.specs.Tree.{hiveOf, onTiled, checkAnswer}
-use Rattle.tree.proofs.Tells.{walk-tells, tree-number}
+use Rattle.tree.specs.Tree.{onTiled, checkAnswer}
+use Rattle.tree.proofs.Tells.{walk-number}
 use Rattle.remnants.specs.declared.Remnant.the-variants as remnant
 use Rattle.remnants.specs.Remnants.{flawIn, tilesFault, remnantAnswer}
 use Rattle.remnants.proofs.Refusals.{same-tests, next-stops, next-tests}
@@ -74,9 +74,7 @@ module _ (h m : List ℕ) where
 
         back : (checkAnswer h m ≡ checked.Refused r) × (numberOf (r .fault) ≤ 10) → remnantAnswer h from ≡ remnant.Refused r
         back q =
-            let w = walk-tells h m e (sym (check-is _ e) ∙ q .0) in
-            let n : numberOf (r .fault) ≡ numberOf (w .1 .fault) = ap (λ (x : Refusal). numberOf (x .fault)) (w .2) in
-            absurd (omega (arith, q .1, tree-number (binsData h) (hiveOf h) (w .3)))
+            absurd (omega (arith, q .1, walk-number h m e (sym (check-is _ e) ∙ q .0)))
 
 pub refuses-as-check : (h m : List ℕ) (from : ℕ) → binsOf (sector h) / 64 ≤ length m → (r : Refusal)
     → (remnantAnswer h from ≡ remnant.Refused r) ↔ ((checkAnswer h m ≡ checked.Refused r) × (numberOf (r .fault) ≤ 10))

@@ -205,6 +205,8 @@ pub enum Fault {
     NotDirty,
     // 27: closing, but a logged page is not in yet
     NotIn,
+    // 28: security items: the root's offset, an item's room, link or count, a key off the ring
+    Security,
 }
 
 impl Fault {
@@ -239,6 +241,7 @@ impl Fault {
             Fault::Stamps => 25,
             Fault::NotDirty => 26,
             Fault::NotIn => 27,
+            Fault::Security => 28,
         }
     }
 }

@@ -1,6 +1,6 @@
 -- The inputs that the figures speak of.
 use Prim.Native.Nat.{ℕ}
-use mathlib.Core.List.{List, _∷_, _++_}
+use mathlib.Core.List.{List, [], _∷_, _++_}
 use lib.ListN.{replicate}
 
 -- "regf" and 504 zero bytes
@@ -33,6 +33,20 @@ rootCell = 0xa8 ∷ 0xff ∷ 0xff ∷ 0xff ∷ 110 ∷ 107 ∷ 0x20 ∷ 0 ∷ re
 -- the minimal hive: one bin with the root, named by one byte, and a free cell with the rest
 unfoldable pub minimal : List ℕ
 minimal = baseBlock ++ (header ++ (rootCell ++ (0x88 ∷ 0x0f ∷ 0 ∷ 0 ∷ replicate 3972 0)))
+
+-- the root with a security offset, the item at 120
+unfoldable pub rootWithItem : List ℕ
+rootWithItem =
+    0xa8 ∷ 0xff ∷ 0xff ∷ 0xff ∷ 110 ∷ 107 ∷ 0x20 ∷ 0
+    ∷ replicate 40 0 ++ (120 ∷ 0 ∷ 0 ∷ 0 ∷ replicate 24 0 ++ (1 ∷ 0 ∷ 0 ∷ 0 ∷ 82 ∷ replicate 7 0))
+
+-- "an empty item after the key, linked to itself": an `sk`, 120 forward and 120 backward, count 1, no descriptor
+unfoldable pub itemCell : List ℕ
+itemCell = 0xe8 ∷ 0xff ∷ 0xff ∷ 0xff ∷ 115 ∷ 107 ∷ 0 ∷ 0 ∷ 120 ∷ 0 ∷ 0 ∷ 0 ∷ 120 ∷ 0 ∷ 0 ∷ 0 ∷ 1 ∷ 0 ∷ 0 ∷ 0 ∷ 0 ∷ 0 ∷ 0 ∷ 0 ∷ []
+
+-- the minimal hive with that item
+unfoldable pub withItem : List ℕ
+withItem = baseBlock ++ (header ++ (rootWithItem ++ (itemCell ++ (0x70 ∷ 0x0f ∷ 0 ∷ 0 ∷ replicate 3948 0))))
 
 -- the same hive with the size field 0x80000000 in its first cell
 unfoldable pub lowest : List ℕ

@@ -24,7 +24,7 @@ use Rattle.recovery.specs.declared.Started.the-variants.{Clean, Pages, Refused}
 use Rattle.recovery.specs.declared.NextPage.{NextPage}
 use Rattle.recovery.specs.declared.NextPage.the-variants.{At, NoMore, Refused as Unread}
 use Rattle.recovery.specs.Calls.{startAnswer, nextAnswer}
-use Rattle.figures.specs.Inputs.{bare, minimal, lone, lowest, highest, used, sized}
+use Rattle.figures.specs.Inputs.{bare, minimal, withItem, lone, lowest, highest, used, sized}
 use Rattle.logs.specs.Small.{log, hive}
 
 -- what an answer gives, as numbers in the table's order: a count or none, or the refusal's number and place
@@ -73,7 +73,6 @@ table =
     -- `one bin, root named by one byte: key cell 88 bytes, free cell 3,976; map of 64 bytes is 0x10, then zeros`
     ∷ is (surveyNumbers (surveyAnswer minimal 64)) (1 ∷ 88 ∷ 3976 ∷ [])
     ∷ is (mapLeft minimal used) (0x10 ∷ replicate 63 0)
-    ∷ is (checkNumbers (checkAnswer minimal used)) (1 ∷ 1 ∷ 0 ∷ 88 ∷ 3976 ∷ [])
     -- `bins size 8,192, bitmap 0x01 0x80: pages 0 and 15, from log places 1,024 and 1,536; page 15 goes to place 11,776`
     ∷ is (nextNumbers (nextAnswer (log 512) 0)) (0 ∷ 1024 ∷ 4096 ∷ [])
     ∷ is (nextNumbers (nextAnswer (log 512) 1)) (15 ∷ 1536 ∷ 11776 ∷ [])
@@ -108,6 +107,11 @@ table =
     ∷ is (mapSize (sized 0x00 0xf0 0xff 0x7f) ∷ pagesAt (sized 0x00 0xf0 0xff 0x7f) ∷ []) (524287 ∷ 525312 ∷ [])
     ∷ is (pageCount (sized 0x00 0xf0 0xff 0x7f) ∷ pagePlace 4194295 ∷ []) (4194296 ∷ 2147483136 ∷ [])
     ∷ is (checkNumbers (checkAnswer highest used)) (10 ∷ 32 ∷ [])
+    -- Of its amendment by request 2: "01's minimal hive now gets 28 at 32; with an empty item after the key, linked to itself, it gives used 112 free 3952 and
+    -- map 0x10 0x80."
+    ∷ is (checkNumbers (checkAnswer minimal used)) (28 ∷ 32 ∷ [])
+    ∷ is (checkNumbers (checkAnswer withItem used)) (1 ∷ 1 ∷ 0 ∷ 112 ∷ 3952 ∷ [])
+    ∷ is (mapLeft withItem used) (0x10 ∷ 0x80 ∷ replicate 62 0)
     ∷ []
 
 -- the claim: every figure of the table is as stated

@@ -70,6 +70,10 @@ keyIn r o =
 unfoldable pub keyOf : List ℕ → Offset → Key
 keyOf d o = keyIn (dataAt d o) o
 
+-- "Every key's security offset (44) must name one": what the key at an offset has there
+unfoldable pub securityOf : List ℕ → Offset → Offset
+securityOf d o = offsetAt (dataAt d o) 44
+
 -- the answer: the flaw, or the key
 abbrev pub keyed : Verdict → Key → Keyed
 keyed Sound k = answer.Whole k

@@ -13,7 +13,7 @@ ghost use Rattle.names.specs.Comparison.{compare, sameName};
 ghost use Rattle.names.specs.Hashing.{hashOf};
 ghost use Rattle.cells.specs.declared.Rule.the-variants.{Header};
 ghost use Rattle.cells.specs.Named.{dataAt};
-ghost use Rattle.records.specs.Keys.{isFlagged, isWhole, isKeyName, isKey, keyIn, keyFault, keyOf, keyed, called, NameIn, nameBytes, codesOf};
+ghost use Rattle.records.specs.Keys.{isFlagged, isWhole, isKeyName, isKey, keyIn, keyFault, keyOf, securityOf, keyed, called, NameIn, nameBytes, codesOf};
 ghost use Rattle.records.specs.Lists.{hasElements, widthOf, hasLeafSignature, isLeaf, isList, childrenBelow, leafFault, headFault, listsFault};
 ghost use Rattle.records.specs.Steps.{leavesIn, leavesAt, headed, LeavesLie, leafNamed, leafIn, leafOf, leafed, ElementsLie, childNamed, totalled, totalOver};
 
@@ -177,6 +177,14 @@ pub fn key_fields(bins: &[u8], o: Offset) -> Key
     ensures { λ k. ⌜ k ≡ keyOf (now (bins .entry)) o ⌝ }
 {
     key_in(cells::part_in(bins, o, 0, 76), o)
+}
+
+// The security offset of a key that was tested before. It is read beside the fields, by the pass that wants it: the walk does not.
+pub fn security_of(bins: &[u8], o: Offset) -> Offset
+    requires { ⌜ 76 ≤ length (dataAt (now bins) o) ⌝ }
+    ensures { λ r. ⌜ r ≡ securityOf (now (bins .entry)) o ⌝ }
+{
+    Offset(cells::word_in(bins, o, 44))
 }
 
 // A name, read in place.

@@ -110,7 +110,7 @@ module _ (d m : List ℕ) (hive : Hive) (tiles : BinsTile d 0) (mapped : Mapped 
       }
 
   -- listed below a key
-  abbrev Below : Offset → Arrival → Type 0
+  abbrev pub Below : Offset → Arrival → Type 0
   Below p l = (l ≡ First p) ⊎ ((b : Offset) × (l ≡ After p b))
 
   parent-at : (p : Offset) (k : Key) (at : Offset) (l : Arrival) → Below p l → placeFault d (hive .root) k at l ≡ Sound → parentFault (hive .root) k at p ≡ Sound
@@ -130,7 +130,7 @@ module _ (d m : List ℕ) (hive : Hive) (tiles : BinsTile d 0) (mapped : Mapped 
 
   module _ (n : ℕ) (p : Offset) where
     -- each key of a list without charge has none, at some place in it
-    each-free : (l : Arrival) (cs : List Child) → Below p l → listCharge (treeCharge d m hive n) p l cs ≡ Free → (c : Child) → List·Memᴰ c cs
+    pub each-free : (l : Arrival) (cs : List Child) → Below p l → listCharge (treeCharge d m hive n) p l cs ≡ Free → (c : Child) → List·Memᴰ c cs
         → (x : Arrival) × Below p x × (treeCharge d m hive n c x ≡ Free)
     unfolding listCharge
     each-free l [] q e c i = absurd (List·Memᴰ·not-nil i)

@@ -65,7 +65,7 @@ module _ (d : List ℕ) (hive : Hive) where
       omega arith
 
   -- the keys of a tree that stands are no more than the bins data has bytes
-  few-keys : BinsTile d 0 → (n : ℕ) → TreeStands d hive n (hive .root) → length (keysIn d n (hive .root)) ≤ length d
+  pub few-keys : BinsTile d 0 → (n : ℕ) → TreeStands d hive n (hive .root) → length (keysIn d n (hive .root)) ≤ length d
   few-keys b n s =
       pigeonhole (length d) (keysIn d n (hive .root)) (each-once d hive n s)
       (λ k i. let u = listed-stands n (hive .root) s k i .in-use in let w = wholly-inside d k u in

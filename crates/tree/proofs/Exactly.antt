@@ -6,7 +6,8 @@ use mathlib.Core.Path.{_≡_, refl, sym, _∙_}
 use mathlib.Core.Logic.{_↔_}
 use mathlib.Core.List.{List}
 use lib.ListN.{length, length-take, length-drop}
-use Rattle.fields.specs.Charges.{Free}
+use Rattle.fields.specs.Charges.{Free, _after_}
+use Rattle.fields.proofs.Charges.{both-free, free}
 use Rattle.base.specs.Block.{sector, binsOf, binsData}
 use Rattle.base.proofs.Laws.{base-facts, facts-base}
 use Rattle.cells.specs.declared.Tally.{Tally}
@@ -19,10 +20,10 @@ use Rattle.cells.specs.Counts.{binCount, cellsIn, usedBytes, freeBytes}
 use Rattle.cells.proofs.Fronts.{front-facts, front-good, survey-on}
 use Rattle.cells.proofs.Tiles.{tiled-exactly, counts-are}
 use Rattle.cells.proofs.Mapped.{surveyed}
+use Rattle.security.proofs.Exactly.{security-exactly}
 use Rattle.tree.specs.declared.Checked.the-variants.{Accepted}
-use Rattle.tree.specs.declared.Arrival.the-variants.{Start}
 use Rattle.tree.specs.declared.Report.{Report}
-use Rattle.tree.specs.Tree.{treeCharge, levels, hiveOf, rootChild, keysOf, valuesIn, reportOf, checkAnswer}
+use Rattle.tree.specs.Tree.{hiveOf, keysOf, valuesIn, reportOf, walkCharge, ringCharge, checkAnswer}
 use Rattle.tree.specs.WellFormed.{CleanAndWellFormed}
 use Rattle.tree.proofs.Accepted.{root-stands, root-free}
 use Rattle.tree.proofs.Charges.{accepted-free}
@@ -31,7 +32,8 @@ use Rattle.tree.proofs.Charges.{accepted-free}
 pub record AcceptedAs (h m : List ℕ) (r : Report) : Type 0 where
   pub tally : Tally
   pub surveys : surveyAnswer h (length m) ≡ Tiled tally
-  pub free : treeCharge (binsData h) (mapLeft h m) (hiveOf h) levels (rootChild (hiveOf h)) Start ≡ Free
+  pub free : walkCharge h (mapLeft h m) ≡ Free
+  pub secure : ringCharge h (mapLeft h m) ≡ Free
   pub report : r ≡ reportOf h tally
 
 module _ (h m : List ℕ) where
@@ -43,8 +45,9 @@ module _ (h m : List ℕ) where
       by (Untiled f) p = absurd (let q = rw p at e in let z : _≡_ {A = ℕ} 0 1 = cc in omega arith)
       by (Tiled t) p =
           let q = rw p at e in
-          let x = accepted-free (treeCharge (binsData h) (mapLeft h m) (hiveOf h) levels (rootChild (hiveOf h)) Start) (reportOf h t) q in
-          record { tally = t; surveys = p; free = x .0; report = sym (x .1) }
+          let x = accepted-free (walkCharge h (mapLeft h m) after ringCharge h (mapLeft h m)) (reportOf h t) q in
+          let c = both-free (walkCharge h (mapLeft h m)) _ (x .0) in
+          record { tally = t; surveys = p; free = c .0; secure = c .1; report = sym (x .1) }
 
   accepted-formed : {r : Report} → checkAnswer h m ≡ Accepted r → CleanAndWellFormed h
   accepted-formed e =
@@ -55,7 +58,11 @@ module _ (h m : List ℕ) where
       record {
         is-clean = b .is-clean;
         inside = b .inside;
-        formed = record { tiled = x .tiles; tree = root-stands (binsData h) (mapLeft h m) (hiveOf h) (x .tiles) (x .mapped) (a .free) };
+        formed = record {
+          tiled = x .tiles;
+          tree = root-stands (binsData h) (mapLeft h m) (hiveOf h) (x .tiles) (x .mapped) (a .free);
+          security = security-exactly (binsData h) (mapLeft h m) (x .tiles) (x .mapped) (keysOf h) (hiveOf h .root) .0 (a .secure);
+        };
       }
 
   bins-length : 4096 + binsOf (sector h) ≤ length h → length (binsData h) ≡ binsOf (sector h)
@@ -72,7 +79,8 @@ module _ (h m : List ℕ) where
       let q : surveyAnswer h (length m) ≡ Tiled (t .0) = s .0 ∙ t .1 in
       let x = surveyed h m (t .0) q .1 in
       let f = root-free (binsData h) (mapLeft h m) (hiveOf h) (x .tiles) (x .mapped) (w .formed .tree) in
-      (reportOf h (t .0), rw (q, f))
+      let g = security-exactly (binsData h) (mapLeft h m) (x .tiles) (x .mapped) (keysOf h) (hiveOf h .root) .1 (w .formed .security) in
+      (reportOf h (t .0), rw (q, free _ _ f g))
 
   -- the theorem
   pub accepted-exactly : binsOf (sector h) / 64 ≤ length m → ((r : Report) × (checkAnswer h m ≡ Accepted r)) ↔ CleanAndWellFormed h

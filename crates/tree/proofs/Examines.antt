@@ -2,6 +2,7 @@
 use Prim.Native.Nat.{ℕ, suc, _+_, _-_, _%_, _≤_}
 use native.Mathlib.Omega.{arith}
 use mathlib.Core.Path.{_≡_, refl, sym, subst}
+use mathlib.Core.Logic.{_⊎_, inl, inr}
 use mathlib.Core.List.{List, List·Memᴰ, List·Memᴰ·head, List·Memᴰ·tail}
 use lib.ListN.{length}
 use Rattle.fields.specs.declared.Flaw.{Flaw}
@@ -20,9 +21,10 @@ use Rattle.records.specs.Lists.{children}
 use Rattle.records.specs.Listed.{keysIn}
 use Rattle.records.proofs.Listed.{joined-in}
 use Rattle.values.specs.Refused.{Role, a-key, Fit, Unfit, no-cell, no-record}
+use Rattle.security.specs.Refused.{OfSecurity, no-item, no-room, no-link, other-count, off-ring}
 use Rattle.tree.specs.declared.Checked.the-variants.{Refused}
-use Rattle.tree.specs.Tree.{hiveOf, checkAnswer}
-use Rattle.tree.specs.Told.{Reached, the-root, a-child, OfTree, of-root, of-lists, of-values, of-data, no-order, other-hash, other-parent, root-listed, other-total, too-deep, Told, of-survey, of-tree, Examined}
+use Rattle.tree.specs.Tree.{hiveOf, keysOf, checkAnswer}
+use Rattle.tree.specs.Told.{Reached, the-root, a-child, OfTree, of-root, of-lists, of-values, of-data, no-order, other-hash, other-parent, root-listed, other-total, too-deep, Told, of-survey, of-tree, of-security, Examined}
 use Rattle.tree.proofs.Tells.{unfit-number, among-number, check-tells}
 
 fit-not : {d : List ℕ} {w : Role} {o : Offset} {f : Flaw} → Unfit Map d w o f → Fit Map d w o → ⊥
@@ -65,7 +67,8 @@ module _ (h : List ℕ) where
         early = λ p. refl;
         rootless = λ p q. (λ e g. fit-not u g, λ e. refl);
         reached = λ p q g. absurd (fit-not u g);
-        placed = λ p. absurd (omega arith);
+        placed = λ p q. absurd (omega arith);
+        ringed = λ p. absurd (omega arith);
       }
 
   by-key : {n : ℕ} {k : Offset} {f : Flaw} → Reached (binsData h) (hiveOf h .root) n k → n ≤ 512 → (11 ≤ numberOf (f .fault)) × (numberOf (f .fault) ≤ 12)
@@ -78,16 +81,18 @@ module _ (h : List ℕ) where
           λ g. absurd (g (root-fit (binsData h) (hiveOf h .root) r)),
         );
         reached = λ p q g. (reached-fit (binsData h) (hiveOf h .root) r, reached-in (binsData h) (hiveOf h .root) r l);
-        placed = λ p. absurd (omega (arith, n .1));
+        placed = λ p q. absurd (omega (arith, n .1));
+        ringed = λ p. absurd (omega (arith, n .1));
       }
 
-  by-place : {f : Flaw} → 13 ≤ numberOf (f .fault) → Examined h (refusalOf (f .place) f)
-  by-place n =
+  by-place : {f : Flaw} → 13 ≤ numberOf (f .fault) → numberOf (f .fault) ≤ 15 → Examined h (refusalOf (f .place) f)
+  by-place n m =
       record {
         early = λ p. absurd (omega arith);
         rootless = λ p q. absurd (omega arith);
         reached = λ p q g. absurd (omega arith);
-        placed = λ p. refl;
+        placed = λ p q. refl;
+        ringed = λ p. absurd (omega arith);
       }
 
   by-tree : {k : Offset} {f : Flaw} → OfTree (binsData h) (hiveOf h) k f → Examined h (refusalOf k f)
@@ -95,12 +100,34 @@ module _ (h : List ℕ) where
   by-tree (of-lists r p a) = by-key r p (among-number (binsData h) (hiveOf h) a)
   by-tree (of-values r p a) = by-key r p (among-number (binsData h) (hiveOf h) a)
   by-tree (of-data r p i g a) = by-key r p (among-number (binsData h) (hiveOf h) a)
-  by-tree (no-order r i g p) = by-place (omega arith)
-  by-tree (other-hash r i g p q) = by-place (omega arith)
-  by-tree (other-parent r i g p) = by-place (omega arith)
-  by-tree (root-listed r i g p) = by-place (omega arith)
-  by-tree (other-total r p) = by-place (omega arith)
-  by-tree (too-deep r p) = by-place (omega arith)
+  by-tree (no-order r i g p) = by-place (omega arith) (omega arith)
+  by-tree (other-hash r i g p q) = by-place (omega arith) (omega arith)
+  by-tree (other-parent r i g p) = by-place (omega arith) (omega arith)
+  by-tree (root-listed r i g p) = by-place (omega arith) (omega arith)
+  by-tree (other-total r p) = by-place (omega arith) (omega arith)
+  by-tree (too-deep r p) = by-place (omega arith) (omega arith)
+
+  -- 28
+  on-place : {f : Flaw} {k : Offset} → numberOf (f .fault) ≡ 28 → List·Memᴰ k (keysOf h) → (k ≡ hiveOf h .root) ⊎ (k ≡ f .place) → Examined h (refusalOf k f)
+  on-place n i p =
+      record {
+        early = λ q. absurd (omega arith);
+        rootless = λ q s. absurd (omega arith);
+        reached = λ q s g. absurd (omega arith);
+        placed = λ q s. absurd (omega arith);
+        ringed = λ q. (i, p);
+      }
+
+  root-listed-first : List·Memᴰ (hiveOf h .root) (keysOf h)
+  unfolding keysIn
+  root-listed-first = List·Memᴰ·head refl
+
+  by-ring : {k : Offset} {f : Flaw} → OfSecurity (binsData h) (hiveOf h .root) (keysOf h) k f → Examined h (refusalOf k f)
+  by-ring (no-item p) = on-place refl root-listed-first (inl refl)
+  by-ring (no-room r p) = on-place refl root-listed-first (inl refl)
+  by-ring (no-link r p) = on-place refl root-listed-first (inl refl)
+  by-ring (other-count r p) = on-place refl root-listed-first (inl refl)
+  by-ring (off-ring i p) = on-place refl i (inr refl)
 
   survey-number : (room : ℕ) {f : Flaw} → OfSurvey h room f → numberOf (f .fault) ≤ 10
   survey-number room (of-base b) = let n = base-number h b in omega arith
@@ -114,9 +141,11 @@ module _ (h : List ℕ) where
         early = λ p. refl;
         rootless = λ p q. absurd (omega arith);
         reached = λ p q g. absurd (omega arith);
-        placed = λ p. absurd (omega arith);
+        placed = λ p q. absurd (omega arith);
+        ringed = λ p. absurd (omega arith);
       }
   by-told room (of-tree b t) = by-tree t
+  by-told room (of-security b s t) = by-ring t
 
   pub check-examines : (m : List ℕ) {r : Refusal} → checkAnswer h m ≡ Refused r → Examined h r
   check-examines m e = let w = check-tells h m e in subst (λ (x : Refusal). Examined h x) (sym (w .2)) (by-told (length m) (w .3))

@@ -4,10 +4,12 @@ pub mod Charges
 pub mod Accepted
 pub mod Once
 pub mod Counted
+pub mod Legible
 pub mod Exactly
 pub mod Tests
 pub mod Walks
 pub mod Roots
+pub mod Secures
 pub mod Tells
 pub mod Maps
 pub mod Examines

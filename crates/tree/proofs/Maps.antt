@@ -28,9 +28,9 @@ use Rattle.cells.proofs.Refusals.{front-number, bins-refuse, bins-number}
 use Rattle.tree.specs.declared.Checked.{Checked}
 use Rattle.tree.specs.declared.Checked.the-variants.{Accepted, Refused}
 use Rattle.tree.specs.declared.Report.{Report}
-use Rattle.tree.specs.Tree.{hiveOf, onTiled, checkAnswer}
+use Rattle.tree.specs.Tree.{onTiled, checkAnswer}
 use Rattle.tree.specs.Told.{mapBytes}
-use Rattle.tree.proofs.Tells.{walk-tells, tree-number}
+use Rattle.tree.proofs.Tells.{walk-number}
 
 module _ (h m : List ℕ) where
   -- the three kinds of answers
@@ -47,7 +47,7 @@ module _ (h m : List ℕ) where
       on p (Untiled f) q = rw (survey-on h m (binsData h) _ p refl refl .0 ∙ q) (untiled p q)
       on p (Tiled t) q =
           let e = survey-on h m (binsData h) _ p refl refl .0 ∙ q in
-          walked {a = onTiled h m (surveyAnswer h (length m))} e (λ r x. let w = walk-tells h m e (rw e at x) in rw (w .2) (tree-number (binsData h) (hiveOf h) (w .3)))
+          walked {a = onTiled h m (surveyAnswer h (length m))} e (λ r x. walk-number h m e (rw e at x))
 
       by : (v : Verdict) → frontFault h (length m) ≡ v → Ended (onTiled h m (surveyAnswer h (length m)))
       by Sound p = on p _ refl

@@ -1,7 +1,7 @@
--- From the root: the walk's counts are the report's, and the check is the survey followed by the walk.
-use Prim.Native.Nat.{ℕ, _≤_}
+-- From the root: the walk's counts are the report's, and the check is the survey followed by the walk and then by the security items.
+use Prim.Native.Nat.{ℕ, _*_, _/_, _≤_}
 use native.Mathlib.Omega.{arith}
-use mathlib.Core.Path.{_≡_, sym, _∙_}
+use mathlib.Core.Path.{_≡_, refl, sym, ap, _∙_}
 use mathlib.Core.Bool.{false}
 use mathlib.Core.List.{List}
 use lib.ListN.{length, length-take, length-drop}
@@ -9,22 +9,26 @@ use Rattle.fields.specs.declared.Flaw.{Flaw}
 use Rattle.fields.specs.declared.Offset.{Offset}
 use Rattle.fields.specs.declared.Refusal.{Refusal}
 use Rattle.fields.specs.Faults.{noKey, refusalOf}
+use Rattle.fields.specs.Charges.{_after_}
 use Rattle.base.specs.Block.{sector, minorOf, rootOf, binsLimit, binsData}
 use Rattle.base.proofs.Laws.{base-facts}
 use Rattle.cells.specs.declared.Tally.{Tally}
 use Rattle.cells.specs.declared.Surveyed.the-variants.{Tiled, Refused as Untiled}
 use Rattle.cells.specs.Survey.{surveyAnswer, mapLeft}
-use Rattle.cells.proofs.Fronts.{front-facts}
+use Rattle.cells.proofs.Fronts.{front-facts, front-data, survey-on}
+use Rattle.cells.proofs.Cleared.{again, after-length}
 use Rattle.cells.proofs.Mapped.{surveyed}
 use Rattle.records.specs.Listed.{keysIn}
 use Rattle.tree.specs.declared.Checked.the-variants.{Accepted, Refused}
 use Rattle.tree.specs.declared.Count.{Count}
+use Rattle.tree.specs.declared.Report.{Report}
 use Rattle.tree.specs.declared.Arrival.the-variants.{Start}
 use Rattle.tree.specs.declared.Walk.the-variants.{Counted, Refused as Stopped}
-use Rattle.tree.specs.Tree.{treeCharge, tallied, keyAnswer, levels, hiveOf, rootChild, keysOf, valuesIn, checkAnswer}
-use Rattle.tree.specs.Steps.{Ready, walkAnswer}
+use Rattle.tree.specs.Tree.{treeCharge, tallied, keyAnswer, levels, hiveOf, rootChild, keysOf, valuesIn, reportOf, walkCharge, ringCharge, answer, checkAnswer}
+use Rattle.tree.specs.Steps.{Ready, walkAnswer, Walked}
 use Rattle.tree.proofs.Accepted.{root-stands}
 use Rattle.tree.proofs.Counted.{counted}
+use Rattle.tree.proofs.Charges.{accepted-free, refused-charge}
 use Rattle.tree.proofs.Walks.{refused-of, counted-free}
 
 abbrev pub none : Count
@@ -37,7 +41,7 @@ pub root-is : (h m : List ℕ) {minor : ℕ} {root : Offset} {bins : List ℕ} �
 root-is h m p q r = rw (r, p, q)
 
 module _ (h m : List ℕ) (r : Ready h m) where
-  bins-small : length (binsData h) ≤ binsLimit
+  pub bins-small : length (binsData h) ≤ binsLimit
   bins-small = let b = base-facts h (r .base) in simp (length-take, length-drop) (omega (arith, b .size .limit))
 
   pub walk-refused : (t : Tally) {f : Refusal} → keyAnswer (binsData h) m (hiveOf h) levels (rootChild (hiveOf h)) Start none ≡ Stopped f → walkAnswer h m t ≡ Refused f
@@ -59,11 +63,37 @@ module _ (h m : List ℕ) where
   unfolding checkAnswer
   check-refused e q = rw (e, q)
 
-  pub check-walk : {t : Tally} → surveyAnswer h (length m) ≡ Tiled t → checkAnswer h m ≡ walkAnswer h (mapLeft h m) t
-  unfolding checkAnswer walkAnswer
-  check-walk e = rw e
-
   pub check-ready : {t : Tally} → surveyAnswer h (length m) ≡ Tiled t → Ready h (mapLeft h m)
   check-ready {t} e =
       let s = surveyed h m t e in
       record { base = front-facts h (length m) (s .0) .0; tiles = s .1 .tiles; mapped = s .1 .mapped }
+
+  module _ {t : Tally} (e : surveyAnswer h (length m) ≡ Tiled t) where
+    -- the walk refuses
+    pub check-stops : {r : Refusal} → walkAnswer h (mapLeft h m) t ≡ Refused r → checkAnswer h m ≡ Refused r
+    unfolding checkAnswer walkAnswer _after_
+    check-stops q = rw (e, refused-charge (walkCharge h (mapLeft h m)) (reportOf h t) q)
+
+    -- the walk does not, and the security items answer
+    module _ {r : Report} (q : walkAnswer h (mapLeft h m) t ≡ Accepted r) where
+      pub check-on : checkAnswer h m ≡ answer (ringCharge h (mapLeft h m)) r
+      unfolding checkAnswer walkAnswer _after_
+      check-on = let x = accepted-free (walkCharge h (mapLeft h m)) (reportOf h t) q in rw (e, x .0, x .1)
+
+      pub check-walked : Walked h (mapLeft h m) (r .keys)
+      unfolding walkAnswer
+      check-walked =
+          let d = binsData h in
+          let s = surveyed h m t e in
+          let x = accepted-free (walkCharge h (mapLeft h m)) (reportOf h t) q in
+          let on = survey-on h m d _ (s .0) refl refl .1 in
+          let room = front-data h m (s .0) in
+          let le : length d ≤ length d / 64 * 64 = let p = room .whole .pages in omega arith in
+          let few : length d / 64 ≤ length m = let p = room .room in omega arith in
+          record {
+            ready = check-ready e;
+            room = record { whole = room .whole; room = rw (on, after-length d _ m le few) (room .room) };
+            complete = rw on (again d _ m le);
+            clear = x .0;
+            counted = sym (ap (λ (y : Report). y .keys) (x .1));
+          }

@@ -14,8 +14,8 @@ use Rattle.fields.specs.declared.Refusal.{Refusal}
 use Rattle.fields.specs.declared.Verdict.{Verdict}
 use Rattle.fields.specs.declared.Verdict.the-variants.{Sound, Flawed}
 use Rattle.fields.specs.Faults.{numberOf, flaw, unless, noKey, refusalOf, Because}
-use Rattle.fields.specs.Charges.{Charge, chargeOf}
-use Rattle.fields.proofs.Charges.{clear-of, Charges, after-charges, flaw-charges}
+use Rattle.fields.specs.Charges.{Charge, chargeOf, _after_}
+use Rattle.fields.proofs.Charges.{clear-of, because, Charges, after-charges, flaw-charges}
 use Rattle.fields.proofs.Every.{Every, every-sound, every-flaw, every-unless, every-next, every-over}
 use Rattle.base.specs.Block.{binsData}
 use Rattle.cells.specs.declared.Rule.the-variants.{Map}
@@ -38,12 +38,16 @@ use Rattle.values.specs.Segments.{dataFault}
 use Rattle.values.specs.Lists.{valuesOf, valueListFault, wholeValueFault, valuesFault}
 use Rattle.values.specs.Refused.{Role, a-key, Fit, Unfit, no-cell, no-record, Among, one-of, its-child}
 use Rattle.values.proofs.Refusals.{key-fit, key-unfit, value-fit, value-unfit, lists-unfit, value-list-unfit, value-named, data-unfit}
+use Rattle.security.specs.Refused.{OfSecurity, no-item, no-room, no-link, other-count, off-ring}
+use Rattle.security.proofs.Tells.{security-tells}
 use Rattle.tree.specs.declared.Checked.the-variants.{Refused}
 use Rattle.tree.specs.declared.Hive.{Hive}
 use Rattle.tree.specs.declared.Arrival.{Arrival}
 use Rattle.tree.specs.declared.Arrival.the-variants.{Start, First, After}
-use Rattle.tree.specs.Tree.{holder, nameAt, isBefore, parentFault, orderFault, placeFault, hashFault, levelFault, totalFault, restFault, ownFault, keyCharge, listCharge, treeCharge, levels, hiveOf, rootChild, onTiled, checkAnswer}
-use Rattle.tree.specs.Told.{Reached, the-root, a-child, Follows, at-once, later, OfTree, of-root, of-lists, of-values, of-data, no-order, other-hash, other-parent, root-listed, other-total, too-deep, Told, of-survey, of-tree}
+use Rattle.tree.specs.Tree.{holder, nameAt, isBefore, parentFault, orderFault, placeFault, hashFault, levelFault, totalFault, restFault, ownFault, keyCharge, listCharge, treeCharge, levels, hiveOf, rootChild, keysOf, walkCharge, ringCharge, onTiled, checkAnswer}
+use Rattle.tree.specs.Told.{Reached, the-root, a-child, Follows, at-once, later, OfTree, of-root, of-lists, of-values, of-data, no-order, other-hash, other-parent, root-listed, other-total, too-deep, Told, of-survey, of-tree, of-security}
+use Rattle.tree.specs.WellFormed.{TreeStands}
+use Rattle.tree.proofs.Accepted.{root-stands}
 use Rattle.tree.proofs.Charges.{refused-charge, level-zero, key-parts}
 
 follows-in : {b c : Child} {cs : List Child} → Follows b c cs → List·Memᴰ c cs
@@ -189,7 +193,7 @@ module _ (d : List ℕ) (hive : Hive) where
   pub among-number : {R : Role → Offset → Type 0} {f : Flaw} → Among Map d R f → (11 ≤ numberOf (f .fault)) × (numberOf (f .fault) ≤ 12)
   among-number (one-of p u) = unfit-number u
 
-  pub tree-number : {k : Offset} {f : Flaw} → OfTree d hive k f → 11 ≤ numberOf (f .fault)
+  tree-number : {k : Offset} {f : Flaw} → OfTree d hive k f → 11 ≤ numberOf (f .fault)
   tree-number (of-root u) = unfit-number u .0
   tree-number (of-lists r p a) = among-number a .0
   tree-number (of-values r p a) = among-number a .0
@@ -203,19 +207,47 @@ module _ (d : List ℕ) (hive : Hive) where
 
 -- ---- the check
 
+-- past the survey: why the tree is refused, or the security items of a tree that stands
+pub data Past (h : List ℕ) : Offset → Flaw → Type 0 where
+  in-tree : {k : Offset} {f : Flaw} → OfTree (binsData h) (hiveOf h) k f → Past h k f
+  on-ring : {k : Offset} {f : Flaw} → TreeStands (binsData h) (hiveOf h) levels (hiveOf h .root)
+      → OfSecurity (binsData h) (hiveOf h .root) (keysOf h) k f → Past h k f
+
+pub security-number : {d : List ℕ} {root : Offset} {ks : List Offset} {k : Offset} {f : Flaw} → OfSecurity d root ks k f → numberOf (f .fault) ≡ 28
+security-number (no-item p) = refl
+security-number (no-room r p) = refl
+security-number (no-link r p) = refl
+security-number (other-count r p) = refl
+security-number (off-ring i p) = refl
+
+past-number : {h : List ℕ} {k : Offset} {f : Flaw} → Past h k f → 11 ≤ numberOf (f .fault)
+past-number {h} (in-tree t) = tree-number (binsData h) (hiveOf h) t
+past-number (on-ring s t) = let n = security-number t in omega arith
+
 module _ (h m : List ℕ) where
-  -- past the survey
-  pub walk-tells : {t : Tally} {r : Refusal} → surveyAnswer h (length m) ≡ Tiled t → onTiled h m (Tiled t) ≡ Refused r
-      → Because (OfTree (binsData h) (hiveOf h)) r
+  walk-tells : {t : Tally} {r : Refusal} → surveyAnswer h (length m) ≡ Tiled t → onTiled h m (Tiled t) ≡ Refused r → Because (Past h) r
   walk-tells {t} {r} p q =
       let x = surveyed h m t p .1 in
-      tree-charges (binsData h) (mapLeft h m) (x .tiles) (x .mapped) (hiveOf h) levels at-start refl r
-      (refused-charge (treeCharge (binsData h) (mapLeft h m) (hiveOf h) levels (rootChild (hiveOf h)) Start) _ q)
+      let d = binsData h in
+      let left = mapLeft h m in
+      after-charges (Past h) (walkCharge h left) (ringCharge h left)
+      (λ f e. because (OfTree d (hiveOf h)) (Past h) (λ k g w. in-tree w) (tree-charges d left (x .tiles) (x .mapped) (hiveOf h) levels at-start refl f e))
+      (λ c f e. because (OfSecurity d (hiveOf h .root) (keysOf h)) (Past h) (λ k g w. on-ring (root-stands d left (hiveOf h) (x .tiles) (x .mapped) c) w)
+      (security-tells d left (x .tiles) (x .mapped) (hiveOf h .root) (keysOf h) f e))
+      r (refused-charge (walkCharge h left after ringCharge h left) _ q)
+
+  -- its number is 11 or more
+  pub walk-number : {t : Tally} {r : Refusal} → surveyAnswer h (length m) ≡ Tiled t → onTiled h m (Tiled t) ≡ Refused r → 11 ≤ numberOf (r .fault)
+  walk-number p q = let w = walk-tells p q in rw (w .2) (past-number (w .3))
 
   pub check-tells : {r : Refusal} → checkAnswer h m ≡ Refused r → Because (Told h (length m)) r
   unfolding checkAnswer
   check-tells {r} e = by (surveyAnswer h (length m)) refl e
     where
+      told : BinsTile (binsData h) 0 → (k : Offset) (f : Flaw) → Past h k f → Told h (length m) k f
+      told b k f (in-tree t) = of-tree b t
+      told b k f (on-ring s t) = of-security b s t
+
       by : (s : Surveyed) → surveyAnswer h (length m) ≡ s → onTiled h m s ≡ Refused r → Because (Told h (length m)) r
       by (Untiled f) p q = (noKey, f, let z : refusalOf noKey f ≡ r = cc in sym z, of-survey (survey-refuses h (length m) p))
-      by (Tiled t) p q = let x = walk-tells p q in (x .0, x .1, x .2, of-tree (surveyed h m t p .1 .tiles) (x .3))
+      by (Tiled t) p q = because (Past h) (Told h (length m)) (told (surveyed h m t p .1 .tiles)) (walk-tells p q)

@@ -7,10 +7,14 @@ use Rattle.fields.specs.declared.Offset.{Offset}
 use Rattle.fields.specs.declared.Verdict.{Verdict}
 use Rattle.fields.specs.declared.Verdict.the-variants.{Sound}
 use Rattle.fields.specs.Faults.{_next_}
+use Rattle.fields.specs.Charges.{Free}
 use Rattle.cells.specs.declared.Rule.the-variants.{Map}
 use Rattle.base.specs.Block.{binsData, baseFault}
 use Rattle.cells.specs.declared.Tally.{Tally}
 use Rattle.cells.specs.Named.{dataAt}
+use Rattle.cells.specs.Tiling.{layout, surveyOf}
+use Rattle.cells.specs.Map.{mapAfter}
+use Rattle.cells.specs.Steps.{Data}
 use Rattle.cells.specs.Tiled.{BinsTile, Mapped}
 use Rattle.records.specs.declared.Key.{Key}
 use Rattle.records.specs.Keys.{keyOf, NameIn}
@@ -19,7 +23,7 @@ use Rattle.records.specs.Lists.{leafChildren, listsFault}
 use Rattle.tree.specs.declared.Arrival.{Arrival}
 use Rattle.tree.specs.declared.Arrival.the-variants.{Start, First, After}
 use Rattle.tree.specs.declared.Checked.{Checked}
-use Rattle.tree.specs.Tree.{totalFault, treeCharge, levels, hiveOf, rootChild, reportOf, answer}
+use Rattle.tree.specs.Tree.{totalFault, hiveOf, keysOf, reportOf, walkCharge, answer}
 
 -- a key's name lies in its cell
 abbrev pub NameLies : List ℕ → Key → Type 0
@@ -52,4 +56,12 @@ pub record Ready (h m : List ℕ) : Type 0 where
 
 -- the walk from the root, and the report where there is no charge
 unfoldable pub walkAnswer : List ℕ → List ℕ → Tally → Checked
-walkAnswer h m t = answer (treeCharge (binsData h) m (hiveOf h) levels (rootChild (hiveOf h)) Start) (reportOf h t)
+walkAnswer h m t = answer (walkCharge h m) (reportOf h t)
+
+-- and one whose tree was walked without a charge: its map is whole, and the keys were counted
+pub record Walked (h m : List ℕ) (keys : ℕ) : Type 0 where
+  pub ready : Ready h m
+  pub room : Data (binsData h) m
+  pub complete : mapAfter (binsData h) (surveyOf (layout (binsData h) 0) 0 0 0) m ≡ m
+  pub clear : walkCharge h m ≡ Free
+  pub counted : keys ≡ length (keysOf h)

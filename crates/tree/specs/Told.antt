@@ -1,9 +1,9 @@
 -- What a refusal of the check says: "Each refusal is a number and a place, here an offset in the bins data (0 unless stated)", and the key under
--- examination. The table's rows 1 to 15, each with its reason. h is the hive and d its bins data.
+-- examination. The table's rows 1 to 15 and 28, each with its reason. h is the hive and d its bins data.
 use Prim.Native.Nat.{ℕ, suc, _/_, _<_, _≤_}
 use mathlib.Core.Path.{_≡_}
 use mathlib.Core.Bool.{true}
-use mathlib.Core.Logic.{_↔_}
+use mathlib.Core.Logic.{_↔_, _⊎_}
 use mathlib.Core.List.{List, _∷_, List·Memᴰ}
 use lib.ListN.{length}
 use Rattle.fields.specs.declared.Fault.the-variants.{Order, Parent, Level}
@@ -24,8 +24,10 @@ use Rattle.records.specs.Lists.{children}
 use Rattle.values.specs.Records.{dataIn}
 use Rattle.values.specs.Lists.{valuesOf}
 use Rattle.values.specs.Refused.{a-key, a-value, Fit, Unfit, Among, Lists, Values, Data}
+use Rattle.security.specs.Refused.{OfSecurity}
 use Rattle.tree.specs.declared.Hive.{Hive}
-use Rattle.tree.specs.Tree.{nameAt, hiveOf, keysOf}
+use Rattle.tree.specs.Tree.{nameAt, levels, hiveOf, keysOf}
+use Rattle.tree.specs.WellFormed.{TreeStands}
 
 -- the keys that the check comes to, with their levels: "The root is level 0"
 pub data Reached (d : List ℕ) (root : Offset) : ℕ → Offset → Type 0 where
@@ -64,6 +66,9 @@ pub data OfTree (d : List ℕ) (hive : Hive) : Offset → Flaw → Type 0 where
 pub data Told (h : List ℕ) (room : ℕ) : Offset → Flaw → Type 0 where
   of-survey : {f : Flaw} → OfSurvey h room f → Told h room noKey f
   of-tree : {k : Offset} {f : Flaw} → BinsTile (binsData h) 0 → OfTree (binsData h) (hiveOf h) k f → Told h room k f
+  -- 28: "given after the tree walk", so only where the tree stands
+  of-security : {k : Offset} {f : Flaw} → BinsTile (binsData h) 0 → TreeStands (binsData h) (hiveOf h) levels (hiveOf h .root)
+      → OfSecurity (binsData h) (hiveOf h .root) (keysOf h) k f → Told h room k f
 
 -- which key a refusal of the check names, by its number
 pub record Examined (h : List ℕ) (r : Refusal) : Type 0 where
@@ -74,7 +79,9 @@ pub record Examined (h : List ℕ) (r : Refusal) : Type 0 where
   pub reached : 11 ≤ numberOf (r .fault) → numberOf (r .fault) ≤ 12 → Fit Map (binsData h) a-key (hiveOf h .root)
       → Fit Map (binsData h) a-key (r .key) × List·Memᴰ (r .key) (keysOf h)
   -- 13 to 15: the place
-  pub placed : 13 ≤ numberOf (r .fault) → r .key ≡ r .place
+  pub placed : 13 ≤ numberOf (r .fault) → numberOf (r .fault) ≤ 15 → r .key ≡ r .place
+  -- 28: "met on the ring, the root"; else the place, a key whose offset is off the ring. Either is one of those that the walk reaches
+  pub ringed : numberOf (r .fault) ≡ 28 → List·Memᴰ (r .key) (keysOf h) × ((r .key ≡ hiveOf h .root) ⊎ (r .key ≡ r .place))
 
 -- "bins size / 64 bytes"
 abbrev pub mapBytes : List ℕ → ℕ

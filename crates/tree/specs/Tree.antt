@@ -1,6 +1,6 @@
 -- The check, in the order of its tests: "then from the root: the key's cell and record; parent or root listed (neither at the start); order and hash;
--- level; values in order with their data; all its lists and the total; then each child, wholly, before the next." d is the bins data and m the work
--- map; a hive's minor version and root come along.
+-- level; values in order with their data; all its lists and the total; then each child, wholly, before the next." After the walk, the security items.
+-- d is the bins data and m the work map; a hive's minor version and root come along.
 use Prim.Native.Nat.{ℕ, zero, suc, _+_, _%_, _^_}
 use mathlib.Core.Bool.{Bool, true, false, not, _||_}
 use mathlib.Core.List.{List, [], _∷_}
@@ -28,6 +28,7 @@ use Rattle.records.specs.Keys.{keyFault, keyOf, codesOf}
 use Rattle.records.specs.Lists.{childrenBelow, children, listsFault}
 use Rattle.records.specs.Listed.{joined, keysIn}
 use Rattle.values.specs.Lists.{valuesFault}
+use Rattle.security.specs.Items.{securityCharge}
 use Rattle.tree.specs.declared.Checked.{Checked}
 use Rattle.tree.specs.declared.Checked.the-variants.{Accepted, Refused}
 use Rattle.tree.specs.declared.Count.{Count}
@@ -141,14 +142,20 @@ reportOf h t =
       free = t .free;
     }
 
+-- the walk from the root, with its map, and what is "given after the tree walk"
+abbrev pub walkCharge : List ℕ → List ℕ → Charge
+walkCharge h m = treeCharge (binsData h) m (hiveOf h) levels (rootChild (hiveOf h)) Start
+
+abbrev pub ringCharge : List ℕ → List ℕ → Charge
+ringCharge h m = securityCharge (binsData h) m (hiveOf h .root) (keysOf h)
+
 abbrev pub answer : Charge → Report → Checked
 answer Free r = Accepted r
 answer (Of f) r = Refused f
 
 abbrev pub onTiled : List ℕ → List ℕ → Surveyed → Checked
 onTiled h m (Untiled f) = Refused (refusalOf noKey f)
-onTiled h m (Tiled t) =
-    answer (treeCharge (binsData h) (mapLeft h m) (hiveOf h) levels (rootChild (hiveOf h)) Start) (reportOf h t)
+onTiled h m (Tiled t) = answer (walkCharge h (mapLeft h m) after ringCharge h (mapLeft h m)) (reportOf h t)
 
 -- the check's answer for a hive and a work map; the map afterwards is `mapLeft h m`
 unfoldable pub checkAnswer : List ℕ → List ℕ → Checked

@@ -1,5 +1,5 @@
 -- What a well formed hive is, said without the order of tests and without the walk: "cells tile the bins, and the keys reached from the root form a
--- sorted tree". d is the bins data.
+-- sorted tree", and the security items. d is the bins data.
 use Prim.Native.Nat.{ℕ, suc, _+_, _*_, _≤_}
 use mathlib.Core.Path.{_≡_}
 use mathlib.Core.Bool.{true}
@@ -22,10 +22,11 @@ use Rattle.values.specs.declared.ValueData.the-variants.{Inline, OneCell, Segme
 use Rattle.values.specs.Records.{dataIn}
 use Rattle.values.specs.Segments.{segmentsFor, segmentList, segmentsOf}
 use Rattle.values.specs.Lists.{valuesOf}
+use Rattle.security.specs.Stands.{SecurityStands}
 use Rattle.tree.specs.declared.Hive.{Hive}
 use Rattle.records.specs.Facts.{Signed, KeyRecord}
 use Rattle.tree.specs.Facts.{LeafRecord, ListRecord, ValueRecord, DbRecord}
-use Rattle.tree.specs.Tree.{nameAt, levels, hiveOf}
+use Rattle.tree.specs.Tree.{nameAt, levels, hiveOf, keysOf}
 
 -- an offset names a cell in use with room for so many bytes
 pub record Room (d : List ℕ) (o : Offset) (n : ℕ) : Type 0 where
@@ -97,6 +98,8 @@ pub data TreeStands (d : List ℕ) (hive : Hive) : ℕ → Offset → Type 0 whe
 pub record WellFormed (h : List ℕ) : Type 0 where
   pub tiled : BinsTile (binsData h) 0
   pub tree : TreeStands (binsData h) (hiveOf h) levels (hiveOf h .root)
+  -- ""Well formed" in demand 2 includes this from now on"
+  pub security : SecurityStands (binsData h) (hiveOf h .root) (keysOf h)
 
 -- "a hive is accepted exactly when it is clean and well formed by the published regf description": clean, with its bins inside the file
 pub record CleanAndWellFormed (h : List ℕ) : Type 0 where

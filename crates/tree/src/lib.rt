@@ -1,7 +1,8 @@
-// The check: the tree walked from the root, and the report.
+// The check: the tree walked from the root, the security items, and the report.
 use cells::Rule;
 use cells::Surveyed;
 use cells::Tally;
+use census::Secured;
 use fields::Fault;
 use fields::Offset;
 use fields::Refusal;
@@ -17,8 +18,8 @@ ghost use Rattle.cells.specs.Named.{dataAt};
 ghost use Rattle.cells.specs.declared.Rule.the-variants.{Map};
 ghost use Rattle.fields.specs.declared.Verdict.the-variants.{Sound};
 ghost use Rattle.records.specs.Lists.{leafChildren, leafFault, childrenBelow, listsFault};
-ghost use Rattle.tree.specs.Tree.{parentFault, orderFault, placeFault, hashFault, restFault, ownFault, holder as holderOf, tally as tallyOf, keyAnswer, listAnswer, checkAnswer};
-ghost use Rattle.tree.specs.Steps.{NameLies, Fits, ArrivalFits, subkeysFault, lastOf, Ready, walkAnswer};
+ghost use Rattle.tree.specs.Tree.{parentFault, orderFault, placeFault, hashFault, restFault, ownFault, holder as holderOf, tally as tallyOf, keyAnswer, listAnswer, ringCharge, answer, checkAnswer};
+ghost use Rattle.tree.specs.Steps.{NameLies, Fits, ArrivalFits, subkeysFault, lastOf, Ready, walkAnswer, Walked};
 
 // "The check reports bins, keys reached, values (one for each value list element of those keys), used bytes and free bytes"
 pub struct Report {
@@ -331,6 +332,19 @@ fn walk_tree(hive: &[u8], map: &[u8], t: Tally) -> Checked
     }
 }
 
+// "given after the tree walk": the security items of a hive whose tree was walked. The map serves there, and is left as it was.
+fn check_items(hive: &[u8], map: &mut [u8], report: Report) -> Checked
+    requires { ⌜ Walked (now hive) (now map) (report .keys) ⌝ }
+    ensures { λ r. ⌜ r ≡ answer (ringCharge (now (hive .entry)) (now (map .entry))) report ⌝ }
+    ensures { λ _. ⌜ now (map .exit) ≡ now (map .entry) ⌝ }
+{
+    let root = base::root_of(hive);
+    match census::security_charge(base::bins_of(hive), map, root, report.keys) {
+        Secured::Stands => Checked::Accepted(report),
+        Secured::Refused(r) => Checked::Refused(r),
+    }
+}
+
 // The check of a hive, with a work map of at least bins size / 64 bytes.
 pub fn check(hive: &[u8], map: &mut [u8]) -> Checked
     ensures { λ r. ⌜ r ≡ checkAnswer (now (hive .entry)) (now (map .entry)) ⌝ }
@@ -338,6 +352,9 @@ pub fn check(hive: &[u8], map: &mut [u8]) -> Checked
 {
     match cells::survey(hive, map) {
         Surveyed::Refused(f) => Checked::Refused(fields::refused(Offset(fields::NO_KEY), f)),
-        Surveyed::Tiled(t) => walk_tree(hive, map, t),
+        Surveyed::Tiled(t) => match walk_tree(hive, map, t) {
+            Checked::Refused(r) => Checked::Refused(r),
+            Checked::Accepted(report) => check_items(hive, map, report),
+        },
     }
 }

@@ -1,4 +1,5 @@
-use Rattle.tree.proofs.Roots.{check-refused, check-walk, check-ready}
+use Rattle.tree.proofs.Roots.{check-refused, check-ready, check-stops, check-on, check-walked}
+use Rattle.tree.specs.Tree.{ringCharge, answer}
 use Rattle.tree.specs.Steps.{walkAnswer}
 use Prim.Native.Nat.{ℕ}
 use mathlib.Core.List.{List}
@@ -21,22 +22,55 @@ enum-known-t : tie.Need-enum-known-t
 enum-known-t c = search needs
 
 walk-tree-requires : tie.Need-walk-tree-requires
-walk-tree-requires c κs = rw (c .before .before .before .before .before .before .survey .ensures .1) (check-ready _ _ (sym (c .before .before .before .before .before .before .survey .ensures .0) ∙ c .before .before .t .given .1))
+walk-tree-requires c κs =
+    let s = c .before .before .before .before .before .before .survey .ensures in
+    rw (s .1) (check-ready _ _ (sym (s .0) ∙ c .before .before .t .given .1))
+
+enum-known-r : tie.Need-enum-known-r
+enum-known-r c = search needs
+
+enum-known-report : tie.Need-enum-known-report
+enum-known-report c = search needs
+
+check-items-requires : tie.Need-check-items-requires
+check-items-requires c κs =
+    let a = c .before .before .before .before .before .before .before .before .before .before .before .before .before .before .before .args in
+    let s = c .before .before .before .before .before .before .before .before .before .before .before .survey .ensures in
+    let t = c .before .before .before .before .before .before .before .t .given in
+    let walk = ap (λ (x : List ℕ). walkAnswer (now (a .hive)) x (t .0 .0)) (sym (s .1)) ∙ sym (c .before .before .before .before .walk-tree .ensures) ∙ c .before .before .report .given .1 in
+    rw (s .1) (check-walked _ _ (sym (s .0) ∙ t .1) walk)
 
 same-length : tie.Need-same-length
 same-length c = search needs
 
 returns : tie.Need-returns
-returns c = (sym (check-refused _ _ (sym (c .before .before .before .before .before .before .survey .ensures .0) ∙ c .before .before .f .given .1) (c .refused .ensures)), c .before .before .before .before .before .before .survey .ensures .1)
+returns c =
+    let s = c .before .before .before .before .before .before .survey .ensures in
+    (sym (check-refused _ _ (sym (s .0) ∙ c .before .before .f .given .1) (c .refused .ensures)), s .1)
 
 same-length-2 : tie.Need-same-length-2
 same-length-2 c = search needs
 
 returns-2 : tie.Need-returns-2
-returns-2 c = let a = c .before .before .before .before .before .before .before .before .before .before .before .args in (
-  c .walk-tree .ensures ∙ ap (λ (x : List ℕ). walkAnswer (now (a .hive)) x (c .before .before .before .t .given .0 .0)) (c .before .before .before .before .before .before .before .survey .ensures .1) ∙ sym (check-walk _ _ (sym (c .before .before .before .before .before .before .before .survey .ensures .0) ∙ c .before .before .before .t .given .1)),
-  c .before .before .before .before .before .before .before .survey .ensures .1,
-)
+returns-2 c =
+    let a = c .before .before .before .before .before .before .before .before .before .before .before .before .before .before .args in
+    let s = c .before .before .before .before .before .before .before .before .before .before .survey .ensures in
+    let t = c .before .before .before .before .before .before .t .given in
+    let walk = ap (λ (x : List ℕ). walkAnswer (now (a .hive)) x (t .0 .0)) (sym (s .1)) ∙ sym (c .before .before .before .walk-tree .ensures) ∙ c .before .r .given .1 in
+    (sym (check-stops _ _ (sym (s .0) ∙ t .1) walk), s .1)
+
+same-length-3 : tie.Need-same-length-3
+same-length-3 c = search needs
+
+returns-3 : tie.Need-returns-3
+returns-3 c =
+    let a = c .before .before .before .before .before .before .before .before .before .before .before .before .before .before .before .before .before .before .args in
+    let s = c .before .before .before .before .before .before .before .before .before .before .before .before .before .before .survey .ensures in
+    let t = c .before .before .before .before .before .before .before .before .before .before .t .given in
+    let r = c .before .before .before .before .before .report .given in
+    let i = c .before .before .check-items .ensures in
+    let walk = ap (λ (x : List ℕ). walkAnswer (now (a .hive)) x (t .0 .0)) (sym (s .1)) ∙ sym (c .before .before .before .before .before .before .before .walk-tree .ensures) ∙ r .1 in
+    (i .0 ∙ ap (λ (x : List ℕ). answer (ringCharge (now (a .hive)) x) (r .0 .0)) (s .1) ∙ sym (check-on _ _ (sym (s .0) ∙ t .1) walk), i .1 ∙ s .1)
 
 pub check-spec : {M : Type 1} → statement M
 check-spec =
@@ -47,7 +81,12 @@ check-spec =
     refused-requires
     enum-known-t
     walk-tree-requires
+    enum-known-r
+    enum-known-report
+    check-items-requires
     same-length
     returns
     same-length-2
-    returns-2)
+    returns-2
+    same-length-3
+    returns-3)

@@ -1,0 +1,46 @@
+use borrow.Author.Needs.{needs}
+use mathlib.Core.Path.{_≡_, sym, _∙_}
+use Rattle.census.proofs.Answers.{turn-flawed, turn-closed, turn-broken, turn-more}
+use Rattle.census.proofs.turn_of.Statement.{statement}
+use Rattle.census.proofs.turn_of.Tie as tie
+
+enum-known-a : tie.Need-enum-known-a
+enum-known-a c = search needs
+
+enum-known-a-2 : tie.Need-enum-known-a-2
+enum-known-a-2 c = search needs
+
+enum-told : tie.Need-enum-told
+enum-told c = search needs
+
+enum-known-b : tie.Need-enum-known-b
+enum-known-b c = search needs
+
+enum-known-b-2 : tie.Need-enum-known-b-2
+enum-known-b-2 c = search needs
+
+returns : tie.Need-returns
+returns c = sym (turn-flawed _ _ (c .before .a .given .1))
+
+returns-2 : tie.Need-returns-2
+returns-2 c = sym (turn-closed _ _ (c .before .before .before .a2 .given .1) (c .enum-told .given .1))
+
+returns-3 : tie.Need-returns-3
+returns-3 c = sym (turn-broken _ _ (c .before .before .before .before .a2 .given .1) (c .before .b .given .1))
+
+returns-4 : tie.Need-returns-4
+returns-4 c = sym (turn-more _ _ (c .before .before .before .before .a2 .given .1) (c .before .b2 .given .1))
+
+pub turn-of-spec : {M : Type 1} → statement M
+turn-of-spec =
+    tie.close
+    (tie.spec
+    enum-known-a
+    enum-known-a-2
+    enum-told
+    enum-known-b
+    enum-known-b-2
+    returns
+    returns-2
+    returns-3
+    returns-4)

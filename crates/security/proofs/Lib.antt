@@ -1,0 +1,5 @@
+pub mod Items
+pub mod Ring
+pub mod Gathers
+pub mod Exactly
+pub mod Tells

@@ -1,0 +1,26 @@
+use borrow.Author.Needs.{needs}
+use mathlib.Core.Path.{_≡_, sym, ap, _∙_}
+use borrow.Author.Tests.{not-true, not-false}
+use Rattle.security.proofs.Items.{item-facts, not-linked, linked-by}
+use Rattle.security.proofs.is_linked.Statement.{statement}
+use Rattle.security.proofs.is_linked.Tie as tie
+
+is-item-requires : tie.Need-is-item-requires
+is-item-requires c κs = search needs
+
+returns : tie.Need-returns
+returns c =
+    let p = c .before .before .before .before .pre in
+    sym (not-linked _ _ _ (rw p at (sym (c .before .is-item .ensures) ∙ not-true _ (c .if1 .taken))))
+
+item-at-requires : tie.Need-item-at-requires
+item-at-requires c κs = item-facts _ _ _ (sym (c .before .is-item .ensures) ∙ not-false _ (c .if1 .left)) .fits
+
+returns-2 : tie.Need-returns-2
+returns-2 c =
+    let p = c .before .before .before .before .before .before .before .before .pre in
+    let i = sym (c .before .before .before .before .before .is-item .ensures) ∙ not-false _ (c .before .before .before .before .if1 .left) in
+    rw (c .before .before .before .item-at .ensures, p) (sym (linked-by _ _ _ (rw p at i)))
+
+pub is-linked-spec : {M : Type 1} → statement M
+is-linked-spec = tie.close (tie.spec is-item-requires returns item-at-requires returns-2)

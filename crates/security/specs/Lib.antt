@@ -1,0 +1,4 @@
+pub mod Items
+pub mod Stands
+pub mod Refused
+pub mod Steps

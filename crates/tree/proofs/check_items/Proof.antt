@@ -1,0 +1,55 @@
+use denote.Ref.{now}
+use mathlib.Core.Path.{sym, _∙_}
+use borrow.Author.Needs.{needs}
+use Rattle.tree.proofs.Secures.{asked, items-stand, items-refuse}
+use Rattle.tree.proofs.check_items.Statement.{statement}
+use Rattle.tree.proofs.check_items.Tie as tie
+
+root-of-requires : tie.Need-root-of-requires
+root-of-requires c κs = c .before .before .pre .ready .base
+
+bins-of-requires : tie.Need-bins-of-requires
+bins-of-requires c κs = c .before .before .before .pre .ready .base
+
+security-charge-requires : tie.Need-security-charge-requires
+security-charge-requires c κs =
+    let a = c .before .before .before .before .before .args in
+    asked (now (a .hive)) _ (c .before .bins-of .ensures) (c .before .before .root-of .ensures) _ (c .before .before .before .before .before .pre)
+
+enum-told : tie.Need-enum-told
+enum-told c = search needs
+
+enum-known-r : tie.Need-enum-known-r
+enum-known-r c = search needs
+
+same-length : tie.Need-same-length
+same-length c = search needs
+
+returns : tie.Need-returns
+returns c =
+    let a = c .before .before .before .before .before .before .before .before .before .before .args in
+    let s = c .before .before .before .before .security-charge .ensures in
+    (sym (items-stand (now (a .hive)) (now (a .map)) (c .before .before .before .before .before .before .bins-of .ensures) (c .before .before .before .before .before .before .before .root-of .ensures) (sym (s .0) ∙ c .enum-told .given .1) _), s .1)
+
+same-length-2 : tie.Need-same-length-2
+same-length-2 c = search needs
+
+returns-2 : tie.Need-returns-2
+returns-2 c =
+    let a = c .before .before .before .before .before .before .before .before .before .before .before .args in
+    let s = c .before .before .before .before .before .security-charge .ensures in
+    (sym (items-refuse (now (a .hive)) (now (a .map)) (c .before .before .before .before .before .before .before .bins-of .ensures) (c .before .before .before .before .before .before .before .before .root-of .ensures) (sym (s .0) ∙ c .before .r .given .1) _), s .1)
+
+pub check-items-spec : {M : Type 1} → statement M
+check-items-spec =
+    tie.close
+    (tie.spec
+    root-of-requires
+    bins-of-requires
+    security-charge-requires
+    enum-told
+    enum-known-r
+    same-length
+    returns
+    same-length-2
+    returns-2)
