@@ -9,5 +9,7 @@ pub mod Fronts
 pub mod Turns
 pub mod Cleared
 pub mod Tiles
+pub mod Free
+pub mod Gaps
 pub mod Mapped
 pub mod Refusals

@@ -290,14 +290,14 @@ module _ (d : List ℕ) where
   pub starts-exactly : (o : Offset) → (startsIn (layout d 0) (o .0) ≡ true) ↔ InUse d o
   starts-exactly o = (starts-bins (length d) 0 (o .0) (omega arith), bins-starts)
 
-  cell-in : {at end o : ℕ} → at % 8 ≡ 0 → InCells d end o at → CellIn d at end o
+  pub cell-in : {at end o : ℕ} → at % 8 ≡ 0 → InCells d end o at → CellIn d at end o
   cell-in a (this-cell lt g u) =
       record { after = omega arith; before = omega (arith, g .inside); some = g .some; whole = g .eights; eights = a; used = u }
   cell-in a (later-cell lt g s) =
       let c = cell-in (omega (arith, g .eights)) s in
       record { after = omega (arith, c .after); before = c .before; some = c .some; whole = c .whole; eights = c .eights; used = c .used }
 
-  in-bin : {at o : ℕ} → at % 4096 ≡ 0 → InBins d o at → InBin d o × (at ≤ o)
+  pub in-bin : {at o : ℕ} → at % 4096 ≡ 0 → InBins d o at → InBin d o × (at ≤ o)
   in-bin {at} a (this-bin n h c) =
       let i = cell-in (omega arith) c in
       (record { bin = at; size = n; header = h; inside = i }, omega (arith, i .after))
@@ -308,7 +308,7 @@ module _ (d : List ℕ) where
   wholly-inside o u = in-bin refl u .0
 
   -- a bin has one size
-  same-size : {at n n′ : ℕ} → Header d at n → Header d at n′ → n ≡ n′
+  pub same-size : {at n n′ : ℕ} → Header d at n → Header d at n′ → n ≡ n′
   same-size h h′ = sym (h .size) ∙ h′ .size
 
   same-bin : {at n n′ o : ℕ} → Header d at n → Header d at n′ → InCells d (at + n′) o (at + 32) → InCells d (at + n) o (at + 32)

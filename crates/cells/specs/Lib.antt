@@ -4,5 +4,6 @@ pub mod Survey
 pub mod Named
 pub mod Tiled
 pub mod Counts
+pub mod Free
 pub mod Refused
 pub mod Steps

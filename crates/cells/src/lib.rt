@@ -11,7 +11,7 @@ ghost use Prim.Native.Nat.{_+_, _-_, _*_, _/_, _%_, _≤_, _<_};
 ghost use lib.ListN.{length};
 ghost use Rattle.fields.specs.Number.{u32At};
 ghost use Rattle.cells.specs.Tiling.{goodSize, tiling, rowOf, binSize, layout, surveyOf};
-ghost use Rattle.cells.specs.Steps.{Bin, Pages, Data, lengthNamed, lengthBy, Inside, PartIn};
+ghost use Rattle.cells.specs.Steps.{Bin, Pages, Data, Without, Stands, NextFree, lengthNamed, lengthBy, Inside, PartIn};
 ghost use Rattle.cells.specs.Map.{markAt, marks, marksAll, isMarked, mapAfter};
 ghost use Rattle.cells.specs.Named.{cellOf, dataOf, dataAt, dataTo, partIn, partPlace};
 ghost use Rattle.cells.specs.Survey.{frontFault, surveyAnswer, mapLeft};
@@ -154,6 +154,45 @@ pub fn count_tiles(bins: &[u8]) -> Surveyed
 {
     let mut map = [0u8; 1];
     walk(bins, &mut map)
+}
+
+// A free cell from an offset to another, in a bin that ends at `bin`; or none, at the end of the bins data.
+pub struct Gap {
+    pub at: usize,
+    pub end: usize,
+    pub bin: usize,
+}
+
+// The next free cell, past the end of a cell and in bins that were tested: a caller starts at 0, 0, where the first bin does.
+pub fn next_free(bins: &[u8], from: usize, end: usize) -> Gap
+    requires { ⌜ Stands (now bins) from end ⌝ }
+    ensures { λ r. ⌜ NextFree (now (bins .entry)) from end r ⌝ }
+{
+    let mut cell = from;
+    let mut bin = end;
+    while cell < bins.len() {
+        if cell == bin {
+            let n = fields::u32_at(bins, bin + 8) as usize;
+            cell = bin + 32;
+            bin += n;
+        } else {
+            let c = fields::size_at(bins, cell);
+            let next = cell + c.bytes as usize;
+            if !c.used {
+                return Gap {
+                    at: cell,
+                    end: next,
+                    bin,
+                };
+            }
+            cell = next;
+        }
+    }
+    Gap {
+        at: cell,
+        end: cell,
+        bin,
+    }
 }
 
 // The tests 9 and 10: one pass, with the map complete where the bins are good, else cleared.
@@ -307,6 +346,22 @@ pub fn data_to(bins: &[u8], at: usize, end: usize) -> &[u8]
 {
     let start = at + SIZE_FIELD;
     &bins[start..end]
+}
+
+// The first multiple of 8, from an offset on and up to an end, at which the data of a cell would have a byte at a position; or the end.
+pub fn next_with(bins: &[u8], at: usize, end: usize, i: usize, byte: u8) -> usize
+    requires { ⌜ Bin (now bins) at end ⌝ }
+    requires { ⌜ i < 4 ⌝ }
+    ensures { λ r. ⌜ Without (now (bins .entry)) at end i byte r ⌝ }
+{
+    let mut o = at;
+    while o < end {
+        if bins[o + SIZE_FIELD + i] == byte {
+            return o;
+        }
+        o += 8;
+    }
+    o
 }
 
 // A part of the data of a cell that was tested.

@@ -10,10 +10,11 @@ use Rattle.fields.specs.declared.Place.{Place}
 use Rattle.fields.specs.declared.Verdict.the-variants.{Sound}
 use Rattle.fields.specs.Number.{sizeAt, u16At}
 use Rattle.fields.specs.Position.{placeOf}
-use Rattle.fields.proofs.Bools.{never}
 use Rattle.base.specs.Block.{sector, binsOf, binsData}
 use Rattle.base.proofs.Laws.{base-facts}
-use Rattle.cells.specs.Tiled.{Header, InCells, this-cell, later-cell, InBins, this-bin, later-bin, InUse}
+use Rattle.cells.specs.Tiled.{InUse}
+use Rattle.cells.specs.Free.{FreeBin}
+use Rattle.cells.proofs.Free.{free-lies, free-apart}
 use Rattle.cells.proofs.Parts.{place-some}
 use Rattle.records.specs.Facts.{KeyRecord}
 use Rattle.values.specs.Facts.{OldValueRecord}
@@ -21,47 +22,12 @@ use Rattle.remnants.specs.declared.Kind.the-variants as kind
 use Rattle.remnants.specs.declared.Remain.{Remain}
 use Rattle.remnants.specs.declared.Remnant.the-variants as remnant
 use Rattle.remnants.specs.Remnants.{remainOf, remnantsOf, tilesFault, remnantAnswer}
-use Rattle.remnants.specs.Found.{FreeCell, this-free, later-free, FreeBin, in-bin, past-bin, Inside, restIn, Left, a-key, a-value}
+use Rattle.remnants.specs.Found.{Inside, restIn, Left, a-key, a-value}
 use Rattle.remnants.proofs.Tests.{base-sound}
-use Rattle.remnants.proofs.Exact.{cell-lies, bin-lies, remnant-exactly}
+use Rattle.remnants.proofs.Exact.{remnant-exactly}
 use Rattle.remnants.proofs.Refusals.{next-finds}
 
--- one ends where the other starts, or before
-abbrev Apart : List ℕ → ℕ → ℕ → Type 0
-Apart d u o = (u + sizeAt d u .bytes ≤ o) ⊎ (o + sizeAt d o .bytes ≤ u)
-
 module _ (d : List ℕ) where
-  used-lies : {at end u : ℕ} → InCells d end u at → (at ≤ u) × (u + sizeAt d u .bytes ≤ end)
-  used-lies (this-cell lt g s) = (omega arith, omega (arith, g .inside))
-  used-lies (later-cell lt g s) = let r = used-lies s in (omega (arith, r .0), r .1)
-
-  used-after : {at u : ℕ} → InBins d u at → at ≤ u
-  used-after (this-bin n h c) = let r = used-lies c in omega (arith, r .0)
-  used-after (later-bin n h b) = let r = used-after b in omega arith
-
-  cells-apart : {at end u o : ℕ} → at % 8 ≡ 0 → InCells d end u at → FreeCell d end o at → Apart d u o
-  cells-apart a (this-cell l g s) (this-free l′ g′ s′) = absurd (never _ s s′)
-  cells-apart a (this-cell l g s) (later-free l′ g′ f) = inl (cell-lies d (omega (arith, g .eights)) f .after)
-  cells-apart a (later-cell l g c) (this-free l′ g′ s) = inr (used-lies c .0)
-  cells-apart a (later-cell l g c) (later-free l′ g′ f) = cells-apart (omega (arith, g .eights)) c f
-
-  same-size : {at n n′ : ℕ} → Header d at n → Header d at n′ → n ≡ n′
-  same-size h h′ = sym (h .size) ∙ h′ .size
-
-  bins-apart : {at u o : ℕ} → at % 4096 ≡ 0 → InBins d u at → FreeBin d o at → Apart d u o
-  bins-apart {at} {u} {o} a (this-bin n h c) (in-bin n′ h′ f) =
-      cells-apart (omega arith) c (subst (λ (k : ℕ). FreeCell d (at + k) o (at + 32)) (same-size h′ h) f)
-  bins-apart a (this-bin n h c) (past-bin n′ h′ f) =
-      let e = same-size h h′ in
-      let l = bin-lies d (omega (arith, h′ .pages)) f in
-      inl (omega (arith, used-lies c .1, l .after))
-  bins-apart a (later-bin n h b) (in-bin n′ h′ f) =
-      let e = same-size h h′ in
-      let l = cell-lies d (omega arith) f in
-      inr (omega (arith, used-after b, l .before))
-  bins-apart {at} {u} {o} a (later-bin n h b) (past-bin n′ h′ f) =
-      bins-apart (omega (arith, h .pages)) b (subst (λ (k : ℕ). FreeBin d o (at + k)) (same-size h′ h) f)
-
   -- a record and its name end inside the free cell, and start in it
   record Ends (x : Remain) : Type 0 where
     start : ℕ
@@ -99,13 +65,13 @@ module _ (d : List ℕ) where
       → (u .0 + sizeAt d (u .0) .bytes ≤ x .at .0) ⊎ (x .name .0 + x .len ≤ 4096 + u .0)
   remnant-free x m u i =
       let s = left-ends x (remnant-exactly d x .0 m) in
-      ⊎-elim (λ p. inl (omega (arith, s .after))) (λ p. inr (omega (arith, s .ends))) (bins-apart refl i (s .free))
+      ⊎-elim (λ p. inl (omega (arith, s .after))) (λ p. inr (omega (arith, s .ends))) (free-apart d u i (s .free))
 
   -- it ends inside the bins data
   ends-inside : (x : Remain) → List·Memᴰ x (remnantsOf d) → x .name .0 + x .len ≤ 4096 + length d
   ends-inside x m =
       let s = left-ends x (remnant-exactly d x .0 m) in
-      let l = bin-lies d refl (s .free) in
+      let l = free-lies d (s .free) in
       omega (arith, s .ends, l .before)
 
 -- the name's bytes lie in the file, on any bytes

@@ -2,18 +2,15 @@
 use Prim.Native.Nat.{ℕ, zero, suc, _+_, _-_, _*_, _/_, _%_, _≤_, _<_}
 use native.Mathlib.Omega.{arith}
 use mathlib.Core.Path.{_≡_, refl, sym, ap, _∙_, subst}
-use mathlib.Core.Bool.{Bool, true, false, cond}
+use mathlib.Core.Bool.{Bool, true, false}
 use mathlib.Core.Logic.{_↔_, ⊎-elim}
 use mathlib.Core.List.{List, [], _∷_, _++_, List·Memᴰ, List·Memᴰ·head, List·Memᴰ·tail, List·Memᴰ·cases-cons, List·Memᴰ·not-nil, Memᴰ·append-left, Memᴰ·append-right, List·Memᴰ·append-cases}
-use lib.Dec.{ltb, eqb}
-use lib.ListN.{length}
-use borrow.Author.Tests.{ltb-true, ltb-false, eqb-true, eqb-false}
+use lib.Dec.{eqb}
+use borrow.Author.Tests.{eqb-true, eqb-false}
 use Rattle.fields.specs.Number.{sizeAt}
-use Rattle.cells.specs.Tiling.{goodSize, tiling, binSize, layout}
-use Rattle.cells.specs.Tiled.{Good, Header}
-use Rattle.cells.proofs.Steps.{good, of-good, done, fault, step}
-use Rattle.cells.proofs.Turns.{done as bins-done, fault as bins-fault, step as bins-step}
-use Rattle.cells.proofs.Tiles.{header-of, of-header, of-header-some}
+use Rattle.cells.specs.Tiling.{layout}
+use Rattle.cells.specs.Free.{Span, freeCells, FreeBin}
+use Rattle.cells.proofs.Free.{the-span, free-lies, free-exactly}
 use Rattle.records.specs.Keys.{isKey}
 use Rattle.records.specs.Facts.{KeyRecord}
 use Rattle.records.proofs.Facts.{key-exactly}
@@ -22,18 +19,10 @@ use Rattle.values.proofs.Facts.{old-exactly}
 use Rattle.remnants.specs.declared.Kind.{Kind}
 use Rattle.remnants.specs.declared.Kind.the-variants as kind
 use Rattle.remnants.specs.declared.Remain.{Remain}
-use Rattle.remnants.specs.Remnants.{Span, freeIn, freeCells, restOf, kindAt, remainOf, remainAt, spot, spotsN, spotsIn, spotsOf, remnantsOf}
-use Rattle.remnants.specs.Found.{FreeCell, this-free, later-free, FreeBin, in-bin, past-bin, Inside, restIn, Left, a-key, a-value}
+use Rattle.remnants.specs.Remnants.{restOf, kindAt, remainOf, remainAt, spot, spotsN, spotsIn, spotsOf, remnantsOf}
+use Rattle.remnants.specs.Found.{Inside, restIn, Left, a-key, a-value}
 use Rattle.remnants.specs.Steps.{isSome}
 use Rattle.remnants.proofs.Held.{a-key as is-a-key, a-value as is-a-value, key-is, value-is, kind-of-rest, remain-offset}
-
--- where a free cell lies
-pub record Lies (d : List ℕ) (low high o : ℕ) : Type 0 where
-  pub after : low ≤ o
-  pub before : o + sizeAt d o .bytes ≤ high
-  pub some : 0 < sizeAt d o .bytes
-  pub whole : sizeAt d o .bytes % 8 ≡ 0
-  pub eights : o % 8 ≡ 0
 
 -- a record of a free cell, by its offset
 pub record Spot (d : List ℕ) (at end : ℕ) (x : Remain) : Type 0 where
@@ -44,109 +33,10 @@ pub record Spot (d : List ℕ) (at end : ℕ) (x : Remain) : Type 0 where
   pub some : isSome (kindAt d o end) ≡ true
   pub is : x ≡ remainAt d o end
 
-the-span : ℕ → ℕ → Span
-the-span o n = record { from = o; to = o + n }
-
 past-it : (o a : ℕ) → a ≤ o → o % 8 ≡ 0 → a % 8 ≡ 0 → (o ≡ a → ⊥) → a + 8 ≤ o
 past-it o a p q r ne = omega arith
 
 module _ (d : List ℕ) where
-  pub cell-lies : {at end o : ℕ} → at % 8 ≡ 0 → FreeCell d end o at → Lies d at end o
-  cell-lies a (this-free lt g u) =
-      record { after = omega arith; before = omega (arith, g .inside); some = g .some; whole = g .eights; eights = a }
-  cell-lies a (later-free lt g s) =
-      let c = cell-lies (omega (arith, g .eights)) s in
-      record { after = omega (arith, c .after); before = c .before; some = c .some; whole = c .whole; eights = c .eights }
-
-  pub bin-lies : {at o : ℕ} → at % 4096 ≡ 0 → FreeBin d o at → Lies d at (length d) o
-  bin-lies {at} a (in-bin n h c) =
-      let i = cell-lies (omega arith) c in
-      record { after = omega (arith, i .after); before = omega (arith, i .before, h .inside); some = i .some; whole = i .whole; eights = i .eights }
-  bin-lies a (past-bin n h b) =
-      let i = bin-lies (omega (arith, h .pages)) b in
-      record { after = omega (arith, i .after); before = i .before; some = i .some; whole = i .whole; eights = i .eights }
-
-  -- the free cells of the walk are those of the bins
-  cells-free : {at end o : ℕ} → FreeCell d end o at → List·Memᴰ (the-span o (sizeAt d o .bytes)) (freeIn (tiling d at end))
-  unfolding freeIn the-span
-  cells-free {at} {end} {o} (this-free lt g u) = rw (step d o end lt (of-good g), u) (List·Memᴰ·head refl)
-  cells-free {at} {end} {o} (later-free lt g s) = rw (step d at end lt (of-good g)) (by (sizeAt d at .used) (cells-free s))
-    where
-      by : (u : Bool) → List·Memᴰ (the-span o (sizeAt d o .bytes)) (freeIn (tiling d (at + sizeAt d at .bytes) end))
-          → List·Memᴰ (the-span o (sizeAt d o .bytes))
-          (cond u (freeIn (tiling d (at + sizeAt d at .bytes) end)) (the-span at (sizeAt d at .bytes) ∷ freeIn (tiling d (at + sizeAt d at .bytes) end)))
-      by true m = m
-      by false m = List·Memᴰ·tail m
-
-  bins-free : {at o : ℕ} → FreeBin d o at → List·Memᴰ (the-span o (sizeAt d o .bytes)) (freeCells (layout d at))
-  unfolding freeCells
-  bins-free {at} {o} (in-bin n h c) =
-      rw (bins-step d at (omega (arith, h .some, h .inside)) (of-header-some d h), of-header d h) (Memᴰ·append-left (freeCells (layout d (at + n))) (cells-free c))
-  bins-free {at} {o} (past-bin n h b) =
-      rw (bins-step d at (omega (arith, h .some, h .inside)) (of-header-some d h), of-header d h) (Memᴰ·append-right (freeIn (tiling d (at + 32) (at + n))) (bins-free b))
-
-  -- a span is that of a free cell
-  record IsFree (free : ℕ → Type 0) (s : Span) : Type 0 where
-    at-start : free (s .from)
-    ends : s .to ≡ s .from + sizeAt d (s .from) .bytes
-
-  free-cells : (k at end : ℕ) (s : Span) → end - at ≤ k → List·Memᴰ s (freeIn (tiling d at end)) → IsFree (λ o. FreeCell d end o at) s
-  unfolding freeIn the-span
-  free-cells zero at end s p m = absurd (List·Memᴰ·not-nil (rw (done d at end (omega arith)) at m))
-  free-cells (suc k) at end s p m =
-      by (ltb at end) refl (goodSize n (end - at)) refl (λ lt g r. free-cells k (at + n) end s (omega (arith, g .some)) r)
-    where
-      n : ℕ
-      n = sizeAt d at .bytes
-
-      later : at < end → Good n (end - at) → IsFree (λ o. FreeCell d end o (at + n)) s → IsFree (λ o. FreeCell d end o at) s
-      later lt g f = record { at-start = later-free lt g (f .at-start); ends = f .ends }
-
-      this : at < end → Good n (end - at) → sizeAt d at .used ≡ false → s ≡ the-span at n → IsFree (λ o. FreeCell d end o at) s
-      this lt g u e = subst (λ (t : Span). IsFree (λ o. FreeCell d end o at) t) (sym e) (record { at-start = this-free lt g u; ends = refl })
-
-      pick : (u : Bool) → sizeAt d at .used ≡ u → at < end → Good n (end - at)
-          → (List·Memᴰ s (freeIn (tiling d (at + n) end)) → IsFree (λ o. FreeCell d end o (at + n)) s)
-          → List·Memᴰ s (cond u (freeIn (tiling d (at + n) end)) (the-span at n ∷ freeIn (tiling d (at + n) end))) → IsFree (λ o. FreeCell d end o at) s
-      pick true u lt g ih m = later lt g (ih m)
-      pick false u lt g ih m = ⊎-elim (λ e. this lt g u e) (λ q. later lt g (ih q)) (List·Memᴰ·cases-cons m)
-
-      by : (t : Bool) → ltb at end ≡ t → (g : Bool) → goodSize n (end - at) ≡ g
-          → (at < end → Good n (end - at) → List·Memᴰ s (freeIn (tiling d (at + n) end)) → IsFree (λ o. FreeCell d end o (at + n)) s)
-          → IsFree (λ o. FreeCell d end o at) s
-      by false x g y ih = absurd (List·Memᴰ·not-nil (rw (done d at end (ltb-false at end x)) at m))
-      by true x false y ih = absurd (List·Memᴰ·not-nil (rw (fault d at end (ltb-true at end x) y) at m))
-      by true x true y ih =
-          let lt = ltb-true at end x in
-          let g = good n (end - at) y in
-          pick (sizeAt d at .used) refl lt g (ih lt g) (rw (step d at end lt y) at m)
-
-  free-bins : (k at : ℕ) (s : Span) → length d - at ≤ k → List·Memᴰ s (freeCells (layout d at)) → IsFree (λ o. FreeBin d o at) s
-  unfolding freeCells
-  free-bins zero at s p m = absurd (List·Memᴰ·not-nil (rw (bins-done d at (omega arith)) at m))
-  free-bins (suc k) at s p m = by (ltb at (length d)) refl (eqb n 0) refl (λ h r. free-bins k (at + n) s (omega (arith, h .some)) r)
-    where
-      n : ℕ
-      n = binSize d at
-
-      here : Header d at n → List·Memᴰ s (freeIn (tiling d (at + 32) (at + n))) → IsFree (λ o. FreeBin d o at) s
-      here h q =
-          let f = free-cells (at + n) (at + 32) (at + n) s (omega arith) q in
-          record { at-start = in-bin n h (f .at-start); ends = f .ends }
-
-      past : Header d at n → IsFree (λ o. FreeBin d o (at + n)) s → IsFree (λ o. FreeBin d o at) s
-      past h f = record { at-start = past-bin n h (f .at-start); ends = f .ends }
-
-      by : (t : Bool) → ltb at (length d) ≡ t → (z : Bool) → eqb n 0 ≡ z
-          → (Header d at n → List·Memᴰ s (freeCells (layout d (at + n))) → IsFree (λ o. FreeBin d o (at + n)) s) → IsFree (λ o. FreeBin d o at) s
-      by false x z e ih = absurd (List·Memᴰ·not-nil (rw (bins-done d at (ltb-false at (length d) x)) at m))
-      by true x true e ih = absurd (List·Memᴰ·not-nil (rw (bins-fault d at (ltb-true at (length d) x) (eqb-true n 0 e)) at m))
-      by true x false e ih =
-          let lt = ltb-true at (length d) x in
-          let h = header-of d at (eqb-false n 0 e) lt in
-          ⊎-elim (here h) (λ q. past h (ih h q))
-          (List·Memᴰ·append-cases (freeIn (tiling d (at + 32) (at + n))) (rw (bins-step d at lt (eqb-false n 0 e)) at m))
-
   -- the records of one free cell
   in-spot : (k : Kind) (x y : Remain) → List·Memᴰ x (spot k y) → (isSome k ≡ true) × (x ≡ y)
   in-spot kind.Key x y m = (refl, ⊎-elim (λ e. e) (λ q. absurd (List·Memᴰ·not-nil q)) (List·Memᴰ·cases-cons m))
@@ -234,8 +124,8 @@ module _ (d : List ℕ) where
   unfolding remnantsOf
   held-of x m =
       let r = some-span (freeCells (layout d 0)) x m in
-      let f = free-bins (length d) 0 (r .0) (omega arith) (r .1) in
-      let l = bin-lies refl (f .at-start) in
+      let f = free-exactly d (r .0) .0 (r .1) in
+      let l = free-lies d (f .at-start) in
       let q = subst (λ (e : ℕ). List·Memᴰ x (spotsIn d (r .0 .from) e)) (f .ends) (r .2) in
       record {
         start = r .0 .from;
@@ -244,11 +134,11 @@ module _ (d : List ℕ) where
       }
 
   of-held : (x : Remain) → Holds x → List·Memᴰ x (remnantsOf d)
-  unfolding remnantsOf the-span
+  unfolding remnantsOf
   of-held x g =
       let n = sizeAt d (g .start) .bytes in
-      let l = bin-lies refl (g .free) in
-      span-some (freeCells (layout d 0)) (the-span (g .start) n) x (bins-free (g .free))
+      let l = free-lies d (g .free) in
+      span-some (freeCells (layout d 0)) (the-span (g .start) n) x (free-exactly d (the-span (g .start) n) .1 (record { at-start = g .free; ends = refl }))
       (spots-exactly (g .start) (g .start + n) x (l .eights) (omega (arith, l .whole, l .eights)) (omega arith) .1 (g .spot))
 
   left-of : (x : Remain) → Holds x → Left d x

@@ -1,7 +1,6 @@
 pub mod Held
 pub mod Tests
 pub mod Spots
-pub mod Cells
 pub mod Seeks
 pub mod Stores
 pub mod Rising

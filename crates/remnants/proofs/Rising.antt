@@ -4,18 +4,14 @@ use native.Mathlib.Omega.{arith}
 use mathlib.Core.Path.{_≡_, refl, sym, ap, _∙_, subst}
 use mathlib.Core.Bool.{Bool, true, false}
 use mathlib.Core.List.{List, [], _∷_, _++_}
-use lib.Dec.{leb, ltb, eqb}
-use lib.ListN.{length}
-use borrow.Author.Tests.{leb-true, leb-false, ltb-true, ltb-false, eqb-true, eqb-false}
-use Rattle.fields.specs.Number.{sizeAt}
-use Rattle.cells.specs.Tiling.{goodSize, tiling, tilingN, binSize, layout, layoutN}
-use Rattle.cells.specs.Tiled.{Good}
-use Rattle.cells.proofs.Steps.{good, atN, faultN, stepN}
-use Rattle.cells.proofs.Turns.{sized, atN as bins-atN, faultN as bins-faultN, stepN as bins-stepN}
+use lib.Dec.{leb}
+use borrow.Author.Tests.{leb-true, leb-false}
+use Rattle.cells.specs.Free.{Span}
+use Rattle.cells.proofs.Free.{Spread, spread-end, spread-on, free-spread}
 use Rattle.remnants.specs.declared.Kind.{Kind}
 use Rattle.remnants.specs.declared.Kind.the-variants as kind
 use Rattle.remnants.specs.declared.Remain.{Remain}
-use Rattle.remnants.specs.Remnants.{Span, freeIn, freeCells, kindAt, remainAt, spot, spotsN, spotsIn, spotsOf, remnantsOf, notBelow}
+use Rattle.remnants.specs.Remnants.{kindAt, remainAt, spot, spotsN, spotsIn, spotsOf, remnantsOf, notBelow}
 use Rattle.remnants.specs.Found.{Rises, rises-end, rises-on}
 use Rattle.remnants.proofs.Held.{remain-offset}
 use Rattle.remnants.proofs.Spots.{below-keeps, below-skips, below-nil}
@@ -80,69 +76,16 @@ module _ (d : List ℕ) where
       let b : o + 8 * ((end - o) / 8) ≤ end = omega arith in
       wider a b (spotsN-within ((end - o) / 8) o end)
 
-  spots-append : (ss ts : List Span) → spotsOf d (ss ++ ts) ≡ spotsOf d ss ++ spotsOf d ts
+  spread-within : {low high : ℕ} {ss : List Span} → Spread low high ss → Within low high (spotsOf d ss)
   unfolding spotsOf
-  spots-append [] ts = refl
-  spots-append (s ∷ ss) ts = ap (λ (l : List Remain). spotsIn d (s .from) (s .to) ++ l) (spots-append ss ts) ∙ sym (assoc (spotsIn d (s .from) (s .to)) (spotsOf d ss) (spotsOf d ts))
-    where
-      assoc : (a b c : List Remain) → (a ++ b) ++ c ≡ a ++ (b ++ c)
-      assoc [] b c = refl
-      assoc (x ∷ a) b c = ap (λ (l : List Remain). x ∷ l) (assoc a b c)
-
-  tiling-within : (k at end : ℕ) → at ≤ end → Within at end (spotsOf d (freeIn (tilingN k d at end)))
-  unfolding tilingN freeIn spotsOf
-  tiling-within zero at end p = within-end p
-  tiling-within (suc k) at end p =
-      by (ltb at end) refl (goodSize n (end - at)) refl (sizeAt d at .used) refl (λ g lt. tiling-within k (at + n) end (omega (arith, g .inside)))
-    where
-      n : ℕ
-      n = sizeAt d at .bytes
-
-      rest : List Span
-      rest = freeIn (tilingN k d (at + n) end)
-
-      by : (t : Bool) → ltb at end ≡ t → (g : Bool) → goodSize n (end - at) ≡ g → (u : Bool) → sizeAt d at .used ≡ u
-          → (Good n (end - at) → at < end → Within (at + n) end (spotsOf d rest)) → Within at end (spotsOf d (freeIn (tilingN (suc k) d at end)))
-      by false x g y u z ih = rw (atN (suc k) d at end (ltb-false at end x)) (within-end p)
-      by true x false y u z ih = rw (faultN k d at end (ltb-true at end x) y) (within-end p)
-      by true x true y true z ih =
-          let g = good n (end - at) y in
-          let lt = ltb-true at end x in
-          let a : at ≤ at + n = omega arith in
-          let b : end ≤ end = omega arith in
-          rw (stepN k d at end lt y, z) (wider a b (ih g lt))
-      by true x true y false z ih =
-          let g = good n (end - at) y in
-          let lt = ltb-true at end x in
-          let a : at ≤ at + n = omega arith in
-          rw (stepN k d at end lt y, z) (joined (spots-within at (at + n) a) (ih g lt))
-
-  layout-within : (k at : ℕ) → at ≤ length d → Within at (length d) (spotsOf d (freeCells (layoutN k d at)))
-  unfolding layoutN freeCells spotsOf tiling
-  layout-within zero at p = within-end p
-  layout-within (suc k) at p = by (ltb at (length d)) refl (eqb n 0) refl (λ lt. layout-within k (at + n) (omega (arith, sized d at .inside)))
-    where
-      n : ℕ
-      n = binSize d at
-
-      by : (t : Bool) → ltb at (length d) ≡ t → (z : Bool) → eqb n 0 ≡ z
-          → (at < length d → Within (at + n) (length d) (spotsOf d (freeCells (layoutN k d (at + n)))))
-          → Within at (length d) (spotsOf d (freeCells (layoutN (suc k) d at)))
-      by false x z e ih = rw (bins-atN (suc k) d at (ltb-false at (length d) x)) (within-end p)
-      by true x true e ih = rw (bins-faultN k d at (ltb-true at (length d) x) (eqb-true n 0 e)) (within-end p)
-      by true x false e ih =
-          let lt = ltb-true at (length d) x in
-          let s = sized d at in
-          let ne = eqb-false n 0 e in
-          let a : at + 32 ≤ at + n = omega (arith, s .pages) in
-          let b : at ≤ at + 32 = omega arith in
-          let c : at + n ≤ at + n = omega arith in
-          rw (bins-stepN k d at lt ne, spots-append (freeIn (tiling d (at + 32) (at + n))) (freeCells (layoutN k d (at + n))))
-          (joined (wider b c (tiling-within (at + n - (at + 32)) (at + 32) (at + n) a)) (ih lt))
+  spread-within (spread-end p) = within-end p
+  spread-within (spread-on {s = s} a b t) =
+      let q : s .to ≤ s .to = omega arith in
+      joined (wider a q (spots-within (s .from) (s .to) b)) (spread-within t)
 
   pub remnants-rise : Rises 0 (remnantsOf d)
-  unfolding remnantsOf layout
-  remnants-rise = rises (layout-within (length d - 0) 0 (omega arith))
+  unfolding remnantsOf
+  remnants-rise = rises (spread-within (free-spread d))
 
 -- all are at or past where they rise from
 rises-above : {low : ℕ} (from : ℕ) {xs : List Remain} → from ≤ low → Rises low xs → notBelow from xs ≡ xs

@@ -6,21 +6,29 @@ use mathlib.Core.Bool.{true, false}
 use mathlib.Core.Logic.{⊎-elim}
 use mathlib.Core.List.{List, [], _∷_, _++_}
 use lib.ListN.{length}
-use Rattle.cells.proofs.Steps.{done}
+use Rattle.cells.specs.declared.Gap.{Gap}
+use Rattle.cells.specs.Steps.{Stands, freeFrom, NextFree}
+use Rattle.cells.proofs.Gaps.{free-start, free-end}
 use Rattle.remnants.specs.declared.Kind.the-variants as kind
 use Rattle.remnants.specs.declared.Hit.{Hit}
 use Rattle.remnants.specs.declared.Cursor.{Cursor}
 use Rattle.remnants.specs.declared.Remain.{Remain}
-use Rattle.remnants.specs.Remnants.{freeIn, remainAt, spotsIn, remnantsOf, notBelow}
-use Rattle.remnants.specs.Steps.{isSome, Free, Spotted, Hits, Stands, Forwarded, left, leftAt, cursor, At, Sought, Sees, soughtLeft}
+use Rattle.remnants.specs.Remnants.{remainAt, spotsIn, spotsOf, remnantsOf, notBelow}
+use Rattle.remnants.specs.Steps.{isSome, Free, Spotted, Hits, left, leftAt, cursor, At, Sought, Sees, soughtLeft}
 use Rattle.remnants.proofs.Held.{remain-offset}
-use Rattle.remnants.proofs.Spots.{below-append, below-keeps, below-nil, spots-end, spots-some}
-use Rattle.remnants.proofs.Cells.{left-end}
+use Rattle.remnants.proofs.Spots.{below-append, below-keeps, below-nil, spots-end, spots-some, spots-gap, spots-nil}
 
 -- what the loop of `seek` keeps: what is left at a position gives what the start gives
 pub record Looked (d : List ℕ) (xs : List Remain) (from at cell bin : ℕ) : Type 0 where
   pub here : At d (cursor at cell bin)
   pub same : xs ≡ soughtLeft d from (cursor at cell bin)
+
+-- what is left past a cell is the next free cell, and what is left past that; and nothing at the end
+left-next : {d : List ℕ} {cell bin : ℕ} {n : Gap} → NextFree d cell bin n → left d cell bin ≡ leftAt d (n .at) (n .end) (n .bin)
+left-next {d} {cell} {bin} {n} f = ap (spotsOf d) (f .same) ∙ spots-gap d (freeFrom d (n .end) (n .bin)) (f .order)
+
+left-end : (d : List ℕ) → left d (length d) (length d) ≡ []
+left-end d = ap (spotsOf d) (free-end d) ∙ spots-nil d
 
 -- a position lies in a free cell
 pub at-free : {d : List ℕ} {c : Cursor} → At d c → Free d (c .at) (c .cell)
@@ -53,8 +61,8 @@ module _ {d : List ℕ} {xs : List Remain} {from at cell bin : ℕ} (l : Looked 
       }
 
   -- past it
-  pub looked-on : {r : Hit} → Hits d at cell from r → isSome (r .kind) ≡ false → {n : Cursor} → Forwarded d cell bin n
-      → Looked d xs from (n .at) (n .cell) (n .bin)
+  pub looked-on : {r : Hit} → Hits d at cell from r → isSome (r .kind) ≡ false → {n : Gap} → NextFree d cell bin n
+      → Looked d xs from (n .at) (n .end) (n .bin)
   looked-on {r} h s {n} f =
       let e = h .lost s in
       record {
@@ -62,11 +70,11 @@ module _ {d : List ℕ} {xs : List Remain} {from at cell bin : ℕ} (l : Looked 
         same =
             in-cell h ∙ ap (λ (x : ℕ). notBelow from (leftAt d x cell bin)) e
             ∙ ap (λ (x : List Remain). notBelow from (x ++ left d cell bin)) (spots-end d cell)
-            ∙ ap (notBelow from) (f .same);
+            ∙ ap (notBelow from) (left-next f);
       }
 
-  pub closer : at < length d → {n : Cursor} → Forwarded d cell bin n
-      → length d - n .at + (length d - n .cell) < length d - at + (length d - cell)
+  pub closer : at < length d → {n : Gap} → NextFree d cell bin n
+      → length d - n .at + (length d - n .end) < length d - at + (length d - cell)
   closer lt {n} f =
       let o = l .here .order in
       let a = l .here .stands in
@@ -104,8 +112,8 @@ pub at-start : {d : List ℕ} → Stands d 0 0 → At d (cursor 0 0 0)
 at-start s = record { order = omega arith; eights = refl; stands = s }
 
 pub all-left : (d : List ℕ) → leftAt d 0 0 0 ≡ remnantsOf d
-unfolding remnantsOf freeIn
-all-left d = rw (spots-end d 0, done d 0 0 (omega arith))
+unfolding remnantsOf
+all-left d = rw (spots-end d 0, free-start d)
 
 -- a record that was found is the first of those left
 module _ {d : List ℕ} {from : ℕ} {r : Cursor} (s : Sought d from r) where

@@ -1,18 +1,23 @@
 -- The records of one free cell: what a turn of `find` keeps.
 use Prim.Native.Nat.{ℕ, zero, suc, _+_, _-_, _*_, _/_, _%_, _≤_, _<_}
 use native.Mathlib.Omega.{arith}
-use mathlib.Core.Path.{_≡_, refl, ap, _∙_}
+use mathlib.Core.Path.{_≡_, refl, ap, _∙_, subst}
 use mathlib.Core.Bool.{Bool, true, false, cond}
 use mathlib.Core.Logic.{⊎-elim}
 use mathlib.Core.List.{List, [], _∷_, _++_}
-use lib.Dec.{leb}
-use borrow.Author.Tests.{le-leb, lt-leb}
+use lib.Dec.{leb, ltb}
+use borrow.Author.Tests.{le-leb, lt-leb, ltb-true, ltb-false}
+use lib.ListN.{getD}
+use Rattle.cells.specs.Named.{dataTo}
+use Rattle.cells.specs.Free.{Span}
+use Rattle.cells.specs.Steps.{gapOf, Without}
+use Rattle.cells.proofs.Gaps.{gap-some, gap-none}
 use Rattle.remnants.specs.declared.Kind.{Kind}
 use Rattle.remnants.specs.declared.Kind.the-variants as kind
 use Rattle.remnants.specs.declared.Remain.{Remain}
-use Rattle.remnants.specs.Remnants.{kindAt, remainAt, spot, spotsN, spotsIn, notBelow}
+use Rattle.remnants.specs.Remnants.{kindAt, remainAt, spot, spotsN, spotsIn, spotsOf, notBelow}
 use Rattle.remnants.specs.Steps.{isSome, Free, Skipped, Going, Hits}
-use Rattle.remnants.proofs.Held.{remain-offset, spot-none}
+use Rattle.remnants.proofs.Held.{remain-offset, spot-none, unsigned}
 
 module _ (from : ℕ) where
   pub below-append : (xs ys : List Remain) → notBelow from (xs ++ ys) ≡ notBelow from xs ++ notBelow from ys
@@ -53,6 +58,21 @@ module _ (d : List ℕ) where
   pub spots-end : (end : ℕ) → spotsIn d end end ≡ []
   unfolding spotsIn spotsN
   spots-end end = let e : (end - end) / 8 ≡ 0 = omega arith in ap (λ (n : ℕ). spotsN n d end end) e
+
+  -- of the next free cell, where there is one, and of those behind it
+  pub spots-nil : spotsOf d [] ≡ []
+  unfolding spotsOf
+  spots-nil = refl
+
+  pub spots-gap : (ss : List Span) {at end : ℕ} → at ≤ end → spotsOf d (gapOf at end ++ ss) ≡ spotsIn d at end ++ spotsOf d ss
+  unfolding spotsOf
+  spots-gap ss {at} {end} p = by (ltb at end) refl
+    where
+      by : (t : Bool) → ltb at end ≡ t → spotsOf d (gapOf at end ++ ss) ≡ spotsIn d at end ++ spotsOf d ss
+      by true e = rw (gap-some (ltb-true at end e))
+      by false e =
+          let q : end ≡ at = omega (arith, ltb-false at end e) in
+          rw (q, gap-none at, spots-end at)
 
   pub spots-some : {at end : ℕ} → at % 8 ≡ 0 → end % 8 ≡ 0 → at < end → isSome (kindAt d at end) ≡ true
       → spotsIn d at end ≡ remainAt d at end ∷ spotsIn d (at + 8) end
@@ -127,3 +147,16 @@ module _ (d : List ℕ) where
             found = λ t. absurd (let z : _≡_ {A = ℕ} 0 1 = cc in omega arith);
             lost = λ t. refl;
           }
+
+    -- positions without the second byte of the signatures hold nothing
+    over : (k : ℕ) {at p r : ℕ} → Going d at end from p → p + 8 * k ≡ r → r ≤ end
+        → ((o : ℕ) → p ≤ o → o < r → o % 8 ≡ 0 → getD (dataTo d o end) 1 0 ≡ 107 → ⊥) → Going d at end from r
+    over zero {at} {p} {r} g e h n = subst (Going d at end from) (let q : p ≡ r = omega arith in q) g
+    over (suc k) {at} {p} {r} g e h n =
+        over k (going-on g (omega arith) (unsigned d p end (n p (omega arith) (omega arith) (g .free .eights)))) (omega arith) h
+        (λ o a b c. n o (omega arith) b c)
+
+    pub going-over : {at p r : ℕ} → Going d at end from p → Without d p end 1 107 r → Going d at end from r
+    going-over {at} {p} {r} g w =
+        let e : p + 8 * ((r - p) / 8) ≡ r = omega (arith, w .low, w .eights, g .free .eights) in
+        over ((r - p) / 8) g e (w .high) (w .none)

@@ -11,10 +11,10 @@ use Rattle.cells.specs.declared.Surveyed.the-variants as survey
 use Rattle.cells.specs.declared.Tally.{Tally}
 use Rattle.cells.specs.Tiling.{layout, surveyOf}
 use Rattle.cells.specs.Tiled.{BinsTile, cells-end}
+use Rattle.cells.specs.Steps.{Stands}
 use Rattle.cells.proofs.Fronts.{base-pages}
 use Rattle.cells.proofs.Tiles.{tiled-exactly}
 use Rattle.remnants.specs.Remnants.{flawIn, tilesFault}
-use Rattle.remnants.specs.Steps.{Stands}
 
 module _ (h : List ℕ) where
   -- what the pass over the bins answers

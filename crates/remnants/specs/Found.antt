@@ -1,11 +1,10 @@
 -- What is reported, said without a walk or a test; and how a caller goes through it. d is the bins data and h the hive.
-use Prim.Native.Nat.{ℕ, _+_, _-_, _*_, _%_, _≤_, _<_}
+use Prim.Native.Nat.{ℕ, _+_, _*_, _%_, _≤_, _<_}
 use mathlib.Core.Path.{_≡_}
-use mathlib.Core.Bool.{false}
 use mathlib.Core.List.{List, [], _∷_, _++_}
 use lib.ListN.{length, drop}
 use Rattle.fields.specs.Number.{sizeAt}
-use Rattle.cells.specs.Tiled.{Good, Header}
+use Rattle.cells.specs.Free.{FreeBin}
 use Rattle.records.specs.Facts.{KeyRecord}
 use Rattle.values.specs.Facts.{OldValueRecord}
 use Rattle.remnants.specs.declared.Kind.the-variants as kind
@@ -13,16 +12,6 @@ use Rattle.remnants.specs.declared.Remain.{Remain}
 use Rattle.remnants.specs.declared.Remnant.the-variants as remnant
 use Rattle.remnants.specs.declared.Filled.the-variants as filled
 use Rattle.remnants.specs.Remnants.{restOf, remainOf, remnantAnswer, rowsAnswer, rowsOf, rowsOut}
-
--- a free cell starts at an offset o: among the cells from an offset of a bin to the bin's end, "negative when in use"
-pub data FreeCell (d : List ℕ) (end o : ℕ) : ℕ → Type 0 where
-  this-free : o < end → Good (sizeAt d o .bytes) (end - o) → sizeAt d o .used ≡ false → FreeCell d end o o
-  later-free : {at : ℕ} → at < end → Good (sizeAt d at .bytes) (end - at) → FreeCell d end o (at + sizeAt d at .bytes) → FreeCell d end o at
-
--- and among those of the bins from an offset on
-pub data FreeBin (d : List ℕ) (o : ℕ) : ℕ → Type 0 where
-  in-bin : {at : ℕ} (n : ℕ) → Header d at n → FreeCell d (at + n) o (at + 32) → FreeBin d o at
-  past-bin : {at : ℕ} (n : ℕ) → Header d at n → FreeBin d o (at + n) → FreeBin d o at
 
 -- "every offset that is a multiple of 8 inside a free cell (its start counts)": o in the free cell at an offset
 pub record Inside (d : List ℕ) (start o : ℕ) : Type 0 where

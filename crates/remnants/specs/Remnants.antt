@@ -13,7 +13,8 @@ use Rattle.fields.specs.Faults.{flaw, nowhere, noKey, refusalOf, _next_}
 use Rattle.base.specs.Block.{baseFault, binsData}
 use Rattle.cells.specs.declared.Surveyed.{Surveyed}
 use Rattle.cells.specs.declared.Surveyed.the-variants as survey
-use Rattle.cells.specs.Tiling.{Tiling, whole, bad, cell, Layout, last, badBin, bin, layout, surveyOf}
+use Rattle.cells.specs.Tiling.{layout, surveyOf}
+use Rattle.cells.specs.Free.{Span, freeCells}
 use Rattle.cells.specs.Named.{dataTo, partPlace}
 use Rattle.records.specs.Keys.{isKey, keyNarrow}
 use Rattle.values.specs.Records.{isOldValue, valueNarrow}
@@ -24,22 +25,6 @@ use Rattle.remnants.specs.declared.Remnant.{Remnant}
 use Rattle.remnants.specs.declared.Remnant.the-variants as remnant
 use Rattle.remnants.specs.declared.Filled.{Filled}
 use Rattle.remnants.specs.declared.Filled.the-variants as filled
-
--- "a free cell (its start counts)": where it starts, and where it ends
-pub record Span : Type 0 where
-  pub from : ℕ
-  pub to : ℕ
-
--- the free cells of a bin, and those of all bins, in order
-unfoldable pub freeIn : Tiling → List Span
-freeIn whole = []
-freeIn (bad at) = []
-freeIn (cell at z t) = cond (z .used) (freeIn t) (record { from = at; to = at + z .bytes } ∷ freeIn t)
-
-unfoldable pub freeCells : Layout → List Span
-freeCells last = []
-freeCells (badBin at) = []
-freeCells (bin at t b) = freeIn t ++ freeCells b
 
 -- "has "nk" or "vk" 4 bytes further on": the bytes from there to the end of the free cell
 abbrev pub restOf : List ℕ → ℕ → ℕ → List ℕ

@@ -7,15 +7,14 @@ use mathlib.Core.List.{List, [], _∷_, _++_}
 use lib.Dec.{leb}
 use lib.ListN.{length}
 use lib.Seq.{sets}
-use Rattle.cells.specs.Tiling.{tiling, layout}
-use Rattle.cells.specs.Tiled.{CellsTile, BinsTile}
+use Rattle.cells.specs.Steps.{Stands, freeFrom}
 use Rattle.base.specs.Block.{binsLimit}
 use Rattle.remnants.specs.declared.Kind.{Kind}
 use Rattle.remnants.specs.declared.Kind.the-variants as kind
 use Rattle.remnants.specs.declared.Hit.{Hit}
 use Rattle.remnants.specs.declared.Cursor.{Cursor}
 use Rattle.remnants.specs.declared.Remain.{Remain}
-use Rattle.remnants.specs.Remnants.{freeIn, freeCells, kindAt, spotsIn, spotsOf, notBelow, wordsOf}
+use Rattle.remnants.specs.Remnants.{kindAt, spotsIn, spotsOf, notBelow, wordsOf}
 
 -- whether it is one
 abbrev pub isSome : Kind → Bool
@@ -69,29 +68,10 @@ pub record Hits (d : List ℕ) (at end from : ℕ) (r : Hit) : Type 0 where
 
 -- what is left past a cell of a bin, and past a position in a free cell
 abbrev pub left : List ℕ → ℕ → ℕ → List Remain
-left d cell bin = spotsOf d (freeIn (tiling d cell bin) ++ freeCells (layout d bin))
+left d cell bin = spotsOf d (freeFrom d cell bin)
 
 abbrev pub leftAt : List ℕ → ℕ → ℕ → ℕ → List Remain
 leftAt d at cell bin = spotsIn d at cell ++ left d cell bin
-
--- a cell's end and its bin's end, in bins data that are tiled
-pub record Stands (d : List ℕ) (cell bin : ℕ) : Type 0 where
-  pub cells : CellsTile d bin cell
-  pub bins : BinsTile d bin
-  pub eights : cell % 8 ≡ 0
-  pub pages : bin % 4096 ≡ 0
-  pub order : cell ≤ bin
-  pub inside : bin ≤ length d
-  pub small : length d ≤ binsLimit
-
--- the next free cell, or the end
-pub record Forwarded (d : List ℕ) (cell bin : ℕ) (r : Cursor) : Type 0 where
-  pub low : cell ≤ r .at
-  pub order : r .at ≤ r .cell
-  pub eights : r .at % 8 ≡ 0
-  pub stands : Stands d (r .cell) (r .bin)
-  pub same : left d cell bin ≡ leftAt d (r .at) (r .cell) (r .bin)
-  pub more : (cell < r .cell) ⊎ (r .at ≡ length d)
 
 -- a position of a survey
 abbrev pub cursor : ℕ → ℕ → ℕ → Cursor

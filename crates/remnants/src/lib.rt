@@ -12,8 +12,9 @@ ghost use Prim.Native.Nat.{_+_, _%_, _≤_};
 ghost use lib.ListN.{length};
 ghost use lib.Seq.{sets};
 ghost use Rattle.base.specs.Block.{binsLimit};
+ghost use Rattle.cells.specs.Steps.{Stands};
 ghost use Rattle.remnants.specs.Remnants.{kindOf, kindAt, remainOf, remainAt, remnantsOf, notBelow, firstOf, tilesFault, remnantAnswer, kindWord, wordsOf, filledWith, rowsAnswer, poured, rowsOut};
-ghost use Rattle.remnants.specs.Steps.{isSome, Spotted, Free, Skipped, Hits, Stands, Forwarded, At, cursor, Sought, Sees, soughtLeft, countFrom, pourFrom};
+ghost use Rattle.remnants.specs.Steps.{isSome, Spotted, Free, Skipped, Hits, At, cursor, Sought, Sees, soughtLeft, countFrom, pourFrom};
 
 // What a position of a free cell holds.
 pub enum Kind {
@@ -154,18 +155,21 @@ fn skip(at: usize, end: usize, from: usize) -> usize
     at + (from - at + 7) / 8 * 8
 }
 
+// The second byte of both signatures, "nk" and "vk": a position without it holds no record.
+const SECOND: u8 = 107;
+
 // The first record at or past `from` of a free cell, from an offset of it on.
 fn find(bins: &[u8], at: usize, end: usize, from: usize) -> Hit
     requires { ⌜ Free (now bins) at end ⌝ }
     ensures { λ r. ⌜ Hits (now (bins .entry)) at end from r ⌝ }
 {
-    let mut o = skip(at, end, from);
+    let mut o = cells::next_with(bins, skip(at, end, from), end, 1, SECOND);
     while o < end {
         let kind = kind_at(bins, o, end);
         if is_some(kind) {
             return Hit { at: o, kind };
         }
-        o += 8;
+        o = cells::next_with(bins, o + 8, end, 1, SECOND);
     }
     Hit {
         at: end,
@@ -179,40 +183,6 @@ struct Cursor {
     cell: usize,
     bin: usize,
     kind: Kind,
-}
-
-// The next free cell, past the end of a cell; or the end of the bins data. The bins and cells were tested, so each size is good.
-fn forward(bins: &[u8], from: usize, end: usize) -> Cursor
-    requires { ⌜ Stands (now bins) from end ⌝ }
-    ensures { λ r. ⌜ Forwarded (now (bins .entry)) from end r ⌝ }
-{
-    let mut cell = from;
-    let mut bin = end;
-    while cell < bins.len() {
-        if cell == bin {
-            let n = fields::u32_at(bins, bin + 8) as usize;
-            cell = bin + 32;
-            bin += n;
-        } else {
-            let c = fields::size_at(bins, cell);
-            let next = cell + c.bytes as usize;
-            if !c.used {
-                return Cursor {
-                    at: cell,
-                    cell: next,
-                    bin,
-                    kind: Kind::Neither,
-                };
-            }
-            cell = next;
-        }
-    }
-    Cursor {
-        at: cell,
-        cell,
-        bin,
-        kind: Kind::Neither,
-    }
 }
 
 // The first record at or past `from`, from a position on; or the end.
@@ -234,9 +204,9 @@ fn seek(bins: &[u8], c: Cursor, from: usize) -> Cursor
                 kind,
             };
         }
-        let next = forward(bins, cell, bin);
+        let next = cells::next_free(bins, cell, bin);
         at = next.at;
-        cell = next.cell;
+        cell = next.end;
         bin = next.bin;
     }
     Cursor {

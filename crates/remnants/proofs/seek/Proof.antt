@@ -25,14 +25,14 @@ is-some-requires c κs = search needs
 returns : tie.Need-returns Inv-loop μ-loop
 returns c = seen (c .before .before .before .before .loop .inv) refl (c .before .before .find .ensures) (sym (c .before .is-some .ensures) ∙ c .if1 .taken)
 
-forward-requires : tie.Need-forward-requires Inv-loop μ-loop
-forward-requires c κs = c .before .before .before .before .loop .inv .here .stands
+next-free-requires : tie.Need-next-free-requires Inv-loop μ-loop
+next-free-requires c κs = c .before .before .before .before .loop .inv .here .stands
 
 loop-less : tie.Need-loop-less Inv-loop μ-loop
-loop-less c = closer (c .before .before .before .before .before .loop .inv) (c .before .before .before .before .loop-test .taken) (c .forward .ensures)
+loop-less c = closer (c .before .before .before .before .before .loop .inv) (c .before .before .before .before .loop-test .taken) (c .next-free .ensures)
 
 loop-again : tie.Need-loop-again Inv-loop μ-loop
-loop-again c = looked-on (c .before .before .before .before .before .loop .inv) (c .before .before .before .find .ensures) (sym (c .before .before .is-some .ensures) ∙ c .before .if1 .left) (c .forward .ensures)
+loop-again c = looked-on (c .before .before .before .before .before .loop .inv) (c .before .before .before .find .ensures) (sym (c .before .before .is-some .ensures) ∙ c .before .if1 .left) (c .next-free .ensures)
 
 returns-2 : tie.Need-returns-2 Inv-loop μ-loop
 returns-2 c = unseen (c .before .loop .inv) refl (c .loop-test .left)
@@ -47,7 +47,7 @@ seek-spec =
     find-requires
     is-some-requires
     returns
-    forward-requires
+    next-free-requires
     loop-less
     loop-again
     returns-2)

@@ -5,13 +5,13 @@ use lib.ListN.{length}
 use borrow.Author.Tests.{not-true, not-false}
 use borrow.Author.Needs.{needs}
 use Rattle.fields.specs.declared.Size.{Size}
-use Rattle.remnants.specs.Steps.{left, Stands}
-use Rattle.remnants.proofs.Cells.{bin-size, turn-bin, same-bin, cell-size, turn-cell, same-used, at-free, at-end, farther}
-use Rattle.remnants.proofs.forward.Statement.{statement}
-use Rattle.remnants.proofs.forward.Tie as tie
+use Rattle.cells.specs.Steps.{Stands, freeFrom}
+use Rattle.cells.proofs.Gaps.{bin-size, turn-bin, same-bin, cell-size, turn-cell, same-used, at-free, at-end, farther}
+use Rattle.cells.proofs.next_free.Statement.{statement}
+use Rattle.cells.proofs.next_free.Tie as tie
 
 abbrev Inv-loop : tie.InvT-loop
-Inv-loop bins from end cell₀ bin₀ cell bin = Stands bins cell bin × (from ≤ cell) × (left bins from end ≡ left bins cell bin)
+Inv-loop bins from end cell₀ bin₀ cell bin = Stands bins cell bin × (from ≤ cell) × (freeFrom bins from end ≡ freeFrom bins cell bin)
 
 abbrev μ-loop : tie.MeasureT-loop
 μ-loop bins from end cell₀ bin₀ cell bin = length bins - cell
@@ -80,8 +80,8 @@ returns-2 c =
     let l = c .before .loop in
     farther _ (l .inv .1) (l .inv .2) (at-end _ (l .inv .0) (c .loop-test .left))
 
-pub forward-spec : {M : Type 1} → statement M
-forward-spec =
+pub next-free-spec : {M : Type 1} → statement M
+next-free-spec =
     tie.close
     (tie.spec
     Inv-loop
