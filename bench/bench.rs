@@ -42,13 +42,6 @@ struct HivePage {
     to: u64,
 }
 #[repr(C)]
-struct HiveMark {
-    answer: HiveAnswer,
-    state: u64,
-    page: u64,
-    to: u64,
-}
-#[repr(C)]
 struct HiveRows {
     answer: HiveAnswer,
     state: u64,
@@ -73,7 +66,6 @@ unsafe extern "C" {
     fn hive_recover_next(l: *const u8, k: usize, from: usize) -> HivePage;
     fn hive_recover_start(h: *const u8, n: usize, l: *const u8, k: usize) -> HiveRecovery;
     fn hive_recover_all(h: *mut u8, n: usize, l: *const u8, k: usize) -> HiveRecovery;
-    fn hive_recover_mark(l: *const u8, k: usize, from: usize) -> HiveMark;
     fn hive_recover_mark_pages(l: *const u8, k: usize, m: *mut u8, j: usize) -> HiveRecovery;
     fn hive_recover_log(l: *const u8, k: usize) -> HiveLog;
 }
@@ -164,19 +156,7 @@ fn rattle(i: &mut Input) -> Outcome {
                 }
                 Outcome::Repair(answer(hive_recover_close(h, n, l, k).answer, done))
             }
-            Kind::All => {
-                let (mut done, mut places) = (0, 0);
-                hive_recover_start(h, n, l, k);
-                hive_recover_all(h, n, l, k);
-                let mut p = hive_recover_mark(l, k, 0);
-                while p.state == 2 {
-                    done += 1;
-                    places ^= p.to as usize;
-                    p = hive_recover_mark(l, k, p.page as usize + 1);
-                }
-                Outcome::All(answer(hive_recover_close(h, n, l, k).answer, (done, places)))
-            }
-            Kind::New => {
+            Kind::All | Kind::New => {
                 hive_recover_start(h, n, l, k);
                 hive_recover_all(h, n, l, k);
                 hive_recover_mark_pages(l, k, i.out.as_mut_ptr(), i.out.len());
@@ -215,16 +195,11 @@ fn rust<S: Style>(i: &mut Input) -> Outcome {
             Outcome::Repair(check::close::<S>(&mut i.hive, &i.log).map(|_| done))
         }
         Kind::All => {
-            let (mut done, mut places) = (0, 0);
             black_box(check::start::<S>(&i.hive, &i.log).is_ok());
             check::all::<S>(&mut i.hive, &i.log).unwrap();
-            let mut at = check::mark::<S>(&i.log, 0).unwrap();
-            while let Some((p, to)) = at {
-                done += 1;
-                places ^= to;
-                at = check::mark::<S>(&i.log, p + 1).unwrap();
-            }
-            Outcome::All(check::close::<S>(&mut i.hive, &i.log).map(|_| (done, places)))
+            check::mark::<S>(&i.log, &mut i.out).unwrap();
+            let told = marked(&i.out);
+            Outcome::All(check::close::<S>(&mut i.hive, &i.log).map(|_| told))
         }
         Kind::New => {
             black_box(new_log::start::<S>(&i.hive, &i.log).is_ok());
@@ -285,7 +260,7 @@ fn input(row: &str, folder: &str) -> Input {
         Some(("absent", _)) => "component999999".into(),
         _ => String::new(),
     };
-    let out = vec![0; if kind == Kind::Check { hive.len() / 64 } else if kind == Kind::New { hive.len() / 4096 } else { 1_048_576 }];
+    let out = vec![0; if kind == Kind::Check { hive.len() / 64 } else if kind == Kind::New || kind == Kind::All { hive.len() / 4096 } else { 1_048_576 }];
     let rows = vec![0; if kind == Kind::Deleted { hive.len() / 24 * 4 } else { 0 }];
     Input { kind, hive, log, path: path.encode_utf16().collect(), out, rows }
 }

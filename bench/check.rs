@@ -809,9 +809,16 @@ pub fn all<S: Style>(h: &mut [u8], l: &[u8]) -> Res<bool> {
     Ok(true)
 }
 
-// The next marked page and where it goes; no bit is counted.
-pub fn mark<S: Style>(l: &[u8], from: usize) -> Res<Option<(usize, usize)>> {
+// Every logged page marked in a map; how many there are.
+pub fn mark<S: Style>(l: &[u8], map: &mut [u8]) -> Res<usize> {
     let n = head::<S>(l)?;
-    let map = &l[516..516 + n / 4096];
-    Ok((from..n / 512).find(|p| map[p / 8] >> (p % 8) & 1 == 1).map(|p| (p, 4096 + 512 * p)))
+    let pages = S::ones(&l[516..516 + n / 4096], n / 512);
+    if pages > 0 && l.len() < first_page(n) + 512 * pages {
+        return Err(Flaw(22, 0));
+    }
+    if map.len() < n / 4096 {
+        return Err(Flaw(8, 0));
+    }
+    S::copy(&l[516..516 + n / 4096], &mut map[..n / 4096]);
+    Ok(pages)
 }

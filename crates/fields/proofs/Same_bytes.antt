@@ -14,6 +14,7 @@ use lib.Dec.{eqb}
 use borrow.Author.Tests.{eq-eqb, ne-eqb}
 use Rattle.fields.specs.Bytes.{sameBytes}
 use Rattle.fields.specs.Number.{u16At, u32At, u64At}
+use Rattle.fields.specs.Steps.{Told}
 use Rattle.fields.proofs.Bools.{and-inv}
 use Rattle.fields.proofs.Numbers.{u16-below, u32-below}
 
@@ -89,3 +90,20 @@ module _ (a b : List ℕ) where
     pub eight : (i : ℕ) → i + 8 ≤ length a → i + 8 ≤ length b → Tells 8 u64At i
     unfolding u64At
     eight i ha hb = twice 4 32 u32At i (u32-below a bytes i) (u32-below b others i) (four i (omega arith) (omega arith)) (four (i + 4) (omega arith) (omega arith))
+
+pub moved : (a b : List ℕ) {j k : ℕ} → j ≡ k → sameBytes (drop j a) (drop j b) ≡ sameBytes (drop k a) (drop k b)
+moved a b e = ap (λ (i : ℕ). sameBytes (drop i a) (drop i b)) e
+
+-- what a test of some bytes tells
+module _ {a b : List ℕ} where
+  pub told-apart : {i n : ℕ} → sameBytes (drop i a) (drop i b) ≡ false → Told a b i n false
+  told-apart e = record { alike = λ t. absurd (let z : _≡_ {A = ℕ} 0 1 = cc in omega arith); apart = λ t. e }
+
+  pub told-alike : {i n : ℕ} → sameBytes (drop i a) (drop i b) ≡ sameBytes (drop (i + n) a) (drop (i + n) b) → Told a b i n true
+  told-alike e = record { alike = λ t. e; apart = λ t. absurd (let z : _≡_ {A = ℕ} 0 1 = cc in omega arith) }
+
+  -- one test after the other
+  pub told-both : {i n m : ℕ} {r t : Bool} → Told a b i n r → r ≡ true → Told a b (i + n) m t → Told a b i (n + m) t
+  told-both {i} {n} {m} p e q =
+      let s : i + n + m ≡ i + (n + m) = omega arith in
+      record { alike = λ u. p .alike e ∙ q .alike u ∙ moved a b s; apart = λ u. p .alike e ∙ q .apart u }

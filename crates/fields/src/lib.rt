@@ -6,6 +6,7 @@ ghost use mir.Syntax.{w32};
 ghost use mir.Val.{toZ};
 ghost use Rattle.fields.specs.Number.{u16At, u32At, u64At, sizeOf, sizeAt};
 ghost use Rattle.fields.specs.Bytes.{sameBytes, standsAt};
+ghost use Rattle.fields.specs.Steps.{Told};
 ghost use Rattle.fields.specs.Position.{placeOf, offsetOf};
 ghost use Rattle.fields.specs.Faults.{numberOf, flaw, refusalOf};
 
@@ -109,7 +110,38 @@ pub fn size_at(s: &[u8], i: usize) -> Size
     size_of(i32_at(s, i))
 }
 
-// Whether a and b hold the same bytes: eight at once where they are there.
+// Whether 32 bytes from an index on are the same: four words of eight.
+fn same_four(a: &[u8], b: &[u8], i: usize) -> bool
+    requires { ⌜ (i + 32 ≤ length (now a)) × (i + 32 ≤ length (now b)) ⌝ }
+    ensures { λ r. ⌜ Told (now (a .entry)) (now (b .entry)) i 32 r ⌝ }
+{
+    if u64_at(a, i) != u64_at(b, i) {
+        return false;
+    }
+    if u64_at(a, i + 8) != u64_at(b, i + 8) {
+        return false;
+    }
+    if u64_at(a, i + 16) != u64_at(b, i + 16) {
+        return false;
+    }
+    if u64_at(a, i + 24) != u64_at(b, i + 24) {
+        return false;
+    }
+    true
+}
+
+// The same of 64 bytes.
+fn same_eight(a: &[u8], b: &[u8], i: usize) -> bool
+    requires { ⌜ (i + 64 ≤ length (now a)) × (i + 64 ≤ length (now b)) ⌝ }
+    ensures { λ r. ⌜ Told (now (a .entry)) (now (b .entry)) i 64 r ⌝ }
+{
+    if !same_four(a, b, i) {
+        return false;
+    }
+    same_four(a, b, i + 32)
+}
+
+// Whether a and b hold the same bytes: 64 at once where they are there, then eight.
 pub fn same(a: &[u8], b: &[u8]) -> bool
     ensures { λ r. ⌜ r ≡ sameBytes (now (a .entry)) (now (b .entry)) ⌝ }
 {
@@ -118,7 +150,12 @@ pub fn same(a: &[u8], b: &[u8]) -> bool
     }
     let mut i = 0;
     while i < a.len() {
-        if 8 <= a.len() - i {
+        if 64 <= a.len() - i {
+            if !same_eight(a, b, i) {
+                return false;
+            }
+            i += 64;
+        } else if 8 <= a.len() - i {
             if u64_at(a, i) != u64_at(b, i) {
                 return false;
             }
