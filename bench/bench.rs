@@ -1,6 +1,7 @@
 // bench ROW SIDE FOLDER: runs one row of docs/BENCHMARKS.md once. bench times FOLDER [ROW..]: best of 20 of each row. bench make FOLDER: writes the hives.
 mod check;
 mod make;
+mod namesakes;
 mod new_log;
 mod quick;
 mod security;
@@ -230,8 +231,8 @@ fn measured(side: &str, i: &mut Input) -> Outcome {
     }
 }
 
-const ROWS: [&str; 32] = [
-    "check-1", "check-4", "check-16", "check-64", "check-1024", "check-wide", "check-items", "last-100", "absent-100", "last-5000", "absent-5000", "last-60000", "absent-60000",
+const ROWS: [&str; 34] = [
+    "check-1", "check-4", "check-16", "check-64", "check-1024", "check-wide", "check-items", "check-values", "check-hints", "last-100", "absent-100", "last-5000", "absent-5000", "last-60000", "absent-60000",
     "quick-last-100", "quick-absent-100", "quick-last-5000", "quick-absent-5000", "quick-last-60000", "quick-absent-60000",
     "copy", "deleted-1", "deleted-64", "clean-64", "repair-1000", "repair-1000-of-131072", "repair-100000", "all-1000", "all-1000-of-131072", "all-100000",
     "new-1000", "new-60000", "hash-30M",
@@ -241,6 +242,8 @@ fn input(row: &str, folder: &str) -> Input {
     let (kind, file) = match row.split_once('-') {
         Some(("check", "wide")) => (Kind::Check, "wide-60000".into()),
         Some(("check", "items")) => (Kind::Check, "items-20000".into()),
+        Some(("check", "values")) => (Kind::Check, "values-30000".into()),
+        Some(("check", "hints")) => (Kind::Check, "hints-60000".into()),
         Some(("check", n)) => (Kind::Check, format!("mixed-{n}")),
         Some(("last" | "absent", n)) => (Kind::Find, format!("wide-{n}")),
         Some(("quick", rest)) => (Kind::Quick, format!("wide-{}", rest.split_once('-').unwrap().1)),
@@ -296,9 +299,11 @@ fn make_all(folder: &str) {
         write(format!("{folder}/mixed-{n}"), make::mixed(n << 20)).unwrap();
     }
     for n in [100, 5000, 60000] {
-        write(format!("{folder}/wide-{n}"), make::wide(n, 1)).unwrap();
+        write(format!("{folder}/wide-{n}"), make::wide(n, 1, false)).unwrap();
     }
-    write(format!("{folder}/items-20000"), make::wide(19_999, 20_000)).unwrap();
+    write(format!("{folder}/items-20000"), make::wide(19_999, 20_000, false)).unwrap();
+    write(format!("{folder}/values-30000"), make::values(30_000)).unwrap();
+    write(format!("{folder}/hints-60000"), make::wide(60_000, 1, true)).unwrap();
     write(format!("{folder}/large"), make::large_value()).unwrap();
     for n in [1, 64] {
         write(format!("{folder}/left-{n}"), make::left(n << 20, true)).unwrap();

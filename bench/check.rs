@@ -1,5 +1,6 @@
 // The baseline: the same algorithms in Rust. What differs by style stands in the trait: `Plain` is a translation that indexes byte by byte,
 // `Idiom` uses from_le_bytes, chunks_exact, iterators and slice copies.
+use crate::namesakes::{fits_hint, namesakes};
 use crate::new_log::Marvin;
 use crate::security::security;
 use std::cmp::Ordering;
@@ -279,7 +280,7 @@ fn order(a: impl ExactSizeIterator<Item = u16>, b: impl ExactSizeIterator<Item =
     apart.map_or(lengths, |(x, y)| upper(x).cmp(&upper(y)))
 }
 
-fn count(name: &[u8], wide: bool) -> usize {
+pub fn count(name: &[u8], wide: bool) -> usize {
     if wide { name.len() / 2 } else { name.len() }
 }
 
@@ -501,6 +502,24 @@ fn value_list<'a, S: Style>(bins: &'a [u8], map: Option<&[u8]>, k: &Key) -> Res<
     if list.len() < 4 * n { Err(Flaw(12, o)) } else { Ok((list, n)) }
 }
 
+// What stands beside an element's offset.
+#[derive(Clone, Copy)]
+enum Beside {
+    Nothing,
+    Hash(u32),
+    Hint(u32),
+}
+
+impl Beside {
+    fn fits<S: Style>(self, k: &Key) -> bool {
+        match self {
+            Beside::Nothing => true,
+            Beside::Hash(h) => S::hash(k.name, k.wide) == h,
+            Beside::Hint(h) => fits_hint::<S>(k.name, k.wide, h),
+        }
+    }
+}
+
 struct Walk<'a> {
     bins: &'a [u8],
     map: &'a [u8],
@@ -512,7 +531,7 @@ struct Walk<'a> {
 
 impl Walk<'_> {
     #[allow(clippy::too_many_arguments)]
-    fn key<S: Style>(&mut self, at: u32, hash: Option<u32>, parent: Option<u32>, elder: Option<u32>, levels: u32) -> Res<()> {
+    fn key<S: Style>(&mut self, at: u32, beside: Beside, parent: Option<u32>, elder: Option<u32>, levels: u32) -> Res<()> {
         let (bins, map) = (self.bins, Some(self.map));
         let k = key::<S>(bins, map, at)?;
         if let Some(p) = parent {
@@ -526,7 +545,7 @@ impl Walk<'_> {
                 return Err(Flaw(13, at));
             }
         }
-        if hash.is_some_and(|h| S::hash(k.name, k.wide) != h) {
+        if !beside.fits::<S>(&k) {
             return Err(Flaw(13, at));
         }
         if levels == 0 {
@@ -537,6 +556,7 @@ impl Walk<'_> {
             let (r, _, _) = value::<S>(bins, map, S::u32_at(list, 4 * i))?;
             data::<S>(bins, map, self.minor, r)?;
         }
+        namesakes::<S>(bins, list, n)?;
         self.keys += 1;
         self.values += n as u64;
         let below = S::u32_at(k.r, 20);
@@ -554,9 +574,13 @@ impl Walk<'_> {
         }
         let mut elder = None;
         each_leaf::<S>(bins, map, list, |r, step| {
-            let hashed = &r[0..2] == b"lh";
+            let beside = match r[1] {
+                b'h' => Beside::Hash,
+                b'f' => Beside::Hint,
+                _ => |_| Beside::Nothing,
+            };
             S::each(r, step, |o, h| {
-                self.key::<S>(o, hashed.then_some(h), Some(at), elder, levels - 1)?;
+                self.key::<S>(o, beside(h), Some(at), elder, levels - 1)?;
                 elder = Some(o);
                 Ok(false)
             })?;
@@ -580,7 +604,7 @@ pub fn check<S: Style>(h: &[u8], map: &mut [u8]) -> Res<Report> {
     }
     let mut w = Walk { bins, map: &map[..n], minor: S::u32_at(h, 24), root: S::u32_at(h, 36), keys: 0, values: 0 };
     let root = w.root;
-    w.key::<S>(root, None, None, None, 513)?;
+    w.key::<S>(root, Beside::Nothing, None, None, 513)?;
     r.keys = w.keys;
     r.values = w.values;
     security::<S>(bins, &mut map[..n], root, r.keys)?;

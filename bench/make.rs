@@ -7,6 +7,7 @@ pub struct Maker {
     next: usize,
     keys: Vec<u32>,
     items: usize,
+    hints: bool,
 }
 
 fn put32(s: &mut [u8], i: usize, n: u32) {
@@ -25,7 +26,7 @@ pub fn seal(file: &mut [u8]) {
 impl Maker {
     // With a ring of so many security items, which the keys name by turns.
     pub fn new(items: usize) -> Self {
-        Maker { file: vec![0; 4096], bin: 0, next: 4096, keys: vec![], items }
+        Maker { file: vec![0; 4096], bin: 0, next: 4096, keys: vec![], items, hints: false }
     }
     fn end_bin(&mut self) {
         let left = self.file.len() - self.next;
@@ -132,7 +133,7 @@ impl Maker {
         put32(self.data(key), 36, all.len() as u32);
         put32(self.data(key), 40, list);
     }
-    // `lh` leaves of at most 500 keys, below an `ri` where there are several.
+    // `lh` or `lf` leaves of at most 500 keys, below an `ri` where there are several.
     pub fn hang_keys(&mut self, key: u32, all: &[(u32, String)]) {
         let leaves: Vec<u32> = all.chunks(500).map(|c| self.leaf(c)).collect();
         let list = if leaves.len() == 1 {
@@ -151,14 +152,19 @@ impl Maker {
         put32(self.data(key), 28, list);
     }
     fn leaf(&mut self, keys: &[(u32, String)]) -> u32 {
-        let o = self.cell(4 + 8 * keys.len());
+        let (o, hints) = (self.cell(4 + 8 * keys.len()), self.hints);
         let d = self.data(o);
-        d[0..2].copy_from_slice(b"lh");
+        d[0..2].copy_from_slice(if hints { b"lf" } else { b"lh" });
         put16(d, 2, keys.len() as u16);
         for (i, (k, name)) in keys.iter().enumerate() {
             let h = name.bytes().fold(0u32, |h, c| h.wrapping_mul(37).wrapping_add(upper(c as u16) as u32));
             put32(d, 4 + 8 * i, *k);
-            put32(d, 8 + 8 * i, h);
+            if hints {
+                let n = name.len().min(4);
+                d[8 + 8 * i..8 + 8 * i + n].copy_from_slice(&name.as_bytes()[..n]);
+            } else {
+                put32(d, 8 + 8 * i, h);
+            }
         }
         o
     }
@@ -226,8 +232,9 @@ pub fn mixed(bins: usize) -> Vec<u8> {
     m.finish()
 }
 
-pub fn wide(n: usize, items: usize) -> Vec<u8> {
+pub fn wide(n: usize, items: usize, hints: bool) -> Vec<u8> {
     let mut m = Maker::new(items);
+    m.hints = hints;
     let root = m.key("ROOT", 0);
     let all: Vec<(u32, String)> = (0..n).map(|i| format!("Component{i:06}")).map(|x| (m.key(&x, root), x)).collect();
     m.hang_keys(root, &all);
@@ -246,6 +253,15 @@ pub fn left(bins: usize, old: bool) -> Vec<u8> {
         m.free(&freed, old);
         i += 1;
     }
+    m.finish()
+}
+
+// One key with so many values.
+pub fn values(n: usize) -> Vec<u8> {
+    let mut m = Maker::new(1);
+    let root = m.key("ROOT", 0);
+    let all: Vec<u32> = (0..n).map(|i| m.value(&format!("Component{i:06}"), &[1, 0, 0, 0])).collect();
+    m.hang_values(root, &all);
     m.finish()
 }
 

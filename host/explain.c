@@ -22,7 +22,7 @@ static const Reason REASONS[] = {
     [HIVE_FAULT_CELL_SIZE] = {true, false, "the size of a cell is not possible", "A cell's size is a nonzero multiple of 8 and stays inside its bin."},
     [HIVE_FAULT_NO_CELL] = {true, false, "an offset leads to no cell in use", "A key, list or value points to this offset, where no cell in use starts."},
     [HIVE_FAULT_RECORD] = {true, false, "a record in a cell is wrong or does not fit its cell", "Its signature, a length, a count or a name is not possible, or the cell is too short for it."},
-    [HIVE_FAULT_ORDER] = {true, false, "a key stands out of order, or its hash is wrong", "Subkeys stand in the order of their names with a to z, and the accented letters of Western Europe, as capitals, none twice; an lh list holds each name's hash. Windows may not find this key."},
+    [HIVE_FAULT_ORDER] = {true, false, "a key stands out of order, or its hash or hint is wrong", "Subkeys stand in the order of their names with a to z, and the accented letters of Western Europe, as capitals, none twice; an lh list holds each name's hash, an lf list its first four characters as a hint (a byte 0 first where one of them does not fit a byte). Windows may not find this key."},
     [HIVE_FAULT_PARENT] = {true, false, "a key does not fit its place in the tree", "Its parent field names another key, it is the root, or its subkey count is not the number of keys in its lists."},
     [HIVE_FAULT_LEVEL] = {true, false, "a key lies deeper than level 512", "The root is level 0 and level 512 is the last."},
     [HIVE_FAULT_PATH_PARTS] = {false, false, "the path is not possible", "A part is empty (a backslash too many), is longer than 255 units, or there are more than 512 parts."},
@@ -38,6 +38,7 @@ static const Reason REASONS[] = {
     [HIVE_FAULT_NOT_DIRTY] = {false, true, "the page is not marked in the log", "A program asked for a page that the log does not hold; this tool asks only for those it holds."},
     [HIVE_FAULT_NOT_IN] = {false, false, "a logged page is not in the hive yet", "A program asked to close the repair too early; this tool installs all pages first."},
     [HIVE_FAULT_SECURITY] = {true, false, "the security items of the keys do not fit together", "At the place is the root, whose own item is none; or an item that has no room for its descriptor, whose forward link leads to no item that links back, or whose count is not the number of keys that name it; or a key whose item is not on the ring that starts at the root's. Windows does not load such a hive; its keys and values can be read here."},
+    [HIVE_FAULT_NAMESAKE] = {true, false, "a key has two values of one name", "At the place is the second of them: its name is that of a value earlier in the key's list, with a to z, and the accented letters of Western Europe, as capitals. Who asks for that name gets the first and never the second; hive value --nth 2 reads it."},
 };
 enum { REASON_COUNT = sizeof REASONS / sizeof REASONS[0] };
 

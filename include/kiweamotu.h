@@ -13,12 +13,12 @@
  * - Nobody changes a buffer during the call. So read a file into memory; do not map one that others may write.
  * - 1 MiB of free stack.
  *
- * A refusal is a number, one of enum HiveFault, a place, and the key under examination. For 9 to 15, 19 and 28 the place is an
- * offset in the bins data: the byte 4096 + place of the file. Any other number has no place, and then place is 0. The key is
+ * A refusal is a number, one of enum HiveFault, a place, and the key under examination. For 9 to 15, 19, 28 and 29 the place is
+ * an offset in the bins data: the byte 4096 + place of the file. Any other number has no place, and then place is 0. The key is
  * the offset of the last key whose record was accepted, HIVE_NO_KEY before there is one: of a child's bad cell or record it
- * is the key that lists it, of 13 to 15 the place, of 17 the deepest key that was found, of 18 to 20 the key of the value, of
- * 28 the root, or the place where that is a key. In all calls of the repair, and where a value is asked by its offset, it is
- * HIVE_NO_KEY.
+ * is the key that lists it, of 13 to 15 the place, of 17 the deepest key that was found, of 18 to 20 and 29 the key of the
+ * value, of 28 the root, or the place where that is a key. In all calls of the repair, and where a value is asked by its offset,
+ * it is HIVE_NO_KEY.
  */
 #ifndef KIWEAMOTU_H
 #define KIWEAMOTU_H
@@ -52,7 +52,7 @@ enum HiveFault {
     HIVE_FAULT_CELL_SIZE = 10, /* cell size */
     HIVE_FAULT_NO_CELL = 11, /* offset names no cell in use */
     HIVE_FAULT_RECORD = 12, /* wrong signature, length, count or name */
-    HIVE_FAULT_ORDER = 13, /* order of names, or `lh` hash */
+    HIVE_FAULT_ORDER = 13, /* order of names, `lh` hash or `lf` hint */
     HIVE_FAULT_PARENT = 14, /* parent, root listed, total count */
     HIVE_FAULT_LEVEL = 15, /* level over 512 */
     HIVE_FAULT_PATH_PARTS = 16, /* path: empty part, part over 255 units, over 512 parts */
@@ -68,6 +68,7 @@ enum HiveFault {
     HIVE_FAULT_NOT_DIRTY = 26, /* page not marked dirty, or past the bitmap (type 6: in no counted entry) */
     HIVE_FAULT_NOT_IN = 27, /* closing, but a logged page is not in yet */
     HIVE_FAULT_SECURITY = 28, /* security items: the root's offset, an item's room, link or count, a key off the ring */
+    HIVE_FAULT_NAMESAKE = 29, /* a value with the name of one before it in its key */
 };
 
 /* The states: of an answer that goes on or ends, and of a step of the repair. */
@@ -302,7 +303,9 @@ uint32_t hive_abi(void);
 
 /* Checks a hive wholly: base block, bins, cells, the tree of keys, values and data from the root, and the keys' security items.
  * Number 0 means that all of it is sound, and the report counts what is there. The first fault answers, in this order: 1 to 8;
- * 9 and 10, bin by bin; then 11 to 15 from the root, each key wholly before its next sibling; then 28: the root's own security
+ * 9 and 10, bin by bin; then 11 to 15 and 29 from the root, each key wholly before its next sibling: its parent, its order, the
+ * hash or hint beside it, its level, its values with their data, 29, its lists and their total; then 28. 29 is the first value
+ * of the key's list that has the name of one before it, in either case (place: that value). 28 is the root's own security
  * offset (place: the root); the items from the root's on along their forward links, each for the room of its descriptor, its
  * forward link, which must lead to an item that links back, and its count of keys (place: the item); and the keys whose offset
  * names no item of that ring, in the order of the walk (place: the key). What a descriptor says is not judged.

@@ -55,7 +55,7 @@ WORDS = {
     10: "the size of a cell is not possible",
     11: "an offset leads to no cell in use",
     12: "a record in a cell is wrong or does not fit its cell",
-    13: "a key stands out of order, or its hash is wrong",
+    13: "a key stands out of order, or its hash or hint is wrong",
     14: "a key does not fit its place in the tree",
     15: "a key lies deeper than level 512",
     16: "the path is not possible",
@@ -71,8 +71,9 @@ WORDS = {
     26: "the page is not marked in the log",
     27: "a logged page is not in the hive yet",
     28: "the security items of the keys do not fit together",
+    29: "a key has two values of one name",
 }
-PLACED = frozenset((9, 10, 11, 12, 13, 14, 15, 19, 28))
+PLACED = frozenset((9, 10, 11, 12, 13, 14, 15, 19, 28, 29))
 ORDER, PARENT, LEVEL, SEGMENTED, SHORT = 13, 14, 15, 19, 24
 
 # The registry's names of the types, from 0 on.

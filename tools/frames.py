@@ -249,10 +249,10 @@ def lists():
     refused(14, edited(h, (place(b, 16), word(a))), b)
     refused(14, edited(h, (place(leaf, 4), word(at))), at)
     refused(14, edited(h, (place(leaf, 4), word(at)), (place(at, 16), word(at))), at)
-    # the hash is of the upper-cased name, and lf hints are not read
+    # the hash is of the upper-cased name
     root, h = family("lf", ("ab",))
     leaf = u32(h, place(root.at, 28))
-    hive(edited(h, (place(leaf, 8), word(7))), "accepted bins 1 keys 2 values 0 used 216 free 3848")
+    hive(h, "accepted bins 1 keys 2 values 0 used 216 free 3848")
     hive(edited(h, (place(leaf), b"lh"), (place(leaf, 8), word(2471))), "accepted bins 1 keys 2 values 0 used 216 free 3848")
     refused(13, edited(h, (place(leaf), b"lh"), (place(leaf, 8), word(2470))), root.subkeys[0].at)
     names()
@@ -362,7 +362,7 @@ def below():
 
 def values():
     vs = [Value("", b""), Value("one", b"1"), Value("two", b"12"), Value("three", b"123"), Value("four", b"1234"), Value("five", b"12345"), Value("none", b"", inline=False),
-          Value("wide\u0416", b"wide"), Value("with\\backslash", b"w"), Value("five", b"again"), Value("kind", b"\1\0\0\0", 4)]
+          Value("wide\u0416", b"wide"), Value("with\\backslash", b"w"), Value("nine", b"again"), Value("kind", b"\1\0\0\0", 4)]
     root = Key("R", [Key("shares")], vs)
     h = Builder(root).hive
     at, listed = root.at, u32(h, place(root.at, 40))
@@ -481,6 +481,201 @@ def broken(root, h, deep):
     path("", "refused 12 at %d" % (inside - BASE))
     stream_hive(edited(h, (BASE + root.at, word(88))))
     path("", "refused 11 at %d" % root.at)
+
+
+# ---- namesakes and hints
+
+ONE_BYTE, TWO_BYTES = False, True
+
+
+def with_values(*values):
+    """A root with values of those names, each (name, whether in UTF-16), and where they are."""
+    vs = [Value(name, wide=wide) for name, wide in values]
+    root = Key("R", values=vs)
+    return root, Builder(root).hive, [v.at for v in vs]
+
+
+def accepted_whole(h):
+    """A hive frame whose counts are the model's, and which must be accepted."""
+    hive(h, "accepted bins %d keys %d values %d used %d free %d" % hives.check(h, bytearray(320)))
+
+
+def stored(name):
+    return (TWO_BYTES,) if any(c > 255 for c in hives.units(name)) else (ONE_BYTE, TWO_BYTES)
+
+
+def namesakes():
+    long_one = "x" * 999
+    same = (("abc", "abc"), ("abc", "ABC"), ("a", "A"), ("z", "Z"), ("aZ", "Az"), ("\xe9", "\xc9"), ("\xe0", "\xc0"), ("\xfe", "\xde"), ("\xff", "\u0178"), ("", ""), ("\0", "\0"),
+            ("a\\b", "A\\B"), ("a\0", "A\0"), ("\u0416a", "\u0416A"), ("\ud800", "\ud800"), ("@", "@"), (long_one + "y", long_one + "Y"))
+    other = (("a", "b"), ("@", "`"), ("[", "{"), ("z", "{"), ("`", "a"), ("\xf7", "\xd7"), ("\xdf", "\xff"), ("\xb5", "\u039c"), ("\u0436", "\u0416"), ("\xff", "\xdf"), ("\u0178", "x"), ("", "\0"),
+             ("a", "ab"), ("ab", "a"), ("a", "a\0"), ("", "a"), ("ab", "ba"), ("\u0161", "a"), ("\u6161", "aa"), (long_one + "y", long_one + "z"), (long_one, long_one + "y"))
+    for names, repeat in ((same, True), (other, False)):
+        for first, second in names:
+            for one in stored(first):
+                for two in stored(second):
+                    _, h, at = with_values((first, one), (second, two))
+                    refused(29, h, at[1]) if repeat else accepted_whole(h)
+    # the value at the lowest position with a namesake before it: of a, b, B, A it is B
+    for names, found in (("abBA", 2), ("abAB", 2), ("abcdA", 4), ("aaa", 1), ("abcCBA", 3), ("aabb", 1), ("abb", 2), ("abcCa", 3), ("xabcdeEDX", 6)):
+        _, h, at = with_values(*[(c, c == "b") for c in names])
+        refused(29, h, at[found])
+    positions()
+    many_values()
+    name_orders()
+
+
+def positions():
+    """Positions count, not cells; and what lies past the key's count is not read."""
+    root, h, (a, b, c) = with_values(("a", ONE_BYTE), ("b", ONE_BYTE), ("c", ONE_BYTE))
+    listed = u32(h, place(root.at, 40))
+    accepted_whole(h)
+    for order, found in (((a, a, c), a), ((a, b, a), a), ((a, b, b), b), ((c, b, c), c), ((b, b, b), b)):
+        refused(29, edited(h, (place(listed), b"".join(word(o) for o in order))), found)
+    accepted_whole(edited(h, (place(listed), word(c) + word(a) + word(b))))
+    root, h, at = with_values(("a", ONE_BYTE), ("b", ONE_BYTE), ("A", ONE_BYTE), ("B", TWO_BYTES))
+    for count in (0, 1, 2):
+        accepted_whole(edited(h, (place(root.at, 36), word(count))))
+    for count in (3, 4):
+        refused(29, edited(h, (place(root.at, 36), word(count))), at[2])
+    # a list that two keys share is no repeat; each of them answers for itself
+    root = Key("R", [Key("a"), Key("b", values=[Value("x"), Value("y")])], [Value("x"), Value("Y")])
+    h = Builder(root).hive
+    listed = u32(h, place(root.at, 40))
+    shared = edited(h, *[(place(k.at, 36), word(2) + word(listed)) for k in root.subkeys])
+    accepted_whole(h)
+    accepted_whole(shared)
+    refused(29, edited(shared, (place(root.values[1].at, 20), b"X")), root.values[1].at)
+    refused(29, edited(h, (place(root.subkeys[1].values[0].at, 20), b"Y")), root.subkeys[1].values[1].at)
+
+
+def many_values():
+    """On both sides of 16 and of 256: sound, the last repeats the first, and of two repeats the lower answers. Names of one length, and of one hash."""
+    for count in (16, 17, 256, 257):
+        names = ["%03d" % i for i in range(count)]
+        _, h, at = with_values(*[(n, ONE_BYTE) for n in names])
+        rename = lambda i, j: (place(at[i], 20), names[j].encode())
+        last = count - 1
+        accepted_whole(h)
+        refused(29, edited(h, rename(last, 0)), at[last])
+        refused(29, edited(h, rename(last, last - 1)), at[last])
+        refused(29, edited(h, rename(last, 0), rename(last - 1, 1)), at[last - 1])
+        refused(29, edited(h, rename(last, last - 1), rename(count // 2, 0)), at[count // 2])
+    for count in (16, 17, 64):
+        names = [one_hash(i, 6) for i in range(count)]
+        _, h, at = with_values(*[(n, i % 3 == 0) for i, n in enumerate(names)])
+        accepted_whole(h)
+        _, h, at = with_values(*[(n, i % 3 == 0) for i, n in enumerate(names + names[:1])])
+        refused(29, h, at[count])
+
+
+def one_hash(number, pairs):
+    """A name for each number below 2^pairs: they differ, and have one hash. 34 * 37 + 95 is 35 * 37 + 58."""
+    return "".join(('"_', "#:")[number >> bit & 1] for bit in range(pairs))
+
+
+assert len({hives.name_hash(hives.units(one_hash(i, 4))) for i in range(16)}) == 1
+
+
+def name_orders():
+    """Parent, order and hint, values with their data, 29, lists, total: of two faults of a key the earlier one answers. 15 is among the larger runs."""
+    vs = [Value("v", b"12345678"), Value("w", b"12345678"), Value("x", b"12345678")]
+    younger = Key("b", [Key("c")], vs)
+    elder = Key("a", values=[Value("v", b""), Value("w", b"")])
+    root = Key("R", [elder, younger, Key("z", lists="lf")], lists="lf")
+    h = Builder(root).hive
+    accepted_whole(h)
+    b, leaf, item = younger.at, u32(h, place(root.at, 28)), u32(h, place(root.at, 44))
+    own = ((14, b, (place(b, 16), word(0))), (13, b, (place(leaf, 16), b"B")), (11, 8, (place(vs[2].at, 8), word(8))), (29, vs[1].at, (place(vs[1].at, 20), b"V")),
+           (11, 16, (place(b, 28), word(16))), (14, b, (place(b, 20), word(2))))
+    for i, (number, at, change) in enumerate(own):
+        refused(number, edited(h, change), at)
+        for _, _, later in own[i + 1:]:
+            if change[0] != later[0]:
+                refused(number, edited(h, change, later), at)
+    refused(12, edited(h, own[3][2], (place(vs[2].at), b"kv")), vs[2].at)
+    refused(12, edited(h, own[3][2], (place(vs[2].at, 4), word(13))), u32(h, place(vs[2].at, 8)))
+    # order and hint share number and place
+    refused(13, edited(h, (place(leaf, 16), b"A"), (place(b, 76), b"A")), b)
+    refused(13, edited(h, (place(b, 76), b"A"), (place(leaf, 16), b"A\0\0\1")), b)
+    # 29 of the elder sibling before the hint of the younger, the key's own before its subkeys', and 28 after all
+    elder_too = (place(elder.values[1].at, 20), b"V")
+    for _, _, change in own:
+        refused(29, edited(h, elder_too, change), elder.values[1].at)
+    refused(29, edited(h, own[3][2], (place(u32(h, place(b, 28)), 4), word(8))), vs[1].at)
+    refused(13, edited(h, own[1][2], (place(item, 12), word(9))), b)
+    refused(29, edited(h, own[3][2], (place(item, 12), word(9))), vs[1].at)
+    refused(29, edited(h, own[3][2], (place(root.at, 44), word(0))), vs[1].at)
+    # lookup reads no hint, and needs no accepted hive
+    path("B\\C", "key at %d" % younger.subkeys[0].at)
+    refused(13, edited(h, own[1][2]), b)
+    path("b\\c", "key at %d" % younger.subkeys[0].at)
+    path("z", "key at %d" % root.subkeys[2].at)
+
+
+def hint_bytes(*codes):
+    return bytes(codes) + bytes(4 - len(codes))
+
+
+def one_hint(name, hint, good, wide=None, lists="lf"):
+    """A root with one subkey, and those four bytes beside its offset."""
+    root = Key("R", [Key(name, wide=wide)], lists=lists)
+    h = Builder(root).hive
+    leaf = u32(h, place(root.at, 28))
+    leaf = leaf if isinstance(lists, str) else u32(h, place(leaf, 4))
+    h = edited(h, (place(leaf, 8), hint))
+    accepted_whole(h) if good else refused(13, h, root.subkeys[0].at)
+
+
+def hints():
+    for name in ("a", "ab", "abc", "abcd", "abcde", "\xe9\xc9\xff", "ab\0cd"):
+        right = name.encode("latin-1")[:4].ljust(4, b"\0")
+        wrong = {right[:i] + bytes([right[i] ^ 1 << 2 * i]) + right[i + 1:] for i in range(4)} | {bytes(hives.upper(c) % 256 for c in right), right[::-1], bytes(4)}
+        for hint in sorted(wrong - {right}):
+            one_hint(name, hint, False)
+        upper_one = bytes(hives.upper(c) % 256 for c in right)
+        for wide, lists in ((False, "lf"), (True, "lf"), (False, [("lf", 1)]), (True, [("lf", 1)])):
+            one_hint(name, right, True, wide, lists)
+            one_hint(name, right[:3] + bytes([right[3] ^ 0x80]), False, wide, lists)
+            one_hint(name, upper_one, False, wide, lists)
+        # what stands beside an offset in an lh is a hash and no hint
+        one_hint(name, word(hives.name_hash(hives.units(name))), True, lists="lh")
+        one_hint(name, right, False, lists="lh")
+    codes_in_hints()
+    elements()
+
+
+def codes_in_hints():
+    """0, 255, 256 and more in each of the first five places: above 255 among four, the first byte is 0 and the others are anything."""
+    for spot in range(5):
+        for code in (0, 255, 256, 0x6100 + ord("a")):
+            name = hives.units("abcde")
+            name[spot] = code
+            low = bytes(c % 256 for c in name[:4])
+            free = spot < 4 and code > 255
+            for hint in sorted({low, b"\0" + low[1:], b"\0\xff\xff\xff", b"\1" + low[1:]}):
+                one_hint(name, hint, hint[0] == 0 if free else hint == low, wide=True)
+    for length in (1, 4):
+        for hint, good in ((b"\0\0\0\0", True), (b"\0\1\2\3", True), (b"\x16\0\0\0", False), (b"\1\0\0\0", False)):
+            one_hint([0x416] * length, hint, good)
+
+
+def elements():
+    """Each element of a leaf, and of leaves of several kinds below an `ri`; of two with a wrong hint the first answers."""
+    names = ("Alpha", "beta", "delta\u0416", "GAMMA", "\u0416one", "\u0416two")
+    for kind in ("lf", [("lh", 2), ("lf", 3), ("li", 1)]):
+        root = Key("Root", [Key(n) for n in names], lists=kind)
+        h = Builder(root).hive
+        accepted_whole(h)
+        first = u32(h, place(root.at, 28))
+        leaf, start, count = (first, 0, 6) if kind == "lf" else (u32(h, place(first, 8)), 2, 3)
+        listed = [(place(leaf, 8 + 8 * i), root.subkeys[start + i]) for i in range(count)]
+        for at, k in listed:
+            refused(13, edited(h, (at, b"\1")), k.at)
+            changed_h = edited(h, (at + 3, b"?"))
+            accepted_whole(changed_h) if k.name[0] > 255 else refused(13, changed_h, k.at)
+        for (at, k), (later, _) in zip(listed, listed[1:]):
+            refused(13, edited(h, (at, b"\2"), (later, b"\2")), k.at)
 
 
 # ---- security items
@@ -1107,7 +1302,7 @@ def hold(name, data, said):
 
 
 def main():
-    for part in (begin, bases, checksums, tilings, keys, lists, values, paths, security, logs, new_logs):
+    for part in (begin, bases, checksums, tilings, keys, lists, values, paths, namesakes, hints, security, logs, new_logs):
         part()
     stream.extend(struct.pack("<IH", 0xFFFFFFFF, PATH))
     lines.append("bad frame")

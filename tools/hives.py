@@ -65,6 +65,17 @@ def folded(codes):
     return [upper(c) for c in codes]
 
 
+def name_hint(codes):
+    """The hint of an `lf` element, by request 8: the low bytes of the first four codes as stored, and zero bytes behind a shorter name. A code above
+    255 among them asks for a first byte 0: then this is 0."""
+    first = codes[:4]
+    return 0 if any(c > 255 for c in first) else sum(c << 8 * i for i, c in enumerate(first))
+
+
+def fits_hint(hint, codes):
+    return hint % 256 == 0 if any(c > 255 for c in codes[:4]) else hint == name_hint(codes)
+
+
 def units(text):
     """The UTF-16 units of a Python string; a list of codes stays as it is."""
     if not isinstance(text, str):
@@ -186,7 +197,7 @@ class Reader:
                 "values": u32(d, 36), "value_list": u32(d, 40), "security": u32(d, 44)}
 
     def list_of(self, at, allowed):
-        """A list's signature and its elements: (offset, hash or None). 12 at the list (13)."""
+        """A list's signature and its elements: (offset, what stands beside it). 12 at the list (13)."""
         d = self.cell(at)
         if len(d) < 4 or d[0:2] not in allowed:
             raise Refused(12, at, self.examined)
@@ -194,7 +205,7 @@ class Reader:
         width = 8 if sign in (b"lf", b"lh") else 4
         if count == 0 or 4 + count * width > len(d):
             raise Refused(12, at, self.examined)
-        return sign, [(u32(d, 4 + i * width), u32(d, 8 + i * width) if sign == b"lh" else None) for i in range(count)]
+        return sign, [(u32(d, 4 + i * width), (sign, u32(d, 8 + i * width)) if width == 8 else None) for i in range(count)]
 
     def leaf(self, at):
         return self.list_of(at, (b"li", b"lf", b"lh"))[1]
@@ -278,29 +289,46 @@ class Walk:
     def __init__(self, reader, root):
         self.reader, self.root, self.keys, self.values = reader, root, [], 0
 
-    def key(self, at, parent, elder, hashed, level):
-        """One key, wholly; answers its name, for the order of the next."""
+    def key(self, at, parent, elder, beside, level):
+        """One key, wholly; answers its name, for the order of the next. `beside` is the hash or the hint of its element."""
         r = self.reader
         k = r.accepted(at, NO_KEY if parent is None else parent)
         if parent is not None and (k["parent"] != parent or at == self.root):
             raise Refused(14, at, at)
         if elder is not None and not folded(elder) < folded(k["name"]):
             raise Refused(13, at, at)
-        if hashed is not None and hashed != name_hash(k["name"]):
+        if beside is not None and not is_beside(beside, k["name"]):
             raise Refused(13, at, at)
         if level > 512:
             raise Refused(15, at, at)
-        for v in r.value_offsets(k):
-            r.data(r.value(v))
+        self.judge_values(k)
         children = [child for leaf in r.leaves(k) for child in leaf]
         if len(children) != k["subkeys"]:
             raise Refused(14, at, at)
         self.keys.append((at, k["security"]))
         self.values += k["values"]
         before = None
-        for child, child_hash in children:
-            before = self.key(child, at, before, child_hash, level + 1)
+        for child, child_beside in children:
+            before = self.key(child, at, before, child_beside, level + 1)
         return k["name"]
+
+    def judge_values(self, k):
+        """All values with their data, and by request 8 only then 29: the first of the list that has a namesake before it."""
+        r, values, passed = self.reader, [], set()
+        for at in r.value_offsets(k):
+            values.append(r.value(at))
+            r.data(values[-1])
+        for v in values:
+            name = tuple(folded(v["name"]))
+            if name in passed:
+                raise Refused(29, v["at"], k["at"])
+            passed.add(name)
+
+
+def is_beside(beside, codes):
+    """A `lh` element has the name's hash beside its offset, a `lf` element a hint that fits the name."""
+    sign, number = beside
+    return number == name_hash(codes) if sign == b"lh" else fits_hint(number, codes)
 
 
 Links = namedtuple("Links", "forward backward count size length")
@@ -954,7 +982,7 @@ class Builder:
             d += struct.pack("<I", k.at)
             if sign in ("lf", "lh"):
                 fields.append((len(d), 4, "hash"))
-                d += struct.pack("<I", name_hash(k.name) if sign == "lh" else 0xA5A5A5A5)
+                d += struct.pack("<I", name_hash(k.name) if sign == "lh" else name_hint(k.name))
         return self.store(d, fields)
 
     def lay_lists(self, k):

@@ -121,7 +121,7 @@ def word(n):
 
 def levels():
     """Level 512 is the last."""
-    chain = [Key("k%d" % i) for i in range(514)]
+    chain = [Key("k%d" % i) for i in range(513)] + [Key("k513", values=[Value("v"), Value("V")])]
     for above, below in zip(chain, chain[1:]):
         above.subkeys.append(below)
     b = Builder(chain[0])
@@ -133,6 +133,12 @@ def levels():
     key("key at %d" % last.at)
     at("\\".join("k%d" % i for i in range(1, 514)))
     key("refused 16 at 0")
+    say("hint before the level, and the level before a repeated name")
+    leaf = u32(b.hive, BASE + 4 + last.at + 28)
+    change((BASE + 4 + leaf, b"lf"), (BASE + 4 + leaf + 8, b"K513"))
+    check("refused 13 at %d" % over.at)
+    change((BASE + 4 + leaf + 8, b"k513"))
+    check("refused 15 at %d" % over.at)
     say("level 512")
     change((BASE + 4 + last.at + 20, word(0)))
     check("refused 28 at %d" % item)
@@ -278,8 +284,7 @@ def values():
     root = Key("R", [empty, sub])
     b = Builder(root)
     store("values", b.hive)
-    used = -sum(n for n in sizes(b.hive) if n < 0)
-    check("accepted bins 1 keys 3 values 12 used %d free %d" % (used, 4064 - used))
+    check("refused 29 at %d" % vs[8].at)
     for v, name in zip(vs, ("NONE", "I1", "i2", "I3", "i4", "Zero", "cELL", "Twice", "twice", "\u0416X\u0436", "", "BACK\\SLASH")):
         say("the value " + (name if name.isascii() else "with the wide name") if name else "the value with no name")
         at("Sub", name)
@@ -356,6 +361,58 @@ def missing(b, root, empty, sub, vs):
     copy("refused 7 at 0", 100)
 
 
+def namesakes():
+    """8,200 values in a key, which is three tables of 4,096; and 4,096 of one hash. The count in the key says how many of them there are."""
+    vs = [Value("%04x" % i) for i in range(8200)]
+    root = Key("R", values=vs)
+    b = Builder(root)
+    store("namesakes", b.hive)
+    used, bins = -sum(n for n in sizes(b.hive) if n < 0), b.hive.count(b"hbin")
+    accepted = lambda n: "accepted bins %d keys 1 values %d used %d free %d" % (bins, n, used, len(b.bins) - 32 * bins - used)
+    named = lambda i, j: (BASE + 4 + vs[i].at + 20, b"%04X" % j)
+    count = lambda n: (BASE + 4 + root.at + 36, word(n))
+    own = lambda *which: change(*[named(i, i) for i in which])
+    for n in (1, 2, 16, 17, 256, 257, 4096, 4097, 8191, 8192, 8193, 8200):
+        say("%d values" % n)
+        change(count(n))
+        check(accepted(n))
+        if n > 1:
+            say("the last repeats the first, and the one before it")
+            for j in (0, n - 2):
+                change(named(n - 1, j))
+                check("refused 29 at %d" % vs[n - 1].at)
+            own(n - 1)
+    say("repeats in different tables: the lowest position answers, wherever its namesake is")
+    for pairs, found in ((((8199, 8198), (5000, 0)), 5000), (((8199, 0), (8198, 8197)), 8198), (((4096, 4095), (8192, 1)), 4096), (((5000, 4500), (4999, 3)), 4999), (((8195, 8193), (8194, 2), (8196, 4097)), 8194)):
+        change(*[named(i, j) for i, j in pairs])
+        check("refused 29 at %d" % vs[found].at)
+        own(*[i for i, _ in pairs])
+    check(accepted(8200))
+    say("the first of two namesakes is found")
+    change(named(8199, 0x10))
+    at("", "0010")
+    info("inline type 3 place %d length 0" % (BASE + vs[16].at + 12))
+    say("one cell at two positions, the second past the key's count or not")
+    listed = BASE + 4 + u32(b.hive, BASE + 4 + root.at + 40)
+    change(named(8199, 8199), (listed + 4 * 8199, word(vs[7].at)))
+    check("refused 29 at %d" % vs[7].at)
+    change(count(8199))
+    check(accepted(8199))
+
+
+def one_hash():
+    """4,096 names that differ and have one hash."""
+    vs = [Value("".join(('"_', "#:")[i >> bit & 1] for bit in range(12))) for i in range(4096)]
+    root = Key("R", values=vs)
+    b = Builder(root)
+    store("one-hash", b.hive)
+    used, bins = -sum(n for n in sizes(b.hive) if n < 0), b.hive.count(b"hbin")
+    say("4,096 names of one hash")
+    check("accepted bins %d keys 1 values 4096 used %d free %d" % (bins, used, len(b.bins) - 32 * bins - used))
+    change((BASE + 4 + vs[4095].at + 20, bytes(vs[0].name)))
+    check("refused 29 at %d" % vs[4095].at)
+
+
 def security():
     """5,000 items, which are counted in three batches, and the map after each refusal."""
     items = [Item() for _ in range(5000)]
@@ -422,6 +479,8 @@ def main():
     segments()
     values()
     letters()
+    namesakes()
+    one_hash()
     security()
     long_names()
     with open("crates/hive_runs/stdin", "wb") as f:

@@ -106,6 +106,15 @@ static uint32_t hash(const uint8_t *name, size_t n)
     return h;
 }
 
+/* The first four bytes of a name, and zeros behind a shorter one. */
+static uint32_t hint(const uint8_t *name, size_t n)
+{
+    uint32_t h = 0;
+    for (size_t i = 0; i < n && i < 4; i++)
+        h |= (uint32_t)name[i] << 8 * i;
+    return h;
+}
+
 uint32_t new_leaf(Made *m, const char *kind, const uint32_t *keys, size_t count)
 {
     size_t wide = kind[1] == 'i' ? 4 : 8;
@@ -115,9 +124,10 @@ uint32_t new_leaf(Made *m, const char *kind, const uint32_t *keys, size_t count)
     put16(d + 2, (uint32_t)count);
     for (size_t i = 0; i < count; i++) {
         put32(d + 4 + wide * i, keys[i]);
-        if (kind[1] == 'h') {
+        if (wide == 8) {
             uint8_t *k = data_of(m, keys[i]);
-            put32(d + 8 + wide * i, hash(k + 76, k[72] | (size_t)k[73] << 8));
+            size_t n = k[72] | (size_t)k[73] << 8;
+            put32(d + 8 + wide * i, kind[1] == 'h' ? hash(k + 76, n) : hint(k + 76, n));
         }
     }
     return leaf;

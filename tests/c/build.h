@@ -28,7 +28,7 @@ size_t made_length(const Made *m);
 uint8_t *data_of(const Made *m, uint32_t cell);
 uint32_t new_cell(Made *m, size_t length);
 uint32_t new_key(Made *m, const char *name, uint32_t parent);
-uint32_t new_leaf(Made *m, const char *kind, const uint32_t *keys, size_t count);
+uint32_t new_leaf(Made *m, const char *kind, const uint32_t *keys, size_t count); /* with the hash or the hint of names of one-byte characters */
 uint32_t new_index(Made *m, const uint32_t *leaves, size_t count);
 uint32_t new_value(Made *m, const char *name, uint32_t type, const uint8_t *data, size_t length);
 uint32_t new_item(Made *m, size_t room); /* linked to itself, named by no key, with room for a descriptor */

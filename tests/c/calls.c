@@ -511,6 +511,7 @@ static void t_offsets(void)
     finish(&m);
     size_t n = made_length(&m);
     const uint8_t *h = lend(0, m.file, n);
+    EXPECT(in(hive_check(h, n, back, sizeof back).answer, HIVE_FAULT_NAMESAKE, values[1], m.root));
     EXPECT(value_at(h, n, values[0]).number == 0 && value_at(h, n, values[1]).number == 0);
     HiveCopy c = hive_copy_at(h, n, values[1], back, sizeof back);
     EXPECT(is(c.answer, 0, 0) && c.length == sizeof data && memcmp(data, back, sizeof data) == 0);

@@ -150,6 +150,18 @@ static void write_sources(void)
     write_broken(&m, key, keys);
 }
 
+/* A hint in capitals. */
+static void write_hint(void)
+{
+    Made m = made(4096, 5);
+    m.root = new_key(&m, "R", 0);
+    uint32_t keys[] = {new_key(&m, "alpha", m.root), new_key(&m, "beta", m.root)}, leaf = new_leaf(&m, "lf", keys, 2);
+    hang_keys(&m, m.root, leaf, 2);
+    finish(&m);
+    memcpy(data_of(&m, leaf) + 16, "BETA", 4);
+    write_file("wrong-hint", m.file, made_length(&m));
+}
+
 /* A chain that is a level too deep. */
 static void write_chain(void)
 {
@@ -368,6 +380,7 @@ int main(int count, char **words)
     write_sources();
     write_letters();
     write_longest();
+    write_hint();
     write_chain();
     write_left();
     write_left_many("left-4096", 4096);

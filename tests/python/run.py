@@ -175,7 +175,7 @@ def damaged():
         try:
             wanted = hives.check(file, bytearray(len(file) // 64))
         except hives.Refused as refused:
-            expect(refusal(Hive(file).check)[:2], (refused.number, refused.place if 9 <= refused.number <= 15 or refused.number == 28 else None))
+            expect(refusal(Hive(file).check)[:2], (refused.number, refused.place if 9 <= refused.number <= 15 or refused.number in (28, 29) else None))
             continue
         expect(tuple(Hive(file).check()), wanted)
 
@@ -285,6 +285,25 @@ def security():
     expect(refusal(Hive("wrong-count").check), (28, 1040, 32))
     expect(refusal(Hive("off-ring").check), (28, 760, 760))
     expect([key.path for key in Hive("off-ring").walk()], [key.path for key in Hive("sources").walk()])
+
+
+@test
+def namesakes():
+    """two values of one name and wrong hints: the place and the key, the first of two is read, and the plain reading of the request agrees"""
+    expect(refusal(Hive("names").check), (29, 520, 32))
+    expect(refusal(Hive("wrong-hint").check), (13, 208, 208))
+    expect((Hive("names").value("", "A\nb").data, Hive("wrong-hint").key("BETA").offset), (b"xyzxyz", 208))
+    for seed in range(100):
+        dice = random.Random(seed)
+        values = [hives.Value(dice.choice(("", "a", "A", "b", "\xe9", "\xc9", "\xff", "\u0178", "c\0", "c")), wide=dice.choice((None, True))) for _ in range(dice.randrange(5))]
+        keys = [hives.Key(name, [], values if i == 1 else []) for i, name in enumerate(("aB", "beta", "g\u0416", "\xe9\xff"))]
+        made = hives.Builder(hives.Key("root", keys, lists=dice.choice(("lf", [("lf", 2), ("lh", 2)]))))
+        file = bytearray(made.hive)
+        hints = [place for place, _width, what in made.fields if what == "hash"]
+        for _ in range(dice.randrange(3)):
+            file[dice.choice(hints) + dice.randrange(4)] ^= dice.choice((1, 32, 255))
+        hive = Hive(file)
+        expect(told(lambda: tuple(hive.check())), told(hives.check, file, bytearray(len(file) // 64)))
 
 
 @test

@@ -13,6 +13,9 @@ try 'check: no security item' 1 'refused 28 at 32' 'at offset 32 (0x20), which i
 try 'check: a count of a security item' 1 'refused 28 at 1040' 'the security items of the keys do not fit together, at offset 1040 (0x410), which is byte 5136 (0x1410) of the file, in key \ (at 32) (see' hive check wrong-count
 try 'check: a key off the ring' 1 'refused 28 at 760' "of the file, in key \\$application\\Esc (at 760) (see" hive check off-ring
 try 'check: off the ring, and read all the same' 0 'key at 760' '' hive key off-ring "$application\Esc"
+try 'check: two values of one name' 1 'refused 29 at 520' 'a key has two values of one name, at offset 520 (0x208), which is byte 4616 (0x1208) of the file, in key \ (at 32) (see' hive check names
+try 'check: a wrong hint' 1 'refused 13 at 208' 'or its hash or hint is wrong, at offset 208 (0xd0), which is byte 4304 (0x10d0) of the file, in key \beta (at 208) (see' hive check wrong-hint
+try 'check: a wrong hint, and found all the same' 0 'key at 208' '' hive key wrong-hint Beta
 try 'check: no key yet' 1 'refused 12 at 32' 'of the file (see' hive check no-root
 try 'check: not finished' 1 'refused 7 at 0' 'give its log with --log, or repair it' hive check spoilt
 try 'check: no file' 2 '' 'hive: nothing: No such file' hive check nothing
@@ -45,10 +48,11 @@ try 'json: a name that is no UTF-8' 0 '{"file":"odd\u001b[2J'"$replaced"'","answ
 rm odd*
 
 try 'explain' 0 "17: there is no such key. Letters a to z, and the accented letters of Western Europe, are the same in either case; others must be given as they are." '' hive explain 17
-try 'explain: the order' 0 "13: a key stands out of order, or its hash is wrong. Subkeys stand in the order of their names with a to z, and the accented letters of Western Europe, as capitals, none twice; an lh list holds each name's hash. Windows may not find this key." '' hive explain 13
+try 'explain: the order' 0 "13: a key stands out of order, or its hash or hint is wrong. Subkeys stand in the order of their names with a to z, and the accented letters of Western Europe, as capitals, none twice; an lh list holds each name's hash, an lf list its first four characters as a hint (a byte 0 first where one of them does not fit a byte). Windows may not find this key." '' hive explain 13
 try 'explain: the checksum' 0 "3: the checksum of the base block is wrong. The word at byte 508 is not the XOR of the 127 words before it, with 0 stored as 1 and 0xFFFFFFFF as 0xFFFFFFFE: the first sector was changed or half written. A log may repair it." '' hive explain 3
 try 'explain: security' 0 "28: the security items of the keys do not fit together. At the place is the root, whose own item is none; or an item that has no room for its descriptor, whose forward link leads to no item that links back, or whose count is not the number of keys that name it; or a key whose item is not on the ring that starts at the root's. Windows does not load such a hive; its keys and values can be read here." '' hive explain 28
-try 'explain: no number' 2 '' 'from 1 to 28' hive explain 29
+try 'explain: two values of one name' 0 "29: a key has two values of one name. At the place is the second of them: its name is that of a value earlier in the key's list, with a to z, and the accented letters of Western Europe, as capitals. Who asks for that name gets the first and never the second; hive value --nth 2 reads it." '' hive explain 29
+try 'explain: no number' 2 '' 'from 1 to 29' hive explain 30
 try 'usage: nothing' 2 '' 'a verb is wanted: check, key, ls, value, deleted, repair or explain; see: hive --help' hive
 try 'usage: no verb' 2 '' '"chekc" is none of check, key, ls, value, deleted, repair and explain; see: hive --help' hive chekc a
 try 'usage: a word too few' 2 '' 'key wants FILE PATH, and a word is missing; see: hive --help' hive key sample

@@ -26,7 +26,7 @@ use Rattle.remnants.proofs.Refusals.{next-refuses as remnant-refuses, rows-refu
 use Rattle.demands.specs.First.{Demand1}
 use Rattle.demands.proofs.As_check.{refuses-as-check}
 
-listed : (f : Fault) → (1 ≤ numberOf f) × (numberOf f ≤ 28)
+listed : (f : Fault) → (1 ≤ numberOf f) × (numberOf f ≤ 29)
 listed named.HiveShort = (omega arith, omega arith)
 listed named.NoRegf = (omega arith, omega arith)
 listed named.Checksum = (omega arith, omega arith)
@@ -55,6 +55,7 @@ listed named.Stamps = (omega arith, omega arith)
 listed named.NotDirty = (omega arith, omega arith)
 listed named.NotIn = (omega arith, omega arith)
 listed named.Security = (omega arith, omega arith)
+listed named.Namesake = (omega arith, omega arith)
 
 -- ---- what a refusal leaves
 

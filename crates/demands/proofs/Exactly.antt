@@ -5,7 +5,7 @@ use Rattle.search.specs.declared.How.the-variants.{InTurn}
 use Rattle.paths.proofs.Exact.{find-malformed, find-exactly, find-none, find-refuses}
 use Rattle.paths.proofs.Listed.{listed-found}
 use Rattle.paths.proofs.Quick.{quick-same, quick-called}
-use Rattle.lookup.proofs.In_accepted.{info-first, info-none, viewed, segments-unviewed, copy-says, copy-20, copied}
+use Rattle.lookup.proofs.In_accepted.{info-first, info-none, only-named, viewed, segments-unviewed, copy-says, copy-20, copied}
 use Rattle.lookup.proofs.Answered.{view-info-same}
 use Rattle.lookup.proofs.Agree.{view-is}
 use Rattle.lookup.proofs.Quick.{info-same, view-same, start-same, bytes-same, copy-same, out-same}
@@ -41,6 +41,7 @@ demand2 =
           };
       view = λ h us x i e. (view-info-same InTurn h us x e, view-is InTurn h us x e);
       no-value = λ h w us o e x f. info-none h w us o e x f;
+      only-named = λ h w us o e x. only-named h w us o e x;
       quick-same = quick-same;
       quick-values = λ h b w us x.
           record {

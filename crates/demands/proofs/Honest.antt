@@ -22,7 +22,8 @@ use Rattle.tree.specs.declared.Checked.the-variants as checked
 use Rattle.fields.specs.Charges.{_after_}
 use Rattle.records.specs.Listed.{joined, keysIn}
 use Rattle.security.specs.Items.{isItem, itemIn, itemOf, hasRoom, isLinked, namedBy, isJoined, linkFault, countFault, itemFault, closesAt, ringFault, ringOf, isAmong, offCharge, securityCharge}
-use Rattle.tree.specs.Tree.{placeFault, hashFault, levelFault, totalFault, restFault, ownFault, keyCharge, listCharge, treeCharge, valuesIn, checkAnswer}
+use Rattle.namesakes.specs.Namesakes.{repeatFault, namesakeFault}
+use Rattle.tree.specs.Tree.{placeFault, hashFault, hintFault, besideFault, levelFault, totalFault, restFault, ownFault, keyCharge, listCharge, treeCharge, valuesIn, checkAnswer}
 use Rattle.tree.proofs.Exactly.{accepted-as}
 use Rattle.paths.specs.declared.KeyFound.the-variants as found
 use Rattle.paths.specs.Paths.{split, partsOf, isPart, areParts, isPath, pathFault}
@@ -40,7 +41,7 @@ use Rattle.demands.specs.Frauds.{NoFraud}
 
 -- "with an empty item after the key, linked to itself, it gives used 112 free 3952"
 item-accepted : checkAnswer withItem (replicate 64 0) ≡ checked.Accepted (record { bins = 1; keys = 1; values = 0; used = 112; free = 3952 })
-unfolding checkAnswer surveyAnswer mapLeft frontFault baseFault blockFault isVersion isBinsSize storedChecksum asStored xors u32At u16At sizeAt standsAt sameBytes _next_ goodSize tilingN tiling rowOf binSize layoutN layout addRow surveyOf markAt marks isBad marksAll zeros mapAfter isMarked isNamed byHeader cellOf cellFault dataOf dataAt codes charactersIn hasCode isKeyName isKey keyFault keyIn keyOf codesOf childrenIn leavesBelow childrenBelow listsFault valuesOf valueListFault valuesFault faultOver _after_ placeFault hashFault levelFault totalFault restFault ownFault keyCharge listCharge treeCharge joined keysIn valuesIn securityOf isItem itemIn itemOf hasRoom isLinked namedBy isJoined linkFault countFault itemFault closesAt ringFault ringOf isAmong offCharge securityCharge header baseBlock rootWithItem itemCell withItem
+unfolding checkAnswer surveyAnswer mapLeft frontFault baseFault blockFault isVersion isBinsSize storedChecksum asStored xors u32At u16At sizeAt standsAt sameBytes _next_ goodSize tilingN tiling rowOf binSize layoutN layout addRow surveyOf markAt marks isBad marksAll zeros mapAfter isMarked isNamed byHeader cellOf cellFault dataOf dataAt codes charactersIn hasCode isKeyName isKey keyFault keyIn keyOf codesOf childrenIn leavesBelow childrenBelow listsFault valuesOf valueListFault valuesFault faultOver _after_ placeFault hashFault hintFault besideFault repeatFault namesakeFault levelFault totalFault restFault ownFault keyCharge listCharge treeCharge joined keysIn valuesIn securityOf isItem itemIn itemOf hasRoom isLinked namedBy isJoined linkFault countFault itemFault closesAt ringFault ringOf isAmong offCharge securityCharge header baseBlock rootWithItem itemCell withItem
 item-accepted = refl
 
 minimal-root : findAnswer minimal [] ≡ found.At (record { 0 = 32 })

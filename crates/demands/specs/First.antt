@@ -52,8 +52,8 @@ use Rattle.recovery.specs.Refused.{OfStart, OfPage, OfClose, OfMarked}
 use Rattle.recovery.specs.AtOnce.{allAnswer, allHive, markAnswer, markedAnswer, markedMap, factsAnswer as logAnswer}
 
 pub record Demand1 : Type 0 where
-  -- "A refusal is a number from the listed set": the table has 1 to 27, and request 2 adds 28
-  pub listed : (f : Fault) → (1 ≤ numberOf f) × (numberOf f ≤ 28)
+  -- "A refusal is a number from the listed set": the table has 1 to 27, request 2 adds 28 and request 8 adds 29
+  pub listed : (f : Fault) → (1 ≤ numberOf f) × (numberOf f ≤ 29)
   -- "with a place": as the table says, each with the reason that its row gives, and with the key under examination (`Because`), or none (`Keyless`)
   pub survey-place : (h : List ℕ) (room : ℕ) (f : Flaw) → surveyAnswer h room ≡ Untiled f → OfSurvey h room f
   pub check-place : (h m : List ℕ) (r : Refusal) → checkAnswer h m ≡ checked.Refused r → Because (Told h (length m)) r

@@ -32,7 +32,7 @@ use Rattle.lookup.specs.declared.Copied.the-variants as copied
 use Rattle.lookup.specs.declared.Info.{Info}
 use Rattle.lookup.specs.declared.ValueFound.the-variants as valued
 use Rattle.lookup.specs.Answers.{infoOf, infoAnswer, viewAnswer, viewStart, viewBytes, copyAnswer, copyOut, quickInfo, quickView, quickViewStart, quickViewBytes, quickCopy, quickOut}
-use Rattle.lookup.specs.Reach.{FirstNamed}
+use Rattle.lookup.specs.Reach.{FirstNamed, OnlyNamed}
 use Rattle.logs.specs.Logs.{loggedCount}
 use Rattle.recovery.specs.declared.Started.the-variants as started
 use Rattle.recovery.specs.Calls.{startAnswer, closeHive}
@@ -99,6 +99,9 @@ pub record Demand2 : Type 0 where
   pub no-value : (h : List ℕ) → CleanAndWellFormed h → (us : List ℕ) (o : Offset) → findAnswer h us ≡ found.At o → (x : List ℕ)
       → ((v : Offset) → FirstNamed (binsData h) (minorOf (sector h)) x (valuesOf (binsData h) (keyOf (binsData h) o)) v → ⊥)
       → infoAnswer h us x ≡ valued.Refused (refusalOf o (flaw NoValue nowhere))
+  -- and it is the only one: two positions whose values have that name are one, so that view and copy are unambiguous
+  pub only-named : (h : List ℕ) → CleanAndWellFormed h → (us : List ℕ) (o : Offset) → findAnswer h us ≡ found.At o → (x : List ℕ)
+      → OnlyNamed (binsData h) (minorOf (sector h)) x (valuesOf (binsData h) (keyOf (binsData h) o))
   -- and a view, on any bytes, answers as value_info does and shows the same bytes
   pub view : (h us x : List ℕ) (i : Info) → viewAnswer h us x ≡ valued.At i
       → (infoAnswer h us x ≡ valued.At i) × (viewBytes h us x ≡ bytesOf (binsData h) (i .content))

@@ -40,6 +40,7 @@ numberOf named.Stamps = 25
 numberOf named.NotDirty = 26
 numberOf named.NotIn = 27
 numberOf named.Security = 28
+numberOf named.Namesake = 29
 
 -- "Each refusal is a number and a place, here an offset in the bins data (0 unless stated)."
 abbrev pub flaw : Fault → Offset → Flaw

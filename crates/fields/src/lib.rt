@@ -212,7 +212,7 @@ pub enum Fault {
     NoCell,
     // 12: wrong signature, length, count or name
     Record,
-    // 13: order of names, or `lh` hash
+    // 13: order of names, `lh` hash or `lf` hint
     Order,
     // 14: parent, root listed, total count
     Parent,
@@ -244,6 +244,8 @@ pub enum Fault {
     NotIn,
     // 28: security items: the root's offset, an item's room, link or count, a key off the ring
     Security,
+    // 29: a value with the name of one before it in its key
+    Namesake,
 }
 
 impl Fault {
@@ -279,6 +281,7 @@ impl Fault {
             Fault::NotDirty => 26,
             Fault::NotIn => 27,
             Fault::Security => 28,
+            Fault::Namesake => 29,
         }
     }
 }

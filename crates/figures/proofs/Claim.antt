@@ -22,7 +22,8 @@ use Rattle.values.specs.Lists.{valuesOf, valueListFault, valuesFault}
 use Rattle.fields.specs.Charges.{_after_}
 use Rattle.records.specs.Listed.{joined, keysIn}
 use Rattle.security.specs.Items.{isItem, itemIn, itemOf, hasRoom, isLinked, namedBy, isJoined, linkFault, countFault, itemFault, closesAt, ringFault, ringOf, isAmong, offCharge, securityCharge}
-use Rattle.tree.specs.Tree.{placeFault, hashFault, levelFault, totalFault, restFault, ownFault, keyCharge, listCharge, treeCharge, valuesIn, checkAnswer}
+use Rattle.namesakes.specs.Namesakes.{repeatFault, namesakeFault}
+use Rattle.tree.specs.Tree.{placeFault, hashFault, hintFault, besideFault, levelFault, totalFault, restFault, ownFault, keyCharge, listCharge, treeCharge, valuesIn, checkAnswer}
 use Rattle.sectors.specs.Sector.{page}
 use Rattle.sectors.proofs.Logged.{same-true}
 use Rattle.bitmap.specs.Bits.{bitsBefore, nextAmong, zeros}
@@ -49,7 +50,7 @@ rule (g ∷ fs) e f i =
     (List·Memᴰ·cases-cons i)
 
 computed : right table ≡ true
-unfolding isNew right table sameBytes standsAt u16At u32At u64At sizeAt _next_ faultOver storedChecksum asStored xors isVersion isBinsSize usable clean blockFault baseFault codes charactersIn hasCode upper uppers byCode compare mixed mixedAll hashOf goodSize tilingN tiling rowOf binSize layoutN layout addRow surveyOf markAt marks isBad marksAll zeros mapAfter isMarked frontFault surveyAnswer mapLeft isNamed byHeader cellOf cellFault dataOf dataAt isKeyName isKey keyFault keyIn keyOf codesOf childrenIn leavesBelow childrenBelow listsFault valuesOf valueListFault valuesFault _after_ placeFault hashFault levelFault totalFault restFault ownFault keyCharge listCharge treeCharge joined keysIn valuesIn securityOf isItem itemIn itemOf hasRoom isLinked namedBy isJoined linkFault countFault itemFault closesAt ringFault ringOf isAmong offCharge securityCharge checkAnswer page bitsBefore nextAmong bitmap logged old.isLogBase old.headFault old.logFault old.stampsAgree logFault logBins loggedCount nextLogged loggedPlace applies hiveFault testFault startAnswer nextAnswer head log hive bare lone header lowest highest used sized baseBlock rootCell minimal rootWithItem itemCell withItem surveyNumbers checkNumbers startNumbers nextNumbers orderNumber testNumber
+unfolding isNew right table sameBytes standsAt u16At u32At u64At sizeAt _next_ faultOver storedChecksum asStored xors isVersion isBinsSize usable clean blockFault baseFault codes charactersIn hasCode upper uppers byCode compare mixed mixedAll hashOf goodSize tilingN tiling rowOf binSize layoutN layout addRow surveyOf markAt marks isBad marksAll zeros mapAfter isMarked frontFault surveyAnswer mapLeft isNamed byHeader cellOf cellFault dataOf dataAt isKeyName isKey keyFault keyIn keyOf codesOf childrenIn leavesBelow childrenBelow listsFault valuesOf valueListFault valuesFault _after_ placeFault hashFault hintFault besideFault repeatFault namesakeFault levelFault totalFault restFault ownFault keyCharge listCharge treeCharge joined keysIn valuesIn securityOf isItem itemIn itemOf hasRoom isLinked namedBy isJoined linkFault countFault itemFault closesAt ringFault ringOf isAmong offCharge securityCharge checkAnswer page bitsBefore nextAmong bitmap logged old.isLogBase old.headFault old.logFault old.stampsAgree logFault logBins loggedCount nextLogged loggedPlace applies hiveFault testFault startAnswer nextAnswer head log hive bare lone header lowest highest used sized baseBlock rootCell minimal rootWithItem itemCell withItem surveyNumbers checkNumbers startNumbers nextNumbers orderNumber testNumber
 computed = refl
 
 pub figures : Figures

@@ -13,12 +13,12 @@
 // - Nobody changes a buffer during the call. So read a file into memory; do not map one that others may write.
 // - 1 MiB of free stack.
 //
-// A refusal is a number, one of enum HiveFault, a place, and the key under examination. For 9 to 15, 19 and 28 the place is an
-// offset in the bins data: the byte 4096 + place of the file. Any other number has no place, and then place is 0. The key is
+// A refusal is a number, one of enum HiveFault, a place, and the key under examination. For 9 to 15, 19, 28 and 29 the place is
+// an offset in the bins data: the byte 4096 + place of the file. Any other number has no place, and then place is 0. The key is
 // the offset of the last key whose record was accepted, HIVE_NO_KEY before there is one: of a child's bad cell or record it
-// is the key that lists it, of 13 to 15 the place, of 17 the deepest key that was found, of 18 to 20 the key of the value, of
-// 28 the root, or the place where that is a key. In all calls of the repair, and where a value is asked by its offset, it is
-// HIVE_NO_KEY.
+// is the key that lists it, of 13 to 15 the place, of 17 the deepest key that was found, of 18 to 20 and 29 the key of the
+// value, of 28 the root, or the place where that is a key. In all calls of the repair, and where a value is asked by its offset,
+// it is HIVE_NO_KEY.
 use fields::Offset;
 use fields::Refusal;
 use listing::Entry;
@@ -270,7 +270,9 @@ fn reported(c: Checked) -> HiveReport
 
 // Checks a hive wholly: base block, bins, cells, the tree of keys, values and data from the root, and the keys' security items.
 // Number 0 means that all of it is sound, and the report counts what is there. The first fault answers, in this order: 1 to 8;
-// 9 and 10, bin by bin; then 11 to 15 from the root, each key wholly before its next sibling; then 28: the root's own security
+// 9 and 10, bin by bin; then 11 to 15 and 29 from the root, each key wholly before its next sibling: its parent, its order, the
+// hash or hint beside it, its level, its values with their data, 29, its lists and their total; then 28. 29 is the first value
+// of the key's list that has the name of one before it, in either case (place: that value). 28 is the root's own security
 // offset (place: the root); the items from the root's on along their forward links, each for the room of its descriptor, its
 // forward link, which must lead to an item that links back, and its count of keys (place: the item); and the keys whose offset
 // names no item of that ring, in the order of the walk (place: the key). What a descriptor says is not judged.

@@ -17,6 +17,7 @@ use Rattle.values.specs.declared.ValueData.the-variants.{Inline, OneCell, Segme
 use Rattle.values.specs.Records.{dataIn, valueOf}
 use Rattle.values.specs.Segments.{dataFault, bytesOf, lengthOf}
 use Rattle.values.specs.Lists.{valuesOf}
+use Rattle.namesakes.proofs.Laws.{of-one-name, only-one}
 use Rattle.tree.specs.Tree.{levels, hiveOf}
 use Rattle.tree.specs.WellFormed.{CleanAndWellFormed, ValuesStand}
 use Rattle.search.specs.declared.How.the-variants.{InTurn}
@@ -30,7 +31,7 @@ use Rattle.lookup.specs.declared.Copied.the-variants.{Done, Refused as U
 use Rattle.lookup.specs.declared.Spot.the-variants.{Found}
 use Rattle.lookup.specs.declared.ValueFound.the-variants.{At as ValueAt, Refused as Unvalued}
 use Rattle.lookup.specs.Answers.{inKey, valueLook, infoOf, viewFault, infoBy, infoAnswer, viewBy, viewAnswer, viewBytesBy, viewBytes, copyAnswer, copyOut}
-use Rattle.lookup.specs.Reach.{FirstNamed, first, later}
+use Rattle.lookup.specs.Reach.{FirstNamed, first, later, OnlyNamed}
 use Rattle.lookup.proofs.ValueFinds.{value-exactly, value-none, data-good}
 use Rattle.lookup.proofs.Value_searches.{value-below}
 use Rattle.lookup.proofs.Value_answers.{info-missing}
@@ -82,6 +83,12 @@ module _ (h : List ℕ) (w : CleanAndWellFormed h) (us : List ℕ) where
       info-none f =
           info-missing InTurn h us x
           (value-below InTurn h us x at ∙ ap (inKey o) (value-none (binsData h) (w .formed .tiled) (minorOf (sector h)) (keyOf (binsData h) o) stands x f))
+
+      -- the first value of that name is the only one
+      pub only-named : OnlyNamed (binsData h) (minorOf (sector h)) x (valuesOf (binsData h) (keyOf (binsData h) o))
+      only-named i j a b p q =
+          only-one (binsData h) (keyOf (binsData h) o) (stands .distinct) i j a b
+          (of-one-name (binsData h) (minorOf (sector h)) (valuesOf (binsData h) (keyOf (binsData h) o)) i j x p q)
 
       -- ---- the bytes of the first value of that name
       module _ (v : Offset) (named : FirstNamed (binsData h) (minorOf (sector h)) x (valuesOf (binsData h) (keyOf (binsData h) o)) v) where

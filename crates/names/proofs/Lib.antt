@@ -5,3 +5,4 @@ pub mod LawsOrder
 pub mod LawsHash
 pub mod Turns
 pub mod Figures
+pub mod LawsHints

@@ -2,3 +2,4 @@ pub mod Codes
 pub mod Upper_case
 pub mod Comparison
 pub mod Hashing
+pub mod Hints

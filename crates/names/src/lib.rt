@@ -1,12 +1,14 @@
 // Names: the codes of a stored name, upper case, order and hash. Names are read in place and never copied.
 ghost use mathlib.Core.Path.{_≡_};
 ghost use Prim.Native.Nat.{_*_, _%_, _≤_, _<_};
-ghost use lib.Dec.{eqb};
+ghost use mathlib.Core.Bool.{_||_};
+ghost use lib.Dec.{eqb, ltb};
 ghost use lib.ListN.{length, getD};
 ghost use Rattle.names.specs.Codes.{codes, charactersIn, hasCode, backslash};
 ghost use Rattle.names.specs.Upper_case.{upper};
 ghost use Rattle.names.specs.Comparison.{compare, sameName};
 ghost use Rattle.names.specs.Hashing.{mixed, hashOf};
+ghost use Rattle.names.specs.Hints.{fitsHint};
 
 // How many characters a name of so many bytes has.
 pub fn characters(len: usize, narrow: bool) -> usize
@@ -162,6 +164,24 @@ pub fn is_named(s: &[u8], narrow: bool, name: &[u16]) -> bool
     true
 }
 
+// Whether two stored names are the same, by the same comparison.
+pub fn is_same(a: &[u8], a_narrow: bool, b: &[u8], b_narrow: bool) -> bool
+    ensures { λ r. ⌜ r ≡ sameName (codes «a_narrow» (now (a .entry))) (codes «b_narrow» (now (b .entry))) ⌝ }
+{
+    let end = count(a, a_narrow);
+    if count(b, b_narrow) != end {
+        return false;
+    }
+    let mut i = 0;
+    while i < end {
+        if !same_letter(code_at(a, a_narrow, i), code_at(b, b_narrow, i)) {
+            return false;
+        }
+        i += 1;
+    }
+    true
+}
+
 // "A name has .. no backslash"
 pub fn has_backslash(s: &[u8], narrow: bool) -> bool
     ensures { λ r. ⌜ r ≡ hasCode backslash (codes narrow (now (s .entry))) ⌝ }
@@ -203,4 +223,44 @@ pub fn hash(s: &[u8], narrow: bool) -> u32
         i += 1;
     }
     h
+}
+
+// The code at a position, 0 behind the name.
+fn code_or_none(s: &[u8], narrow: bool, i: usize) -> u32
+    ensures { λ r. ⌜ r ≡ getD (codes narrow (now (s .entry))) i 0 ⌝ }
+{
+    if i < count(s, narrow) {
+        return code_at(s, narrow, i) as u32;
+    }
+    0
+}
+
+// "a code above 255 among them"
+fn is_wide(a: u32, b: u32, c: u32, d: u32) -> bool
+    ensures { λ r. ⌜ r ≡ (ltb 255 a || (ltb 255 b || (ltb 255 c || ltb 255 d))) ⌝ }
+{
+    if 255 < a {
+        return true;
+    }
+    if 255 < b {
+        return true;
+    }
+    if 255 < c {
+        return true;
+    }
+    255 < d
+}
+
+// Whether a hint of an `lf` is that of a stored name: "against the first four characters as stored".
+pub fn is_hinted(s: &[u8], narrow: bool, hint: u32) -> bool
+    ensures { λ r. ⌜ r ≡ fitsHint hint (codes narrow (now (s .entry))) ⌝ }
+{
+    let a = code_or_none(s, narrow, 0);
+    let b = code_or_none(s, narrow, 1);
+    let c = code_or_none(s, narrow, 2);
+    let d = code_or_none(s, narrow, 3);
+    if is_wide(a, b, c, d) {
+        return hint % 256 == 0;
+    }
+    hint == a + b * 256 + c * 65536 + d * 16777216
 }

@@ -80,6 +80,6 @@ unfolding listFault headFault leafFault faultOver cellFault cellOf byHeader isNa
 index-of-leaf = refl
 
 two-children : childrenIn indexOfLeaf (leavesOf indexOfLeaf at32)
-    ≡ record { at = record { 0 = 80 }; hashed = true; hash = 65 } ∷ record { at = record { 0 = 88 }; hashed = true; hash = 66 } ∷ []
+    ≡ record { at = record { 0 = 80 }; hashed = true; hinted = false; beside = 65 } ∷ record { at = record { 0 = 88 }; hashed = true; hinted = false; beside = 66 } ∷ []
 unfolding childrenIn leafChildren childrenFrom childAt leavesOf offsetsAt widthOf dataAt dataOf sizeAt standsAt sameBytes u32At u16At
 two-children = refl

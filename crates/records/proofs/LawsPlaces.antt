@@ -5,20 +5,16 @@ use mathlib.Core.Path.{_≡_, refl, sym, ap, _∙_}
 use mathlib.Core.Bool.{Bool, true, false, cond}
 use mathlib.Core.List.{List, [], _∷_}
 use lib.ListN.{length, getD}
-use lib.Dec.{eqb}
-use borrow.Author.Tests.{eqb-true}
 use Rattle.fields.specs.declared.Offset.{Offset}
 use Rattle.fields.specs.declared.Verdict.the-variants.{Sound}
 use Rattle.fields.specs.Faults.{nowhere}
-use Rattle.fields.specs.Bytes.{sameBytes, standsAt}
-use Rattle.fields.proofs.Bools.{and-inv, never}
 use Rattle.cells.specs.declared.Rule.{Rule}
 use Rattle.cells.specs.Named.{dataAt}
 use Rattle.cells.proofs.Parts.{data-small}
 use Rattle.records.specs.declared.Child.{Child}
 use Rattle.records.specs.declared.Leaves.{Leaves}
 use Rattle.records.specs.Offsets.{offsetAt, offsetsAt}
-use Rattle.records.specs.Lists.{isLi, isLh, isRi, countOf, widthOf, isLeaf, isList, childAt, leafChildren, leavesOf, leafFault, headFault}
+use Rattle.records.specs.Lists.{isLi, isRi, countOf, widthOf, isLeaf, isList, childAt, leafChildren, leavesOf, leafFault, headFault}
 use Rattle.records.specs.Steps.{leavesIn, leavesAt, leafNamed, leavesNamed, LeavesLie, leafIn, leafOf, childNamed, ElementsLie}
 use Rattle.records.proofs.LawsRecord.{record-tested}
 use Rattle.records.proofs.ListFacts.{IsLeaf, leaf-facts, index-facts, list-room}
@@ -85,24 +81,14 @@ pub leaf-count : (d : List ℕ) (o : Offset) → leafOf d o .count ≡ length (l
 unfolding leafOf leafIn
 leaf-count d o = sym (leaf-children-length (dataAt d o))
 
--- no list has two signatures
-apart : (r : List ℕ) → isLi r ≡ true → isLh r ≡ true → ⊥
-unfolding standsAt sameBytes
-apart [] p q = never false p refl
-apart (x ∷ []) p q = never _ (and-inv (eqb x 108) _ p .1) refl
-apart (x ∷ y ∷ r) p q =
-    let i = eqb-true y 105 (and-inv (eqb y 105) _ (and-inv (eqb x 108) _ p .1) .0) in
-    let h = eqb-true y 104 (and-inv (eqb y 104) _ (and-inv (eqb x 108) _ q .1) .0) in
-    omega arith
-
--- so an element with a hash has 8 bytes
-wide : (r : List ℕ) → (4 ≤ widthOf r) × (isLh r ≡ true → 8 ≤ widthOf r)
+-- an element has 4 bytes, or 8 with what stands beside the offset
+wide : (r : List ℕ) → (4 ≤ widthOf r) × ((widthOf r ≡ 4 → ⊥) → 8 ≤ widthOf r)
 unfolding widthOf
-wide r = by (isLi r) refl
+wide r = by (isLi r)
   where
-    by : (t : Bool) → isLi r ≡ t → (4 ≤ cond (isLi r) 4 8) × (isLh r ≡ true → 8 ≤ cond (isLi r) 4 8)
-    by true e = rw e (omega arith, λ h. absurd (apart r e h))
-    by false e = rw e (omega arith, λ h. omega arith)
+    by : (t : Bool) → (4 ≤ cond t 4 8) × ((_≡_ {A = ℕ} (cond t 4 8) 4 → ⊥) → 8 ≤ cond t 4 8)
+    by true = (omega arith, λ h. absurd (h refl))
+    by false = (omega arith, λ h. omega arith)
 
 module _ (rule : Rule) (d m : List ℕ) (o : Offset) (e : leafFault rule d m o ≡ Sound) where
   pub leaf-tested : IsLeaf (dataAt d o)
@@ -117,12 +103,16 @@ module _ (rule : Rule) (d m : List ℕ) (o : Offset) (e : leafFault rule d m o �
   unfolding leafOf leafIn
   elements-lie =
       let w = wide (dataAt d o) in
-      record { inside = leaf-tested .holds .room; offset-fits = w .0; hash-fits = w .1 }
+      record { inside = leaf-tested .holds .room; offset-fits = w .0; beside-fits = w .1 }
 
 -- the elements of a leaf are those that stand there
 pub child-is : (d : List ℕ) (o : Offset) (i : ℕ) → childNamed d (leafOf d o) i ≡ childAt (dataAt d o) i
-unfolding childNamed leafOf leafIn childAt
-child-is d o i = refl
+unfolding childNamed leafOf leafIn childAt widthOf
+child-is d o i = by (isLi (dataAt d o)) refl
+  where
+    by : (t : Bool) → isLi (dataAt d o) ≡ t → childNamed d (leafOf d o) i ≡ childAt (dataAt d o) i
+    by true e = rw e
+    by false e = rw e
 
 pub child-at : (d : List ℕ) (o : Offset) (i : ℕ) (z : Child) → i < leafOf d o .count
     → childNamed d (leafOf d o) i ≡ getD (leafChildren (dataAt d o)) i z

@@ -26,4 +26,4 @@ module _ (d : List ℕ) (o : Offset) where
 
   pub leaf-front : leafIn (partIn d o 0 4) o ≡ leafOf d o
   unfolding leafOf leafIn widthOf
-  leaf-front = rw (stands-front 108 105, stands-front 108 104, count-front)
+  leaf-front = rw (stands-front 108 105, stands-front 108 104, stands-front 108 102, count-front)

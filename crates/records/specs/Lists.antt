@@ -48,13 +48,14 @@ hasLeafSignature r = isLi r || (isLf r || isLh r)
 unfoldable pub isLeaf : List ℕ → Bool
 isLeaf r = hasLeafSignature r && hasElements r (widthOf r)
 
--- element i of a leaf; of an `lh` with its hash
+-- element i of a leaf, with what stands beside the offset: the hash of an `lh`, the hint of an `lf`. For the check the scope says: "`lf`: offset, hint"
 unfoldable pub childAt : List ℕ → ℕ → Child
 childAt r i =
     record {
       at = offsetAt r (4 + i * widthOf r);
       hashed = isLh r;
-      hash = cond (isLh r) (u32At r (8 + i * widthOf r)) 0;
+      hinted = isLf r;
+      beside = cond (isLi r) 0 (u32At r (8 + i * widthOf r));
     }
 
 unfoldable pub childrenFrom : List ℕ → ℕ → ℕ → List Child

@@ -3,6 +3,7 @@ use Prim.Native.Nat.{ℕ, zero, suc, _+_, _*_, _≤_}
 use mathlib.Core.Path.{_≡_}
 use mathlib.Core.Bool.{true, false, cond}
 use mathlib.Core.List.{List, [], _∷_}
+use lib.Dec.{eqb}
 use lib.ListN.{length}
 use Rattle.fields.specs.declared.Offset.{Offset}
 use Rattle.fields.specs.declared.Verdict.{Verdict}
@@ -21,7 +22,7 @@ use Rattle.records.specs.declared.Leafed.the-variants as leaf
 use Rattle.records.specs.declared.Totalled.{Totalled}
 use Rattle.records.specs.declared.Totalled.the-variants as total
 use Rattle.records.specs.Offsets.{offsetAt, offsetsAt}
-use Rattle.records.specs.Lists.{isRi, isLh, countOf, widthOf, childrenIn, leafFault}
+use Rattle.records.specs.Lists.{isLf, isRi, isLh, countOf, widthOf, childrenIn, leafFault}
 
 -- the leaves of the list r at an offset
 unfoldable pub leavesIn : List ℕ → Offset → Leaves
@@ -44,7 +45,7 @@ pub record LeavesLie (d : List ℕ) (ls : Leaves) : Type 0 where
 
 -- the elements of the leaf r at an offset
 unfoldable pub leafIn : List ℕ → Offset → Leaf
-leafIn r o = record { cell = o; count = countOf r; width = widthOf r; hashed = isLh r }
+leafIn r o = record { cell = o; count = countOf r; width = widthOf r; hashed = isLh r; hinted = isLf r }
 
 unfoldable pub leafOf : List ℕ → Offset → Leaf
 leafOf d o = leafIn (dataAt d o) o
@@ -56,7 +57,8 @@ childNamed d l i =
     record {
       at = offsetAt r (4 + i * l .width);
       hashed = l .hashed;
-      hash = cond (l .hashed) (u32At r (8 + i * l .width)) 0;
+      hinted = l .hinted;
+      beside = cond (eqb (l .width) 4) 0 (u32At r (8 + i * l .width));
     }
 
 -- the elements of a leaf, as a loop reads them: n of them from element i on, and all
@@ -69,13 +71,13 @@ elementsOf d l = elementsFrom d l 0 (l .count)
 
 -- what stands past the end of a list of children
 abbrev pub noChild : Child
-noChild = record { at = nowhere; hashed = false; hash = 0 }
+noChild = record { at = nowhere; hashed = false; hinted = false; beside = 0 }
 
--- the elements of a leaf lie in its cell's data, with their hashes where they have them
+-- the elements of a leaf lie in its cell's data, with what stands beside their offsets
 pub record ElementsLie (d : List ℕ) (l : Leaf) : Type 0 where
   pub inside : 4 + l .count * l .width ≤ length (dataAt d (l .cell))
   pub offset-fits : 4 ≤ l .width
-  pub hash-fits : l .hashed ≡ true → 8 ≤ l .width
+  pub beside-fits : (l .width ≡ 4 → ⊥) → 8 ≤ l .width
 
 -- the answers: the flaw, or what was found
 abbrev pub headed : Verdict → Leaves → Headed

@@ -11,6 +11,7 @@ ghost use Prim.Native.Nat.{_+_, _≤_, _<_};
 ghost use lib.ListN.{length};
 ghost use Rattle.names.specs.Comparison.{compare, sameName};
 ghost use Rattle.names.specs.Hashing.{hashOf};
+ghost use Rattle.names.specs.Hints.{fitsHint};
 ghost use Rattle.cells.specs.declared.Rule.the-variants.{Header};
 ghost use Rattle.cells.specs.Named.{dataAt};
 ghost use Rattle.records.specs.Keys.{isFlagged, isWhole, isKeyName, isKey, keyIn, keyFault, keyOf, securityOf, keyed, called, NameIn, nameBytes, codesOf};
@@ -35,11 +36,12 @@ pub struct Key {
     pub name: Name,
 }
 
-// An element of a leaf: the key that it names, and its hash where the leaf has hashes.
+// An element of a leaf: the key that it names, and what stands beside: in an `lh` the hash, in an `lf` the hint, in an `li` nothing.
 pub struct Child {
     pub at: Offset,
     pub hashed: bool,
-    pub hash: u32,
+    pub hinted: bool,
+    pub beside: u32,
 }
 
 // Whether a flag, a power of two, is set.
@@ -227,6 +229,22 @@ pub fn is_called(bins: &[u8], n: Name, name: &[u16]) -> bool
     names::is_named(name_part(bins, n), n.narrow, name)
 }
 
+// Whether a hint is that of a stored name.
+pub fn is_hinted(bins: &[u8], n: Name, hint: u32) -> bool
+    requires { ⌜ NameIn (now bins) n ⌝ }
+    ensures { λ r. ⌜ r ≡ fitsHint hint (codesOf (now (bins .entry)) n) ⌝ }
+{
+    names::is_hinted(name_part(bins, n), n.narrow, hint)
+}
+
+// Whether two stored names are the same.
+pub fn is_namesake(bins: &[u8], a: Name, b: Name) -> bool
+    requires { ⌜ NameIn (now bins) a × NameIn (now bins) b ⌝ }
+    ensures { λ r. ⌜ r ≡ sameName (codesOf (now (bins .entry)) a) (codesOf (now (bins .entry)) b) ⌝ }
+{
+    names::is_same(name_part(bins, a), a.narrow, name_part(bins, b), b.narrow)
+}
+
 // "count at 2 (at least 1), elements at 4": room for all elements, of so many bytes each.
 fn has_elements(r: &[u8], width: usize) -> bool
     requires { ⌜ width ≤ 8 ⌝ }
@@ -366,6 +384,7 @@ pub struct Leaf {
     pub count: usize,
     pub width: usize,
     pub hashed: bool,
+    pub hinted: bool,
 }
 
 pub enum Leafed {
@@ -378,11 +397,13 @@ fn leaf_in(r: &[u8], o: Offset) -> Leaf
     requires { ⌜ 4 ≤ length (now r) ⌝ }
     ensures { λ l. ⌜ l ≡ leafIn (now (r .entry)) o ⌝ }
 {
+    let count = fields::u16_at(r, 2) as usize;
     Leaf {
         cell: o,
-        count: fields::u16_at(r, 2) as usize,
+        count,
         width: width_of(r),
         hashed: fields::stands_at(r, 0, b"lh"),
+        hinted: fields::stands_at(r, 0, b"lf"),
     }
 }
 
@@ -413,7 +434,7 @@ pub fn leaf_fields(bins: &[u8], o: Offset) -> Leaf
     leaf_in(cells::part_in(bins, o, 0, 4), o)
 }
 
-// The offset of the key that element i of a leaf names, without its hash.
+// The offset of the key that element i of a leaf names, without what stands beside it.
 pub fn child_offset(bins: &[u8], leaf: Leaf, i: usize) -> Offset
     requires { ⌜ (i < leaf .count) × ElementsLie (now bins) leaf ⌝ }
     ensures { λ o. ⌜ o ≡ childNamed (now (bins .entry)) leaf i .at ⌝ }
@@ -428,17 +449,19 @@ pub fn child_of(bins: &[u8], leaf: Leaf, i: usize) -> Child
 {
     let p = 4 + i * leaf.width;
     let at = Offset(cells::word_in(bins, leaf.cell, p));
-    if leaf.hashed {
+    if leaf.width == 4 {
         return Child {
             at,
-            hashed: true,
-            hash: cells::word_in(bins, leaf.cell, p + 4),
+            hashed: leaf.hashed,
+            hinted: leaf.hinted,
+            beside: 0,
         };
     }
     Child {
         at,
-        hashed: false,
-        hash: 0,
+        hashed: leaf.hashed,
+        hinted: leaf.hinted,
+        beside: cells::word_in(bins, leaf.cell, p + 4),
     }
 }
 

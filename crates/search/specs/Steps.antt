@@ -12,9 +12,9 @@ use Rattle.search.specs.declared.Turn.{Turn}
 use Rattle.search.specs.declared.Turn.the-variants.{Right, Stop}
 use Rattle.search.specs.Quick.{onSoundTurn, lastChild, quickKeys}
 
--- the hash of an element is not asked for, and not read
+-- what stands beside the offset of an element is not asked for, and not read
 abbrev pub byOffset : Offset → Child
-byOffset o = record { at = o; hashed = false; hash = 0 }
+byOffset o = record { at = o; hashed = false; hinted = false; beside = 0 }
 
 -- by its last key, where its first key does not stand behind the name
 abbrev pub askedLast : List ℕ → List ℕ → List Child → Turn

@@ -23,15 +23,17 @@ use Rattle.names.specs.declared.Order.{Order as Ordering}
 use Rattle.names.specs.declared.Order.the-variants.{Before, Same, After as Behind}
 use Rattle.names.specs.Comparison.{compare}
 use Rattle.names.specs.Hashing.{hashOf}
+use Rattle.names.specs.Hints.{fitsHint}
 use Rattle.names.proofs.LawsOrder.{transitive}
 use Rattle.records.specs.declared.Child.{Child}
 use Rattle.records.specs.declared.Key.{Key}
 use Rattle.records.specs.Keys.{keyOf}
 use Rattle.records.specs.Lists.{childrenBelow, children}
+use Rattle.namesakes.proofs.Laws.{distinct-exactly}
 use Rattle.tree.specs.declared.Hive.{Hive}
 use Rattle.tree.specs.declared.Arrival.{Arrival}
 use Rattle.tree.specs.declared.Arrival.the-variants.{Start, First, After}
-use Rattle.tree.specs.Tree.{holder, nameAt, parentFault, isBefore, orderFault, placeFault, hashFault, levelFault, totalFault, restFault, ownFault, keyCharge, listCharge, treeCharge, levels, rootChild}
+use Rattle.tree.specs.Tree.{holder, nameAt, parentFault, isBefore, orderFault, placeFault, hashFault, hintFault, besideFault, levelFault, totalFault, restFault, ownFault, keyCharge, listCharge, treeCharge, levels, rootChild}
 use Rattle.tree.specs.WellFormed.{KeyStands, ChildStands, Ascends, none, more, TreeStands, key}
 use Rattle.records.proofs.Facts.{key-exactly}
 use Rattle.tree.proofs.Stands.{values-of, of-values, lists-of, of-lists, key-of, of-key}
@@ -74,17 +76,31 @@ module _ (d m : List ℕ) (hive : Hive) (tiles : BinsTile d 0) (mapped : Mapped 
   unfolding orderFault
   of-order b at e = holds {t = isBefore (compare (nameAt d b) (nameAt d at))} (flaw Order at) (ap isBefore e)
 
-  hash-of : (c : Child) → hashFault d (keyOf d (c .at)) c ≡ Sound → c .hashed ≡ true → c .hash ≡ hashOf (nameAt d (c .at))
+  hash-of : (c : Child) → hashFault d (keyOf d (c .at)) c ≡ Sound → c .hashed ≡ true → c .beside ≡ hashOf (nameAt d (c .at))
   unfolding hashFault
   hash-of c e f =
-      let t = eqb (c .hash) (hashOf (nameAt d (c .at))) in
+      let t = eqb (c .beside) (hashOf (nameAt d (c .at))) in
       eqb-true _ _ (unless-set (c .hashed) t (held (not (c .hashed) || t) (flaw Order (c .at)) e) f)
 
-  of-hash : (c : Child) → (c .hashed ≡ true → c .hash ≡ hashOf (nameAt d (c .at))) → hashFault d (keyOf d (c .at)) c ≡ Sound
+  of-hash : (c : Child) → (c .hashed ≡ true → c .beside ≡ hashOf (nameAt d (c .at))) → hashFault d (keyOf d (c .at)) c ≡ Sound
   unfolding hashFault
   of-hash c f =
-      let t = eqb (c .hash) (hashOf (nameAt d (c .at))) in
+      let t = eqb (c .beside) (hashOf (nameAt d (c .at))) in
       holds {t = not (c .hashed) || t} (flaw Order (c .at)) (set-or (c .hashed) t (λ e. eq-eqb _ _ (f e)))
+
+  hint-of : (c : Child) → hintFault d (keyOf d (c .at)) c ≡ Sound → c .hinted ≡ true → fitsHint (c .beside) (nameAt d (c .at)) ≡ true
+  unfolding hintFault
+  hint-of c e f =
+      let t = fitsHint (c .beside) (nameAt d (c .at)) in unless-set (c .hinted) t (held (not (c .hinted) || t) (flaw Order (c .at)) e) f
+
+  of-hint : (c : Child) → (c .hinted ≡ true → fitsHint (c .beside) (nameAt d (c .at)) ≡ true) → hintFault d (keyOf d (c .at)) c ≡ Sound
+  unfolding hintFault
+  of-hint c f = let t = fitsHint (c .beside) (nameAt d (c .at)) in holds {t = not (c .hinted) || t} (flaw Order (c .at)) (set-or (c .hinted) t f)
+
+  of-beside : (c : Child) → (c .hashed ≡ true → c .beside ≡ hashOf (nameAt d (c .at)))
+      → (c .hinted ≡ true → fitsHint (c .beside) (nameAt d (c .at)) ≡ true) → besideFault d (keyOf d (c .at)) c ≡ Sound
+  unfolding besideFault
+  of-beside c f g = sound _ _ (of-hash c f) (of-hint c g)
 
   total-of : (k : Key) (at : Offset) → totalFault d k at ≡ Sound → length (childrenBelow d k) ≡ k .subkeys
   unfolding totalFault
@@ -104,7 +120,7 @@ module _ (d m : List ℕ) (hive : Hive) (tiles : BinsTile d 0) (mapped : Mapped 
       record {
         in-use = r .0;
         record-good = key-exactly (dataAt d (c .at)) .0 (r .1);
-        values = values-of d m tiles mapped (hive .minor) (keyOf d (c .at)) (o .values);
+        values = values-of d m tiles mapped (hive .minor) (keyOf d (c .at)) (o .values) (o .names);
         lists = lists-of d m tiles mapped (keyOf d (c .at)) (o .lists);
         total = total-of (keyOf d (c .at)) (c .at) (o .total);
       }
@@ -126,7 +142,7 @@ module _ (d m : List ℕ) (hive : Hive) (tiles : BinsTile d 0) (mapped : Mapped 
   child-stands n p c l b e =
       let o = key-parts d m hive n c l e .1 in
       let q = parent-of (keyOf d (c .at)) (c .at) p (parent-at p (keyOf d (c .at)) (c .at) l b (o .place)) in
-      record { parent = q .0; other = q .1; hash = hash-of c (o .hash) }
+      record { parent = q .0; other = q .1; hash = hash-of c (o .hash); hint = hint-of c (o .hint) }
 
   module _ (n : ℕ) (p : Offset) where
     -- each key of a list without charge has none, at some place in it
@@ -175,7 +191,7 @@ module _ (d m : List ℕ) (hive : Hive) (tiles : BinsTile d 0) (mapped : Mapped 
   -- ---- it stands: no charge
 
   of-stands : (n : ℕ) (c : Child) (l : Arrival) → KeyStands d (hive .minor) (c .at) → placeFault d (hive .root) (keyOf d (c .at)) (c .at) l ≡ Sound
-      → hashFault d (keyOf d (c .at)) c ≡ Sound → keyCharge d m hive (suc n) c l ≡ Free
+      → besideFault d (keyOf d (c .at)) c ≡ Sound → keyCharge d m hive (suc n) c l ≡ Free
   unfolding keyCharge ownFault restFault levelFault
   of-stands n c l s p h =
       free _ _ (ap (chargeOf (holder l)) (of-key Map d m (in-use-sound d tiles m mapped) (c .at) (s .in-use) (key-exactly (dataAt d (c .at)) .1 (s .record-good))))
@@ -184,7 +200,8 @@ module _ (d m : List ℕ) (hive : Hive) (tiles : BinsTile d 0) (mapped : Mapped 
       (sound _ _ h
       (sound Sound _ refl
       (sound _ _ (of-values Map d m (in-use-sound d tiles m mapped) (hive .minor) (keyOf d (c .at)) (s .values))
-      (sound _ _ (of-lists Map d m (in-use-sound d tiles m mapped) (keyOf d (c .at)) (s .lists)) (of-total (keyOf d (c .at)) (c .at) (s .total))))))))
+      (sound _ _ (distinct-exactly d (keyOf d (c .at)) .1 (s .values .distinct))
+      (sound _ _ (of-lists Map d m (in-use-sound d tiles m mapped) (keyOf d (c .at)) (s .lists)) (of-total (keyOf d (c .at)) (c .at) (s .total)))))))))
 
   first-of : (p : Offset) (c : Child) → ChildStands d (hive .root) p c → placeFault d (hive .root) (keyOf d (c .at)) (c .at) (First p) ≡ Sound
   unfolding placeFault
@@ -198,7 +215,7 @@ module _ (d m : List ℕ) (hive : Hive) (tiles : BinsTile d 0) (mapped : Mapped 
   module _ (n : ℕ) (p : Offset) where
     abbrev Each : List Child → Type 0
     Each cs = (c : Child) → List·Memᴰ c cs → (l : Arrival) → placeFault d (hive .root) (keyOf d (c .at)) (c .at) l ≡ Sound
-        → hashFault d (keyOf d (c .at)) c ≡ Sound → treeCharge d m hive n c l ≡ Free
+        → besideFault d (keyOf d (c .at)) c ≡ Sound → treeCharge d m hive n c l ≡ Free
 
     lists-after : (b : Child) (cs : List Child) → Ascends d (b ∷ cs) → ((c : Child) → List·Memᴰ c cs → ChildStands d (hive .root) p c) → Each cs
         → listCharge (treeCharge d m hive n) p (After p (b .at)) cs ≡ Free
@@ -206,7 +223,7 @@ module _ (d m : List ℕ) (hive : Hive) (tiles : BinsTile d 0) (mapped : Mapped 
     lists-after b [] a ch each = refl
     lists-after b (c ∷ cs) (more f a) ch each =
         let s = ch c (List·Memᴰ·head refl) in
-        free _ _ (each c (List·Memᴰ·head refl) (After p (b .at)) (after-of p b c s (f c (List·Memᴰ·head refl))) (of-hash c (s .hash)))
+        free _ _ (each c (List·Memᴰ·head refl) (After p (b .at)) (after-of p b c s (f c (List·Memᴰ·head refl))) (of-beside c (s .hash) (s .hint)))
         (lists-after c cs a (λ e i. ch e (List·Memᴰ·tail i)) (λ e i. each e (List·Memᴰ·tail i)))
 
     lists-of-stands : (cs : List Child) → Ascends d cs → ((c : Child) → List·Memᴰ c cs → ChildStands d (hive .root) p c) → Each cs
@@ -215,11 +232,11 @@ module _ (d m : List ℕ) (hive : Hive) (tiles : BinsTile d 0) (mapped : Mapped 
     lists-of-stands [] a ch each = refl
     lists-of-stands (c ∷ cs) a ch each =
         let s = ch c (List·Memᴰ·head refl) in
-        free _ _ (each c (List·Memᴰ·head refl) (First p) (first-of p c s) (of-hash c (s .hash)))
+        free _ _ (each c (List·Memᴰ·head refl) (First p) (first-of p c s) (of-beside c (s .hash) (s .hint)))
         (lists-after c cs a (λ e i. ch e (List·Memᴰ·tail i)) (λ e i. each e (List·Memᴰ·tail i)))
 
   stands-free : (n : ℕ) (c : Child) (l : Arrival) → placeFault d (hive .root) (keyOf d (c .at)) (c .at) l ≡ Sound
-      → hashFault d (keyOf d (c .at)) c ≡ Sound → TreeStands d hive n (c .at) → treeCharge d m hive n c l ≡ Free
+      → besideFault d (keyOf d (c .at)) c ≡ Sound → TreeStands d hive n (c .at) → treeCharge d m hive n c l ≡ Free
   stands-free (suc n) c l p h (key s a ch tree) =
       tree-free d m hive n c l (of-stands n c l s p h)
       (lists-of-stands n (c .at) (children d (c .at)) a ch (λ e i x q g. stands-free n e x q g (tree e i)))
@@ -235,4 +252,4 @@ module _ (d m : List ℕ) (hive : Hive) (tiles : BinsTile d 0) (mapped : Mapped 
   pub root-free : TreeStands d hive levels (hive .root) → treeCharge d m hive levels (rootChild hive) Start ≡ Free
   root-free s =
       stands-free levels (rootChild hive) Start (start-sound _ _)
-      (of-hash (rootChild hive) (λ e. absurd (let z : _≡_ {A = ℕ} 0 1 = cc in omega arith))) s
+      (of-beside (rootChild hive) (λ e. absurd (let z : _≡_ {A = ℕ} 0 1 = cc in omega arith)) (λ e. absurd (let z : _≡_ {A = ℕ} 0 1 = cc in omega arith))) s

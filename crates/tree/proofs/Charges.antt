@@ -14,12 +14,13 @@ use Rattle.records.specs.declared.Key.{Key}
 use Rattle.records.specs.Keys.{keyFault, keyOf}
 use Rattle.records.specs.Lists.{children, listsFault}
 use Rattle.values.specs.Lists.{valuesFault}
+use Rattle.namesakes.specs.Namesakes.{namesakeFault}
 use Rattle.tree.specs.declared.Checked.the-variants.{Accepted, Refused}
 use Rattle.tree.specs.declared.Hive.{Hive}
 use Rattle.tree.specs.declared.Report.{Report}
 use Rattle.tree.specs.declared.Arrival.{Arrival}
 use Rattle.tree.specs.declared.Arrival.the-variants.{First}
-use Rattle.tree.specs.Tree.{holder, placeFault, hashFault, levelFault, totalFault, restFault, ownFault, keyCharge, listCharge, treeCharge, answer}
+use Rattle.tree.specs.Tree.{holder, placeFault, hashFault, hintFault, besideFault, levelFault, totalFault, restFault, ownFault, keyCharge, listCharge, treeCharge, answer}
 
 -- an answer is a refusal exactly when there is a charge
 pub accepted-free : (c : Charge) (r : Report) {s : Report} → answer c r ≡ Accepted s → (c ≡ Free) × (r ≡ s)
@@ -34,21 +35,25 @@ refused-charge (Of g) r e = cc
 pub record Own (d m : List ℕ) (hive : Hive) (n : ℕ) (k : Key) (c : Child) (l : Arrival) : Type 0 where
   pub place : placeFault d (hive .root) k (c .at) l ≡ Sound
   pub hash : hashFault d k c ≡ Sound
+  pub hint : hintFault d k c ≡ Sound
   pub level : levelFault n (c .at) ≡ Sound
   pub values : valuesFault Map d m (hive .minor) k ≡ Sound
+  pub names : namesakeFault d k ≡ Sound
   pub lists : listsFault Map d m k ≡ Sound
   pub total : totalFault d k (c .at) ≡ Sound
 
 module _ (d m : List ℕ) (hive : Hive) where
   pub own-parts : (n : ℕ) (k : Key) (c : Child) (l : Arrival) → ownFault d m hive n k c l ≡ Sound → Own d m hive n k c l
-  unfolding ownFault restFault
+  unfolding ownFault besideFault restFault
   own-parts n k c l e =
       let p = both (placeFault d (hive .root) k (c .at) l) _ e in
-      let h = both (hashFault d k c) _ (p .1) in
-      let v = both (levelFault n (c .at)) _ (h .1) in
+      let b = both (besideFault d k c) _ (p .1) in
+      let h = both (hashFault d k c) _ (b .0) in
+      let v = both (levelFault n (c .at)) _ (b .1) in
       let x = both (valuesFault Map d m (hive .minor) k) _ (v .1) in
-      let y = both (listsFault Map d m k) _ (x .1) in
-      record { place = p .0; hash = h .0; level = v .0; values = x .0; lists = y .0; total = y .1 }
+      let s = both (namesakeFault d k) _ (x .1) in
+      let y = both (listsFault Map d m k) _ (s .1) in
+      record { place = p .0; hash = h .0; hint = h .1; level = v .0; values = x .0; names = s .0; lists = y .0; total = y .1 }
 
   -- with no level left some charge stands
   pub level-zero : (c : Child) → levelFault 0 (c .at) ≡ Sound → ⊥

@@ -8,7 +8,8 @@ use lib.ListN.{length}
 use Rattle.fields.specs.declared.Flaw.{Flaw}
 use Rattle.fields.specs.declared.Offset.{Offset}
 use Rattle.fields.specs.declared.Refusal.{Refusal}
-use Rattle.fields.specs.Faults.{numberOf, noKey, refusalOf}
+use Rattle.fields.specs.declared.Fault.the-variants.{Namesake}
+use Rattle.fields.specs.Faults.{numberOf, nowhere, flaw, noKey, refusalOf}
 use Rattle.fields.proofs.Bools.{never}
 use Rattle.base.specs.Block.{binsData}
 use Rattle.base.proofs.Refusals.{base-number}
@@ -17,14 +18,18 @@ use Rattle.cells.specs.Tiled.{InUse}
 use Rattle.cells.specs.Refused.{OfSurvey, of-base, map-small, of-bins}
 use Rattle.cells.proofs.Refusals.{bins-number}
 use Rattle.cells.proofs.Tiles.{wholly-inside}
+use Rattle.records.specs.Keys.{keyOf}
 use Rattle.records.specs.Lists.{children}
 use Rattle.records.specs.Listed.{keysIn}
+use Rattle.records.proofs.Elements.{at-in}
 use Rattle.records.proofs.Listed.{joined-in}
+use Rattle.values.specs.Lists.{valuesOf}
 use Rattle.values.specs.Refused.{Role, a-key, Fit, Unfit, no-cell, no-record}
+use Rattle.namesakes.specs.Namesakes.{Repeats}
 use Rattle.security.specs.Refused.{OfSecurity, no-item, no-room, no-link, other-count, off-ring}
 use Rattle.tree.specs.declared.Checked.the-variants.{Refused}
 use Rattle.tree.specs.Tree.{hiveOf, keysOf, checkAnswer}
-use Rattle.tree.specs.Told.{Reached, the-root, a-child, OfTree, of-root, of-lists, of-values, of-data, no-order, other-hash, other-parent, root-listed, other-total, too-deep, Told, of-survey, of-tree, of-security, Examined}
+use Rattle.tree.specs.Told.{Reached, the-root, a-child, OfTree, of-root, of-lists, of-values, of-data, of-namesake, no-order, other-hash, other-hint, other-parent, root-listed, other-total, too-deep, Told, of-survey, of-tree, of-security, Examined}
 use Rattle.tree.proofs.Tells.{unfit-number, among-number, check-tells}
 
 fit-not : {d : List ℕ} {w : Role} {o : Offset} {f : Flaw} → Unfit Map d w o f → Fit Map d w o → ⊥
@@ -69,6 +74,7 @@ module _ (h : List ℕ) where
         reached = λ p q g. absurd (fit-not u g);
         placed = λ p q. absurd (omega arith);
         ringed = λ p. absurd (omega arith);
+        holding = λ p. absurd (omega arith);
       }
 
   by-key : {n : ℕ} {k : Offset} {f : Flaw} → Reached (binsData h) (hiveOf h .root) n k → n ≤ 512 → (11 ≤ numberOf (f .fault)) × (numberOf (f .fault) ≤ 12)
@@ -83,6 +89,7 @@ module _ (h : List ℕ) where
         reached = λ p q g. (reached-fit (binsData h) (hiveOf h .root) r, reached-in (binsData h) (hiveOf h .root) r l);
         placed = λ p q. absurd (omega (arith, n .1));
         ringed = λ p. absurd (omega (arith, n .1));
+        holding = λ p. absurd (omega (arith, n .1));
       }
 
   by-place : {f : Flaw} → 13 ≤ numberOf (f .fault) → numberOf (f .fault) ≤ 15 → Examined h (refusalOf (f .place) f)
@@ -93,6 +100,23 @@ module _ (h : List ℕ) where
         reached = λ p q g. absurd (omega arith);
         placed = λ p q. refl;
         ringed = λ p. absurd (omega arith);
+        holding = λ p. absurd (omega arith);
+      }
+
+  -- 29
+  by-value : {n : ℕ} {k v : Offset} → Reached (binsData h) (hiveOf h .root) n k → n ≤ 512 → Repeats (binsData h) (keyOf (binsData h) k) v
+      → Examined h (refusalOf k (flaw Namesake v))
+  by-value {k = k} r l x =
+      record {
+        early = λ q. absurd (let z : 29 ≤ 10 = q in omega arith);
+        rootless = λ q s. absurd (let z : 29 ≤ 12 = s in omega arith);
+        reached = λ q s g. absurd (let z : 29 ≤ 12 = s in omega arith);
+        placed = λ q s. absurd (let z : 29 ≤ 15 = s in omega arith);
+        ringed = λ q. absurd (let z : _≡_ {A = ℕ} 29 28 = q in omega arith);
+        holding = λ q. (
+          reached-in (binsData h) (hiveOf h .root) r l,
+          subst (λ (o : Offset). List·Memᴰ o (valuesOf (binsData h) (keyOf (binsData h) k))) (sym (x .here)) (at-in _ (x .at) nowhere (x .inside)),
+        );
       }
 
   by-tree : {k : Offset} {f : Flaw} → OfTree (binsData h) (hiveOf h) k f → Examined h (refusalOf k f)
@@ -102,6 +126,8 @@ module _ (h : List ℕ) where
   by-tree (of-data r p i g a) = by-key r p (among-number (binsData h) (hiveOf h) a)
   by-tree (no-order r i g p) = by-place (omega arith) (omega arith)
   by-tree (other-hash r i g p q) = by-place (omega arith) (omega arith)
+  by-tree (other-hint r i g p q) = by-place (omega arith) (omega arith)
+  by-tree (of-namesake r p x) = by-value r p x
   by-tree (other-parent r i g p) = by-place (omega arith) (omega arith)
   by-tree (root-listed r i g p) = by-place (omega arith) (omega arith)
   by-tree (other-total r p) = by-place (omega arith) (omega arith)
@@ -116,6 +142,7 @@ module _ (h : List ℕ) where
         reached = λ q s g. absurd (omega arith);
         placed = λ q s. absurd (omega arith);
         ringed = λ q. (i, p);
+        holding = λ q. absurd (omega arith);
       }
 
   root-listed-first : List·Memᴰ (hiveOf h .root) (keysOf h)
@@ -143,6 +170,7 @@ module _ (h : List ℕ) where
         reached = λ p q g. absurd (omega arith);
         placed = λ p q. absurd (omega arith);
         ringed = λ p. absurd (omega arith);
+        holding = λ p. absurd (omega arith);
       }
   by-told room (of-tree b t) = by-tree t
   by-told room (of-security b s t) = by-ring t

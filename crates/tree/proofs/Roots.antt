@@ -36,7 +36,7 @@ none = record { keys = 0; values = 0 }
 
 -- the walk's arguments, as they are read from the base block
 pub root-is : (h m : List ℕ) {minor : ℕ} {root : Offset} {bins : List ℕ} → minor ≡ minorOf (sector h) → root ≡ rootOf (sector h) → bins ≡ binsData h
-    → keyAnswer bins m (record { minor = minor; root = root }) levels (record { at = root; hashed = false; hash = 0 }) Start none
+    → keyAnswer bins m (record { minor = minor; root = root }) levels (record { at = root; hashed = false; hinted = false; beside = 0 }) Start none
     ≡ keyAnswer (binsData h) m (hiveOf h) levels (rootChild (hiveOf h)) Start none
 root-is h m p q r = rw (r, p, q)
 

@@ -27,6 +27,8 @@ use Rattle.values.specs.declared.ValueData.the-variants.{Inline, OneCell, Segme
 use Rattle.values.specs.Records.{isValue, valueFault, dataIn}
 use Rattle.values.specs.Segments.{roomFault, isDb, dbFault, segmentsOf, segmentFault, segmentListFault, segmentsFault, dataFault}
 use Rattle.values.specs.Lists.{valuesOf, valueListFault, wholeValueFault, valuesFault}
+use Rattle.namesakes.specs.Namesakes.{namesakeFault}
+use Rattle.namesakes.proofs.Laws.{distinct-exactly}
 use Rattle.tree.specs.WellFormed.{Room, Segmented, DataStands, ValueStands, ValuesStand, LeafStands, ListStands}
 use Rattle.records.proofs.Facts.{signed-exactly}
 use Rattle.tree.proofs.Facts.{leaf-exactly, list-exactly, value-exactly, db-exactly}
@@ -134,13 +136,14 @@ module _ (d m : List ℕ) (tiles : BinsTile d 0) (mapped : Mapped d m) where
         let y = cell-of v (isValue (dataAt d v)) (flaw Record v) (x .0) in
         record { in-use = y .0; record-good = value-exactly (dataAt d v) .0 (y .1); held = data-of (dataIn d minor v) (x .1) }
 
-    pub values-of : (k : Key) → valuesFault Map d m minor k ≡ Sound → ValuesStand d minor k
+    pub values-of : (k : Key) → valuesFault Map d m minor k ≡ Sound → namesakeFault d k ≡ Sound → ValuesStand d minor k
     unfolding valuesFault valueListFault
-    values-of k e =
+    values-of k e s =
         let x = both (valueListFault Map d m k) _ e in
         record {
           list = λ ne. room-of _ _ (unless-zero (k .values) (x .0) ne);
           each = λ v i. value-of v (over-each (wholeValueFault Map d m minor) (valuesOf d k) (x .1) v i);
+          distinct = distinct-exactly d k .0 s;
         }
 
   leaf-of : (o : Offset) → leafFault Map d m o ≡ Sound → LeafStands d o

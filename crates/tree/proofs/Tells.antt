@@ -13,7 +13,7 @@ use Rattle.fields.specs.declared.Flaw.{Flaw}
 use Rattle.fields.specs.declared.Refusal.{Refusal}
 use Rattle.fields.specs.declared.Verdict.{Verdict}
 use Rattle.fields.specs.declared.Verdict.the-variants.{Sound, Flawed}
-use Rattle.fields.specs.Faults.{numberOf, flaw, unless, noKey, refusalOf, Because}
+use Rattle.fields.specs.Faults.{numberOf, flaw, unless, _next_, noKey, refusalOf, Because}
 use Rattle.fields.specs.Charges.{Charge, chargeOf, _after_}
 use Rattle.fields.proofs.Charges.{clear-of, because, Charges, after-charges, flaw-charges}
 use Rattle.fields.proofs.Every.{Every, every-sound, every-flaw, every-unless, every-next, every-over}
@@ -30,6 +30,7 @@ use Rattle.names.specs.declared.Order.{Order as Ordering}
 use Rattle.names.specs.declared.Order.the-variants.{Before, Same, After as Behind}
 use Rattle.names.specs.Comparison.{compare}
 use Rattle.names.specs.Hashing.{hashOf}
+use Rattle.names.specs.Hints.{fitsHint}
 use Rattle.records.specs.declared.Child.{Child}
 use Rattle.records.specs.Keys.{keyFault, keyOf}
 use Rattle.records.specs.Lists.{children, listsFault}
@@ -38,14 +39,16 @@ use Rattle.values.specs.Segments.{dataFault}
 use Rattle.values.specs.Lists.{valuesOf, valueListFault, wholeValueFault, valuesFault}
 use Rattle.values.specs.Refused.{Role, a-key, Fit, Unfit, no-cell, no-record, Among, one-of, its-child}
 use Rattle.values.proofs.Refusals.{key-fit, key-unfit, value-fit, value-unfit, lists-unfit, value-list-unfit, value-named, data-unfit}
+use Rattle.namesakes.specs.Namesakes.{namesakeFault}
+use Rattle.namesakes.proofs.Laws.{namesake-told}
 use Rattle.security.specs.Refused.{OfSecurity, no-item, no-room, no-link, other-count, off-ring}
 use Rattle.security.proofs.Tells.{security-tells}
 use Rattle.tree.specs.declared.Checked.the-variants.{Refused}
 use Rattle.tree.specs.declared.Hive.{Hive}
 use Rattle.tree.specs.declared.Arrival.{Arrival}
 use Rattle.tree.specs.declared.Arrival.the-variants.{Start, First, After}
-use Rattle.tree.specs.Tree.{holder, nameAt, isBefore, parentFault, orderFault, placeFault, hashFault, levelFault, totalFault, restFault, ownFault, keyCharge, listCharge, treeCharge, levels, hiveOf, rootChild, keysOf, walkCharge, ringCharge, onTiled, checkAnswer}
-use Rattle.tree.specs.Told.{Reached, the-root, a-child, Follows, at-once, later, OfTree, of-root, of-lists, of-values, of-data, no-order, other-hash, other-parent, root-listed, other-total, too-deep, Told, of-survey, of-tree, of-security}
+use Rattle.tree.specs.Tree.{holder, nameAt, isBefore, parentFault, orderFault, placeFault, hashFault, hintFault, besideFault, levelFault, totalFault, restFault, ownFault, keyCharge, listCharge, treeCharge, levels, hiveOf, rootChild, keysOf, walkCharge, ringCharge, onTiled, checkAnswer}
+use Rattle.tree.specs.Told.{Reached, the-root, a-child, Follows, at-once, later, OfTree, of-root, of-lists, of-values, of-data, of-namesake, no-order, other-hash, other-hint, other-parent, root-listed, other-total, too-deep, Told, of-survey, of-tree, of-security}
 use Rattle.tree.specs.WellFormed.{TreeStands}
 use Rattle.tree.proofs.Accepted.{root-stands}
 use Rattle.tree.proofs.Charges.{refused-charge, level-zero, key-parts}
@@ -54,10 +57,10 @@ follows-in : {b c : Child} {cs : List Child} → Follows b c cs → List·Memᴰ
 follows-in at-once = List·Memᴰ·tail (List·Memᴰ·head refl)
 follows-in (later f) = List·Memᴰ·tail (follows-in f)
 
--- an `lh` element whose hash is another
-hashes : (hashed same : Bool) → not hashed || same ≡ false → (hashed ≡ true) × (same ≡ false)
-hashes true same e = (refl, e)
-hashes false same e = absurd (let z : _≡_ {A = ℕ} 0 1 = cc in omega arith)
+-- an `lh` element whose hash is another, or an `lf` element whose hint does not fit
+besides : (set same : Bool) → not set || same ≡ false → (set ≡ true) × (same ≡ false)
+besides true same e = (refl, e)
+besides false same e = absurd (let z : _≡_ {A = ℕ} 0 1 = cc in omega arith)
 
 not-before : (o : Ordering) → isBefore o ≡ false → o ≡ Before → ⊥
 not-before Before e p = let z : _≡_ {A = ℕ} 0 1 = cc in omega arith
@@ -107,15 +110,21 @@ module _ (d m : List ℕ) (tiles : BinsTile d 0) (mapped : Mapped d m) (hive : H
       every-next (OfTree d hive (c .at)) (parentFault (hive .root) (keyOf d (c .at)) (c .at) k) _ (parent-tells c r (follows-in i) g)
       (λ s. every-unless (OfTree d hive (c .at)) (isBefore (compare (nameAt d (b .at)) (nameAt d (c .at)))) _ (λ e. no-order r i g (not-before _ e)))
 
-  hash-tells : {n : ℕ} {c : Child} {l : Arrival} → Place n c l → Fit Map d a-key (c .at) → Every (OfTree d hive (c .at)) (hashFault d (keyOf d (c .at)) c)
-  unfolding hashFault
-  hash-tells at-start g = every-sound (OfTree d hive (hive .root))
-  hash-tells {c = c} (at-first r i) g =
-      every-unless (OfTree d hive (c .at)) (not (c .hashed) || eqb (c .hash) (hashOf (nameAt d (c .at)))) _
-      (λ e. let h = hashes (c .hashed) (eqb (c .hash) (hashOf (nameAt d (c .at)))) e in other-hash r i g (h .0) (eqb-false _ _ (h .1)))
-  hash-tells {c = c} (at-after r i) g =
-      every-unless (OfTree d hive (c .at)) (not (c .hashed) || eqb (c .hash) (hashOf (nameAt d (c .at)))) _
-      (λ e. let h = hashes (c .hashed) (eqb (c .hash) (hashOf (nameAt d (c .at)))) e in other-hash r (follows-in i) g (h .0) (eqb-false _ _ (h .1)))
+  hash-tells : {n : ℕ} {k : Offset} (c : Child) → Reached d (hive .root) n k → List·Memᴰ c (children d k) → Fit Map d a-key (c .at)
+      → Every (OfTree d hive (c .at)) (besideFault d (keyOf d (c .at)) c)
+  unfolding besideFault hashFault hintFault
+  hash-tells c r i g =
+      every-next (OfTree d hive (c .at)) (unless (not (c .hashed) || eqb (c .beside) (hashOf (nameAt d (c .at)))) (flaw named.Order (c .at))) _
+      (every-unless (OfTree d hive (c .at)) (not (c .hashed) || eqb (c .beside) (hashOf (nameAt d (c .at)))) _
+      (λ e. let h = besides (c .hashed) (eqb (c .beside) (hashOf (nameAt d (c .at)))) e in other-hash r i g (h .0) (eqb-false _ _ (h .1))))
+      (λ s. every-unless (OfTree d hive (c .at)) (not (c .hinted) || fitsHint (c .beside) (nameAt d (c .at))) _
+      (λ e. let h = besides (c .hinted) (fitsHint (c .beside) (nameAt d (c .at))) e in other-hint r i g (h .0) (h .1)))
+
+  beside-tells : {n : ℕ} {c : Child} {l : Arrival} → Place n c l → Fit Map d a-key (c .at) → Every (OfTree d hive (c .at)) (besideFault d (keyOf d (c .at)) c)
+  unfolding besideFault hashFault hintFault _next_
+  beside-tells at-start g = every-sound (OfTree d hive (hive .root))
+  beside-tells {c = c} (at-first r i) g = hash-tells c r i g
+  beside-tells {c = c} (at-after r i) g = hash-tells c r (follows-in i) g
 
   -- the level, the values, the lists and the total
   module _ {lv : ℕ} {k : Offset} (r : Reached d (hive .root) lv k) where
@@ -125,7 +134,7 @@ module _ (d m : List ℕ) (tiles : BinsTile d 0) (mapped : Mapped d m) (hive : H
     level-tells (suc n) e = every-sound (OfTree d hive k)
 
     level-left : (n : ℕ) → lv + n ≡ 513 → levelFault n k ≡ Sound → lv ≤ 512
-    level-left zero e s = absurd (level-zero d m hive (record { at = k; hashed = false; hash = 0 }) s)
+    level-left zero e s = absurd (level-zero d m hive (record { at = k; hashed = false; hinted = false; beside = 0 }) s)
     level-left (suc n) e s = omega arith
 
     values-tell : lv ≤ 512 → Every (OfTree d hive k) (valuesFault Map d m (hive .minor) (keyOf d k))
@@ -137,20 +146,24 @@ module _ (d m : List ℕ) (tiles : BinsTile d 0) (mapped : Mapped d m) (hive : H
         (λ f e. of-values r b (one-of (value-named Map d m ruled k v s i) (value-unfit Map d m ruled v f e)))
         (λ t f e. of-data r b i (value-fit Map d m ruled v t) (data-unfit Map d m ruled (dataIn d (hive .minor) v) f e))))
 
+    names-tell : lv ≤ 512 → Every (OfTree d hive k) (namesakeFault d (keyOf d k))
+    names-tell b f e = let w = namesake-told d (keyOf d k) e in subst (λ (x : Flaw). OfTree d hive k x) (sym (w .1)) (of-namesake r b (w .2))
+
     rest-tells : (n : ℕ) → lv + n ≡ 513 → Every (OfTree d hive k) (restFault d m (hive .minor) n (keyOf d k) k)
     unfolding restFault totalFault
     rest-tells n e =
         every-next (OfTree d hive k) (levelFault n k) _ (level-tells n e)
         (λ a. every-next (OfTree d hive k) (valuesFault Map d m (hive .minor) (keyOf d k)) _ (values-tell (level-left n e a))
-        (λ b. every-next (OfTree d hive k) (listsFault Map d m (keyOf d k)) _ (λ f p. of-lists r (level-left n e a) (lists-unfit Map d m ruled k f p))
-        (λ c. every-unless (OfTree d hive k) (eqb (length (children d k)) (keyOf d k .subkeys)) _ (λ p. other-total r (eqb-false _ _ p)))))
+        (λ b. every-next (OfTree d hive k) (namesakeFault d (keyOf d k)) _ (names-tell (level-left n e a))
+        (λ s. every-next (OfTree d hive k) (listsFault Map d m (keyOf d k)) _ (λ f p. of-lists r (level-left n e a) (lists-unfit Map d m ruled k f p))
+        (λ c. every-unless (OfTree d hive k) (eqb (length (children d k)) (keyOf d k .subkeys)) _ (λ p. other-total r (eqb-false _ _ p))))))
 
   own-tells : {lv : ℕ} {c : Child} {l : Arrival} → Place lv c l → Fit Map d a-key (c .at) → (n : ℕ) → lv + n ≡ 513
       → Every (OfTree d hive (c .at)) (ownFault d m hive n (keyOf d (c .at)) c l)
   unfolding ownFault
   own-tells {c = c} {l = l} p g n e =
       every-next (OfTree d hive (c .at)) (placeFault d (hive .root) (keyOf d (c .at)) (c .at) l) _ (place-tells p g)
-      (λ s. every-next (OfTree d hive (c .at)) (hashFault d (keyOf d (c .at)) c) _ (hash-tells p g) (λ t. rest-tells (reached p g) n e))
+      (λ s. every-next (OfTree d hive (c .at)) (besideFault d (keyOf d (c .at)) c) _ (beside-tells p g) (λ t. rest-tells (reached p g) n e))
 
   key-charges : {lv : ℕ} {c : Child} {l : Arrival} → Place lv c l → (n : ℕ) → lv + n ≡ 513 → Charges (OfTree d hive) (keyCharge d m hive n c l)
   unfolding keyCharge
@@ -184,7 +197,7 @@ module _ (d m : List ℕ) (tiles : BinsTile d 0) (mapped : Mapped d m) (hive : H
       list-charges r (treeCharge d m hive n) (λ x y q. tree-charges n q (omega arith)) (First (c .at)) (children d (c .at))
       (record { follow = λ a b i. i; head = λ b es q. at-first r (subst (λ (xs : List Child). List·Memᴰ b xs) (sym q) (List·Memᴰ·head refl)) }))
 
--- its number is one of 11 to 15
+-- its number is one of 11 to 15, or 29
 module _ (d : List ℕ) (hive : Hive) where
   pub unfit-number : {w : Role} {o : Offset} {f : Flaw} → Unfit Map d w o f → (11 ≤ numberOf (f .fault)) × (numberOf (f .fault) ≤ 12)
   unfit-number (no-cell p) = (omega arith, omega arith)
@@ -200,6 +213,8 @@ module _ (d : List ℕ) (hive : Hive) where
   tree-number (of-data r p i g a) = among-number a .0
   tree-number (no-order r i g p) = omega arith
   tree-number (other-hash r i g p q) = omega arith
+  tree-number (other-hint r i g p q) = omega arith
+  tree-number (of-namesake r p x) = omega arith
   tree-number (other-parent r i g p) = omega arith
   tree-number (root-listed r i g p) = omega arith
   tree-number (other-total r p) = omega arith

@@ -1,7 +1,7 @@
 -- A key's tests, a law for each way out of the code.
 use Prim.Native.Nat.{ℕ, zero, suc, _-_}
 use mathlib.Core.Path.{_≡_, refl, sym, ap, _∙_}
-use mathlib.Core.Bool.{true, false, not}
+use mathlib.Core.Bool.{Bool, true, false, not}
 use mathlib.Core.List.{List}
 use lib.ListN.{length}
 use borrow.Author.Tests.{eq-eqb, ne-eqb}
@@ -15,16 +15,18 @@ use Rattle.cells.specs.declared.Rule.the-variants.{Map}
 use Rattle.names.specs.declared.Order.{Order as Ordering}
 use Rattle.names.specs.Comparison.{compare}
 use Rattle.names.specs.Hashing.{hashOf}
+use Rattle.names.specs.Hints.{fitsHint}
 use Rattle.records.specs.declared.Child.{Child}
 use Rattle.records.specs.declared.Key.{Key}
 use Rattle.records.specs.Keys.{codesOf}
 use Rattle.records.specs.Lists.{childrenBelow, listsFault}
 use Rattle.values.specs.Lists.{valuesFault}
+use Rattle.namesakes.specs.Namesakes.{namesakeFault}
 use Rattle.tree.specs.declared.Hive.{Hive}
 use Rattle.tree.specs.declared.Arrival.{Arrival}
 use Rattle.tree.specs.declared.Arrival.the-variants.{Start, First, After}
-use Rattle.tree.specs.Tree.{nameAt, isBefore, parentFault, orderFault, placeFault, hashFault, levelFault, totalFault, restFault, ownFault, holder}
-use Rattle.tree.specs.Steps.{ArrivalFits, Fits, subkeysFault}
+use Rattle.tree.specs.Tree.{nameAt, isBefore, parentFault, orderFault, placeFault, hashFault, hintFault, besideFault, levelFault, totalFault, restFault, ownFault, holder}
+use Rattle.tree.specs.Steps.{ArrivalFits, Fits, subkeysFault, listedFault}
 
 module _ (root : Offset) (k : Key) (at p : Offset) where
   pub parent-other : (k .parent .0 ≡ p .0 → ⊥) → parentFault root k at p ≡ Flawed (flaw Parent at)
@@ -72,13 +74,29 @@ module _ (d : List ℕ) (k : Key) (c : Child) where
   unfolding hashFault
   hash-none e = rw e
 
-  pub hash-good : c .hashed ≡ true → hashOf (codesOf d (k .name)) ≡ c .hash → hashFault d k c ≡ Sound
+  pub hash-good : c .hashed ≡ true → hashOf (codesOf d (k .name)) ≡ c .beside → hashFault d k c ≡ Sound
   unfolding hashFault
-  hash-good e q = rw (e, eq-eqb (c .hash) (hashOf (codesOf d (k .name))) (sym q))
+  hash-good e q = rw (e, eq-eqb (c .beside) (hashOf (codesOf d (k .name))) (sym q))
 
-  pub hash-bad : c .hashed ≡ true → (hashOf (codesOf d (k .name)) ≡ c .hash → ⊥) → hashFault d k c ≡ Flawed (flaw Order (c .at))
+  pub hash-bad : c .hashed ≡ true → (hashOf (codesOf d (k .name)) ≡ c .beside → ⊥) → hashFault d k c ≡ Flawed (flaw Order (c .at))
   unfolding hashFault
-  hash-bad e q = rw (e, ne-eqb (c .hash) (hashOf (codesOf d (k .name))) (λ s. q (sym s)))
+  hash-bad e q = rw (e, ne-eqb (c .beside) (hashOf (codesOf d (k .name))) (λ s. q (sym s)))
+
+  pub hint-none : c .hinted ≡ false → hintFault d k c ≡ Sound
+  unfolding hintFault
+  hint-none e = rw e
+
+  pub hint-is : c .hinted ≡ true → {t : Bool} → t ≡ fitsHint (c .beside) (codesOf d (k .name)) → hintFault d k c ≡ unless t (flaw Order (c .at))
+  unfolding hintFault
+  hint-is e q = rw (e, ← q)
+
+  pub beside-hash : {f : Flaw} → hashFault d k c ≡ Flawed f → besideFault d k c ≡ Flawed f
+  unfolding besideFault
+  beside-hash e = stop _ _ e
+
+  pub beside-hint : hashFault d k c ≡ Sound → besideFault d k c ≡ hintFault d k c
+  unfolding besideFault
+  beside-hint e = on _ _ e
 
 module _ (d m : List ℕ) (k : Key) (at : Offset) where
   pub subkeys-stop : {f : Flaw} → listsFault Map d m k ≡ Flawed f → subkeysFault d m k at ≡ Flawed f
@@ -93,23 +111,31 @@ module _ (d m : List ℕ) (k : Key) (at : Offset) where
   unfolding subkeysFault totalFault
   subkeys-good e q = on _ _ e ∙ holds (flaw Parent at) (eq-eqb _ _ q)
 
+  pub listed-names : {f : Flaw} → namesakeFault d k ≡ Flawed f → listedFault d m k at ≡ Flawed f
+  unfolding listedFault
+  listed-names e = stop _ _ e
+
+  pub listed-subkeys : namesakeFault d k ≡ Sound → listedFault d m k at ≡ subkeysFault d m k at
+  unfolding listedFault
+  listed-subkeys e = on _ _ e
+
   module _ (minor n : ℕ) where
     pub rest-level : n ≡ 0 → restFault d m minor n k at ≡ Flawed (flaw Level at)
     unfolding restFault levelFault
     rest-level e = rw e (stop _ _ refl)
 
-    rest-past : (n ≡ 0 → ⊥) → restFault d m minor n k at ≡ valuesFault Map d m minor k next subkeysFault d m k at
-    unfolding restFault levelFault subkeysFault
+    rest-past : (n ≡ 0 → ⊥) → restFault d m minor n k at ≡ valuesFault Map d m minor k next listedFault d m k at
+    unfolding restFault levelFault subkeysFault listedFault
     rest-past = by n
       where
-        by : (i : ℕ) → (i ≡ 0 → ⊥) → restFault d m minor i k at ≡ valuesFault Map d m minor k next subkeysFault d m k at
+        by : (i : ℕ) → (i ≡ 0 → ⊥) → restFault d m minor i k at ≡ valuesFault Map d m minor k next listedFault d m k at
         by zero e = absurd (e refl)
         by (suc i) e = on _ _ refl
 
     pub rest-values : (n ≡ 0 → ⊥) → {f : Flaw} → valuesFault Map d m minor k ≡ Flawed f → restFault d m minor n k at ≡ Flawed f
     rest-values e q = rest-past e ∙ stop _ _ q
 
-    pub rest-lists : (n ≡ 0 → ⊥) → valuesFault Map d m minor k ≡ Sound → restFault d m minor n k at ≡ subkeysFault d m k at
+    pub rest-lists : (n ≡ 0 → ⊥) → valuesFault Map d m minor k ≡ Sound → restFault d m minor n k at ≡ listedFault d m k at
     rest-lists e q = rest-past e ∙ on _ _ q
 
 module _ (d m : List ℕ) (hive : Hive) (n : ℕ) (k : Key) (c : Child) (l : Arrival) where
@@ -117,11 +143,11 @@ module _ (d m : List ℕ) (hive : Hive) (n : ℕ) (k : Key) (c : Child) (l : Arr
   unfolding ownFault
   own-place e = stop _ _ e
 
-  pub own-hash : {f : Flaw} → placeFault d (hive .root) k (c .at) l ≡ Sound → hashFault d k c ≡ Flawed f → ownFault d m hive n k c l ≡ Flawed f
+  pub own-beside : {f : Flaw} → placeFault d (hive .root) k (c .at) l ≡ Sound → besideFault d k c ≡ Flawed f → ownFault d m hive n k c l ≡ Flawed f
   unfolding ownFault
-  own-hash e q = on _ _ e ∙ stop _ _ q
+  own-beside e q = on _ _ e ∙ stop _ _ q
 
-  pub own-rest : placeFault d (hive .root) k (c .at) l ≡ Sound → hashFault d k c ≡ Sound
+  pub own-rest : placeFault d (hive .root) k (c .at) l ≡ Sound → besideFault d k c ≡ Sound
       → ownFault d m hive n k c l ≡ restFault d m (hive .minor) n k (c .at)
   unfolding ownFault
   own-rest e q = on _ _ e ∙ on _ _ q

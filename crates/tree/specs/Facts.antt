@@ -12,7 +12,7 @@ pub record ElementsFit (r : List ℕ) (width : ℕ) : Type 0 where
   pub some : 1 ≤ u16At r 2
   pub room : 4 + u16At r 2 * width ≤ length r
 
--- "`li`: offset. `lf`: offset, 4 bytes not read. `lh`: offset, hash."
+-- "`li`: offset. `lf`: offset, 4 bytes not read. `lh`: offset, hash.", and for the check "`lf`: offset, hint"
 pub data LeafRecord (r : List ℕ) : Type 0 where
   li : Signed r 108 105 → ElementsFit r 4 → LeafRecord r
   lf : Signed r 108 102 → ElementsFit r 8 → LeafRecord r

@@ -20,6 +20,7 @@ use Rattle.records.specs.declared.Key.{Key}
 use Rattle.records.specs.Keys.{keyOf, NameIn}
 use Rattle.records.specs.Steps.{noChild}
 use Rattle.records.specs.Lists.{leafChildren, listsFault}
+use Rattle.namesakes.specs.Namesakes.{namesakeFault}
 use Rattle.tree.specs.declared.Arrival.{Arrival}
 use Rattle.tree.specs.declared.Arrival.the-variants.{Start, First, After}
 use Rattle.tree.specs.declared.Checked.{Checked}
@@ -43,6 +44,10 @@ ArrivalFits d (After p b) = Fits d b
 -- "all its lists and the total"
 unfoldable pub subkeysFault : List ℕ → List ℕ → Key → Offset → Verdict
 subkeysFault d m k at = listsFault Map d m k next totalFault d k at
+
+-- the names of its values before them
+unfoldable pub listedFault : List ℕ → List ℕ → Key → Offset → Verdict
+listedFault d m k at = namesakeFault d k next subkeysFault d m k at
 
 -- the last key of a leaf
 unfoldable pub lastOf : List ℕ → Offset → Offset

@@ -22,12 +22,14 @@ use Rattle.names.specs.declared.Order.{Order as Ordering}
 use Rattle.names.specs.declared.Order.the-variants.{Before, Same, After as Behind}
 use Rattle.names.specs.Comparison.{compare}
 use Rattle.names.specs.Hashing.{hashOf}
+use Rattle.names.specs.Hints.{fitsHint}
 use Rattle.records.specs.declared.Child.{Child}
 use Rattle.records.specs.declared.Key.{Key}
 use Rattle.records.specs.Keys.{keyFault, keyOf, codesOf}
 use Rattle.records.specs.Lists.{childrenBelow, children, listsFault}
 use Rattle.records.specs.Listed.{joined, keysIn}
 use Rattle.values.specs.Lists.{valuesFault}
+use Rattle.namesakes.specs.Namesakes.{namesakeFault}
 use Rattle.security.specs.Items.{securityCharge}
 use Rattle.tree.specs.declared.Checked.{Checked}
 use Rattle.tree.specs.declared.Checked.the-variants.{Accepted, Refused}
@@ -64,9 +66,15 @@ placeFault d root k at Start = Sound
 placeFault d root k at (First p) = parentFault root k at p
 placeFault d root k at (After p b) = parentFault root k at p next orderFault d b k at
 
--- the hash of an `lh` element is that of the name
+-- what stands beside the offset: the hash of an `lh` element is that of the name, and the hint of an `lf` element too
 unfoldable pub hashFault : List ℕ → Key → Child → Verdict
-hashFault d k c = unless (not (c .hashed) || eqb (c .hash) (hashOf (codesOf d (k .name)))) (flaw Order (c .at))
+hashFault d k c = unless (not (c .hashed) || eqb (c .beside) (hashOf (codesOf d (k .name)))) (flaw Order (c .at))
+
+unfoldable pub hintFault : List ℕ → Key → Child → Verdict
+hintFault d k c = unless (not (c .hinted) || fitsHint (c .beside) (codesOf d (k .name))) (flaw Order (c .at))
+
+unfoldable pub besideFault : List ℕ → Key → Child → Verdict
+besideFault d k c = hashFault d k c next hintFault d k c
 
 -- "The root is level 0; level 512 is the last": with no level left, the key is too deep
 unfoldable pub levelFault : ℕ → Offset → Verdict
@@ -77,11 +85,13 @@ levelFault (suc n) at = Sound
 unfoldable pub totalFault : List ℕ → Key → Offset → Verdict
 totalFault d k at = unless (eqb (length (childrenBelow d k)) (k .subkeys)) (flaw Parent at)
 
--- "level; values in order with their data; all its lists and the total", with so many levels left
+-- "level; values in order with their data; all its lists and the total", with so many levels left. Their names are "tested after that key's values have
+-- passed and before its lists".
 unfoldable pub restFault : List ℕ → List ℕ → ℕ → ℕ → Key → Offset → Verdict
 restFault d m minor n k at =
     levelFault n at
     next valuesFault Map d m minor k
+    next namesakeFault d k
     next listsFault Map d m k
     next totalFault d k at
 
@@ -89,7 +99,7 @@ restFault d m minor n k at =
 unfoldable pub ownFault : List ℕ → List ℕ → Hive → ℕ → Key → Child → Arrival → Verdict
 ownFault d m hive n k c l =
     placeFault d (hive .root) k (c .at) l
-    next hashFault d k c
+    next besideFault d k c
     next restFault d m (hive .minor) n k (c .at)
 
 -- the key that lists a key: at the start there is none
@@ -126,7 +136,7 @@ abbrev pub hiveOf : List ℕ → Hive
 hiveOf h = record { minor = minorOf (sector h); root = rootOf (sector h) }
 
 abbrev pub rootChild : Hive → Child
-rootChild hive = record { at = hive .root; hashed = false; hash = 0 }
+rootChild hive = record { at = hive .root; hashed = false; hinted = false; beside = 0 }
 
 -- the keys reached from the root
 abbrev pub keysOf : List ℕ → List Offset

@@ -12,6 +12,7 @@ use Rattle.cells.specs.Tiled.{BinsTile, InUse}
 use Rattle.names.specs.declared.Order.the-variants.{Before}
 use Rattle.names.specs.Comparison.{compare}
 use Rattle.names.specs.Hashing.{hashOf}
+use Rattle.names.specs.Hints.{fitsHint}
 use Rattle.records.specs.declared.Child.{Child}
 use Rattle.records.specs.declared.Key.{Key}
 use Rattle.records.specs.Keys.{keyOf}
@@ -22,6 +23,7 @@ use Rattle.values.specs.declared.ValueData.the-variants.{Inline, OneCell, Segme
 use Rattle.values.specs.Records.{dataIn}
 use Rattle.values.specs.Segments.{segmentsFor, segmentList, segmentsOf}
 use Rattle.values.specs.Lists.{valuesOf}
+use Rattle.namesakes.specs.Namesakes.{Distinct}
 use Rattle.security.specs.Stands.{SecurityStands}
 use Rattle.tree.specs.declared.Hive.{Hive}
 use Rattle.records.specs.Facts.{Signed, KeyRecord}
@@ -52,10 +54,11 @@ pub record ValueStands (d : List ℕ) (minor : ℕ) (v : Offset) : Type 0 where
   pub record-good : ValueRecord (dataAt d v)
   pub held : DataStands d (dataIn d minor v)
 
--- the values of a key
+-- the values of a key, of which "no two values of a key have the same name"
 pub record ValuesStand (d : List ℕ) (minor : ℕ) (k : Key) : Type 0 where
   pub list : (k .values ≡ 0 → ⊥) → Room d (k .«value_list») (4 * k .values)
   pub each : (v : Offset) → List·Memᴰ v (valuesOf d k) → ValueStands d minor v
+  pub distinct : Distinct d k
 
 pub record LeafStands (d : List ℕ) (o : Offset) : Type 0 where
   pub in-use : InUse d o
@@ -75,11 +78,13 @@ pub record KeyStands (d : List ℕ) (minor : ℕ) (o : Offset) : Type 0 where
   pub lists : (keyOf d o .subkeys ≡ 0 → ⊥) → ListStands d (keyOf d o .list)
   pub total : length (children d o) ≡ keyOf d o .subkeys
 
--- "a subkey's parent field names the key that lists it, and no subkey is the root"; its hash in an `lh` is that of its name
+-- "a subkey's parent field names the key that lists it, and no subkey is the root"; its hash in an `lh` is that of its name,
+-- and its hint in an `lf`
 pub record ChildStands (d : List ℕ) (root key : Offset) (c : Child) : Type 0 where
   pub parent : keyOf d (c .at) .parent .0 ≡ key .0
   pub other : c .at .0 ≡ root .0 → ⊥
-  pub hash : c .hashed ≡ true → c .hash ≡ hashOf (nameAt d (c .at))
+  pub hash : c .hashed ≡ true → c .beside ≡ hashOf (nameAt d (c .at))
+  pub hint : c .hinted ≡ true → fitsHint (c .beside) (nameAt d (c .at)) ≡ true
 
 -- "those of subkeys ascend strictly over all leaves of a key": each name before all later ones
 pub data Ascends (d : List ℕ) : List Child → Type 0 where

@@ -18,8 +18,10 @@ ghost use Rattle.cells.specs.Named.{dataAt};
 ghost use Rattle.cells.specs.declared.Rule.the-variants.{Map};
 ghost use Rattle.fields.specs.declared.Verdict.the-variants.{Sound};
 ghost use Rattle.records.specs.Lists.{leafChildren, leafFault, childrenBelow, listsFault};
-ghost use Rattle.tree.specs.Tree.{parentFault, orderFault, placeFault, hashFault, restFault, ownFault, holder as holderOf, tally as tallyOf, keyAnswer, listAnswer, ringCharge, answer, checkAnswer};
-ghost use Rattle.tree.specs.Steps.{NameLies, Fits, ArrivalFits, subkeysFault, lastOf, Ready, walkAnswer, Walked};
+ghost use Rattle.tree.specs.Tree.{parentFault, orderFault, placeFault, hashFault, hintFault, besideFault, restFault, ownFault, holder as holderOf, tally as tallyOf, keyAnswer, listAnswer, ringCharge, answer, checkAnswer};
+ghost use Rattle.values.specs.Lists.{valueEntries};
+ghost use Rattle.namesakes.specs.Steps.{NamesLie};
+ghost use Rattle.tree.specs.Steps.{NameLies, Fits, ArrivalFits, subkeysFault, listedFault, lastOf, Ready, walkAnswer, Walked};
 
 // "The check reports bins, keys reached, values (one for each value list element of those keys), used bytes and free bytes"
 pub struct Report {
@@ -113,10 +115,36 @@ fn hash_flaw(bins: &[u8], k: Key, c: Child) -> Verdict
         return Verdict::Sound;
     }
     let name = k.name;
-    if records::hash_of(bins, name) == c.hash {
+    if records::hash_of(bins, name) == c.beside {
         return Verdict::Sound;
     }
     fields::flawed(Fault::Order, c.at)
+}
+
+// The hint of an `lf` element is that of the name.
+fn hint_flaw(bins: &[u8], k: Key, c: Child) -> Verdict
+    requires { ⌜ NameLies (now bins) k ⌝ }
+    ensures { λ r. ⌜ r ≡ hintFault (now (bins .entry)) k c ⌝ }
+{
+    if !c.hinted {
+        return Verdict::Sound;
+    }
+    let name = k.name;
+    if records::is_hinted(bins, name, c.beside) {
+        return Verdict::Sound;
+    }
+    fields::flawed(Fault::Order, c.at)
+}
+
+// What stands beside the offset, hash or hint.
+fn beside_flaw(bins: &[u8], k: Key, c: Child) -> Verdict
+    requires { ⌜ NameLies (now bins) k ⌝ }
+    ensures { λ r. ⌜ r ≡ besideFault (now (bins .entry)) k c ⌝ }
+{
+    match hash_flaw(bins, k, c) {
+        Verdict::Flawed(f) => Verdict::Flawed(f),
+        Verdict::Sound => hint_flaw(bins, k, c),
+    }
 }
 
 // "all its lists and the total"
@@ -134,6 +162,17 @@ fn subkeys_flaw(bins: &[u8], map: &[u8], k: Key, at: Offset) -> Verdict
     }
 }
 
+// The names of a key's values, then "all its lists and the total".
+fn listed_flaw(bins: &[u8], map: &[u8], k: Key, at: Offset) -> Verdict
+    requires { ⌜ NamesLie (now bins) (valueEntries k) ⌝ }
+    ensures { λ r. ⌜ r ≡ listedFault (now (bins .entry)) (now (map .entry)) k at ⌝ }
+{
+    match namesakes::namesake_flaw(bins, k) {
+        Verdict::Flawed(f) => Verdict::Flawed(f),
+        Verdict::Sound => subkeys_flaw(bins, map, k, at),
+    }
+}
+
 // "level; values in order with their data; all its lists and the total"
 fn rest_flaw(bins: &[u8], map: &[u8], minor: u32, levels: u32, k: Key, at: Offset) -> Verdict
     ensures { λ r. ⌜ r ≡ restFault (now (bins .entry)) (now (map .entry)) minor levels k at ⌝ }
@@ -143,7 +182,7 @@ fn rest_flaw(bins: &[u8], map: &[u8], minor: u32, levels: u32, k: Key, at: Offse
     }
     match values::values_flaw(bins, map, Rule::Map, minor, k) {
         Verdict::Flawed(f) => Verdict::Flawed(f),
-        Verdict::Sound => subkeys_flaw(bins, map, k, at),
+        Verdict::Sound => listed_flaw(bins, map, k, at),
     }
 }
 
@@ -164,7 +203,7 @@ fn own_flaw(
     let at = c.at;
     match place_flaw(bins, hive.root, k, at, l) {
         Verdict::Flawed(f) => Verdict::Flawed(f),
-        Verdict::Sound => match hash_flaw(bins, k, c) {
+        Verdict::Sound => match beside_flaw(bins, k, c) {
             Verdict::Flawed(f) => Verdict::Flawed(f),
             Verdict::Sound => rest_flaw(bins, map, hive.minor, levels, k, at),
         },
@@ -309,7 +348,8 @@ fn walk_tree(hive: &[u8], map: &[u8], t: Tally) -> Checked
     let start = Child {
         at: root,
         hashed: false,
-        hash: 0,
+        hinted: false,
+        beside: 0,
     };
     let none = Count { keys: 0, values: 0 };
     match check_key(

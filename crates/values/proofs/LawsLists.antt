@@ -19,7 +19,7 @@ use Rattle.values.specs.Lists.{valuesOf, valueListFault, valueEntries, w
 use Rattle.values.proofs.Rooms.{roomy}
 
 -- the elements are the key's values
-values-listed : (d : List ℕ) (k : Key) → valuesOf d k ≡ entriesOf d (valueEntries k)
+pub values-listed : (d : List ℕ) (k : Key) → valuesOf d k ≡ entriesOf d (valueEntries k)
 unfolding valuesOf valueEntries entriesOf
 values-listed d k = by (eqb (k .values) 0) refl
   where

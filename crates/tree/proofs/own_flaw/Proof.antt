@@ -1,4 +1,4 @@
-use Rattle.tree.proofs.Tests.{own-place, own-hash, own-rest}
+use Rattle.tree.proofs.Tests.{own-place, own-beside, own-rest}
 use mathlib.Core.Path.{sym, _∙_}
 use borrow.Author.Needs.{needs}
 use Rattle.tree.proofs.own_flaw.Statement.{statement}
@@ -13,8 +13,8 @@ enum-known-f c = search needs
 enum-told : tie.Need-enum-told
 enum-told c = search needs
 
-hash-flaw-requires : tie.Need-hash-flaw-requires
-hash-flaw-requires c κs = search needs
+beside-flaw-requires : tie.Need-beside-flaw-requires
+beside-flaw-requires c κs = search needs
 
 enum-known-f-2 : tie.Need-enum-known-f-2
 enum-known-f-2 c = search needs
@@ -29,10 +29,10 @@ returns : tie.Need-returns
 returns c = sym (own-place _ _ _ _ _ _ _ (sym (c .before .before .before .place-flaw .ensures) ∙ c .before .f .given .1))
 
 returns-2 : tie.Need-returns-2
-returns-2 c = sym (own-hash _ _ _ _ _ _ _ (sym (c .before .before .before .before .before .before .place-flaw .ensures) ∙ c .before .before .before .before .enum-told .given .1) (sym (c .before .before .before .hash-flaw .ensures) ∙ c .before .f2 .given .1))
+returns-2 c = sym (own-beside _ _ _ _ _ _ _ (sym (c .before .before .before .before .before .before .place-flaw .ensures) ∙ c .before .before .before .before .enum-told .given .1) (sym (c .before .before .before .beside-flaw .ensures) ∙ c .before .f2 .given .1))
 
 returns-3 : tie.Need-returns-3
-returns-3 c = c .rest-flaw .ensures ∙ sym (own-rest _ _ _ _ _ _ _ (sym (c .before .before .before .before .before .before .place-flaw .ensures) ∙ c .before .before .before .before .enum-told .given .1) (sym (c .before .before .before .hash-flaw .ensures) ∙ c .before .enum-told2 .given .1))
+returns-3 c = c .rest-flaw .ensures ∙ sym (own-rest _ _ _ _ _ _ _ (sym (c .before .before .before .before .before .before .place-flaw .ensures) ∙ c .before .before .before .before .enum-told .given .1) (sym (c .before .before .before .beside-flaw .ensures) ∙ c .before .enum-told2 .given .1))
 
 pub own-flaw-spec : {M : Type 1} → statement M
 own-flaw-spec =
@@ -41,7 +41,7 @@ own-flaw-spec =
     place-flaw-requires
     enum-known-f
     enum-told
-    hash-flaw-requires
+    beside-flaw-requires
     enum-known-f-2
     enum-told-2
     rest-flaw-requires

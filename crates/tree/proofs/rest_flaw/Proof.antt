@@ -1,3 +1,5 @@
+use Rattle.cells.specs.declared.Rule.the-variants.{Map}
+use Rattle.namesakes.proofs.Laws.{passed-lie}
 use Rattle.tree.proofs.Tests.{rest-level, rest-values, rest-lists}
 use mathlib.Core.Path.{sym, _∙_}
 use borrow.Author.Needs.{needs}
@@ -19,14 +21,14 @@ enum-known-f c = search needs
 enum-told : tie.Need-enum-told
 enum-told c = search needs
 
-subkeys-flaw-requires : tie.Need-subkeys-flaw-requires
-subkeys-flaw-requires c κs = search needs
+listed-flaw-requires : tie.Need-listed-flaw-requires
+listed-flaw-requires c κs = passed-lie Map _ _ _ _ (sym (c .before .before .values-flaw .ensures) ∙ c .enum-told .given .1)
 
 returns-2 : tie.Need-returns-2
 returns-2 c = sym (rest-values _ _ _ _ _ _ (c .before .before .before .before .if1 .left) (sym (c .before .before .before .values-flaw .ensures) ∙ c .before .f .given .1))
 
 returns-3 : tie.Need-returns-3
-returns-3 c = c .subkeys-flaw .ensures ∙ sym (rest-lists _ _ _ _ _ _ (c .before .before .before .before .if1 .left) (sym (c .before .before .before .values-flaw .ensures) ∙ c .before .enum-told .given .1))
+returns-3 c = c .listed-flaw .ensures ∙ sym (rest-lists _ _ _ _ _ _ (c .before .before .before .before .if1 .left) (sym (c .before .before .before .values-flaw .ensures) ∙ c .before .enum-told .given .1))
 
 pub rest-flaw-spec : {M : Type 1} → statement M
 rest-flaw-spec =
@@ -37,6 +39,6 @@ rest-flaw-spec =
     values-flaw-requires
     enum-known-f
     enum-told
-    subkeys-flaw-requires
+    listed-flaw-requires
     returns-2
     returns-3)

@@ -86,6 +86,9 @@ enum-told-27 c = search needs
 enum-told-28 : tie.Need-enum-told-28
 enum-told-28 c = search needs
 
+enum-told-29 : tie.Need-enum-told-29
+enum-told-29 c = search needs
+
 returns : tie.Need-returns
 returns c = rw (c .enum-told .given .1)
 
@@ -170,6 +173,9 @@ returns-27 c = rw (c .enum-told27 .given .1)
 returns-28 : tie.Need-returns-28
 returns-28 c = rw (c .enum-told28 .given .1)
 
+returns-29 : tie.Need-returns-29
+returns-29 c = rw (c .enum-told29 .given .1)
+
 pub number-spec : {M : Type 1} → statement M
 number-spec =
     tie.close
@@ -202,6 +208,7 @@ number-spec =
     enum-told-26
     enum-told-27
     enum-told-28
+    enum-told-29
     returns
     returns-2
     returns-3
@@ -229,4 +236,5 @@ number-spec =
     returns-25
     returns-26
     returns-27
-    returns-28)
+    returns-28
+    returns-29)

@@ -1,0 +1,87 @@
+use borrow.Author.Needs.{needs}
+use native.Mathlib.Omega.{arith}
+use Prim.Native.Nat.{_-_}
+use mathlib.Core.Path.{_≡_, refl, sym, ap, _∙_}
+use lib.ListN.{length}
+use borrow.Author.Tests.{eq-eqb, eqb-true, not-true, not-false}
+use Rattle.fields.proofs.Bools.{never}
+use Rattle.names.specs.Codes.{codes}
+use Rattle.names.specs.Upper_case.{upper}
+use Rattle.names.specs.Comparison.{isSame, sameName}
+use Rattle.names.proofs.LawsOrder.{unequal-length}
+use Rattle.names.proofs.Turns.{left, turn-apart, turn-level, turn-ended}
+use Rattle.names.proofs.is_same.Statement.{statement}
+use Rattle.names.proofs.is_same.Tie as tie
+
+-- what is left decides
+abbrev Inv-loop : tie.InvT-loop
+Inv-loop a a-narrow b b-narrow end i₀ i = sameName (codes a-narrow a) (codes b-narrow b) ≡ isSame (left (codes a-narrow a) (codes b-narrow b) i)
+
+abbrev μ-loop : tie.MeasureT-loop
+μ-loop a a-narrow b b-narrow end i₀ i = end - i
+
+count-requires : tie.Need-count-requires Inv-loop μ-loop
+count-requires c κs = search needs
+
+count-requires-2 : tie.Need-count-requires-2 Inv-loop μ-loop
+count-requires-2 c κs = search needs
+
+returns : tie.Need-returns Inv-loop μ-loop
+returns c = sym (unequal-length _ _ (λ e. c .if1 .taken (c .before .count2 .ensures ∙ sym e ∙ sym (c .before .before .count .ensures))))
+
+loop-holds : tie.Need-loop-holds Inv-loop μ-loop
+unfolding sameName
+loop-holds c = refl
+
+code-at-requires : tie.Need-code-at-requires Inv-loop μ-loop
+code-at-requires c κs = omega arith
+
+code-at-requires-2 : tie.Need-code-at-requires-2 Inv-loop μ-loop
+code-at-requires-2 c κs = omega arith
+
+same-letter-requires : tie.Need-same-letter-requires Inv-loop μ-loop
+same-letter-requires c κs = search needs
+
+returns-2 : tie.Need-returns-2 Inv-loop μ-loop
+returns-2 c =
+    let l = c .before .before .before .before .before .loop in
+    sym (l .inv ∙ turn-apart _ _ (l .i) (omega arith) (omega arith)
+    (λ e. never (c .before .same-letter .result)
+    (c .before .same-letter .ensures ∙ eq-eqb _ _ (ap upper (c .before .before .before .code-at .ensures) ∙ e ∙ sym (ap upper (c .before .before .code-at2 .ensures))))
+    (not-true (c .before .same-letter .result) (c .if2 .taken))))
+
+add-i : tie.Need-add-i Inv-loop μ-loop
+add-i c = search needs
+
+loop-less : tie.Need-loop-less Inv-loop μ-loop
+loop-less c = search needs
+
+loop-again : tie.Need-loop-again Inv-loop μ-loop
+loop-again c =
+    let l = c .before .before .before .before .before .loop in
+    l .inv ∙ ap isSame (turn-level _ _ (l .i) (omega arith) (omega arith)
+    (sym (ap upper (c .before .before .before .code-at .ensures))
+    ∙ eqb-true _ _ (sym (c .before .same-letter .ensures) ∙ not-false (c .before .same-letter .result) (c .if2 .left))
+    ∙ ap upper (c .before .before .code-at2 .ensures)))
+
+returns-3 : tie.Need-returns-3 Inv-loop μ-loop
+returns-3 c = let l = c .before .loop in sym (l .inv ∙ ap isSame (turn-ended _ _ (l .i) (omega arith) (omega arith)))
+
+pub is-same-spec : {M : Type 1} → statement M
+is-same-spec =
+    tie.close
+    (tie.spec
+    Inv-loop
+    μ-loop
+    count-requires
+    count-requires-2
+    returns
+    loop-holds
+    code-at-requires
+    code-at-requires-2
+    same-letter-requires
+    returns-2
+    add-i
+    loop-less
+    loop-again
+    returns-3)

@@ -1,0 +1,99 @@
+use native.Mathlib.Omega.{arith}
+use Prim.Native.Nat.{_-_}
+use mathlib.Core.Path.{refl, sym, ap, _∙_}
+use Rattle.values.specs.Entries.{entriesOf}
+use Rattle.names.specs.Hashing.{hashOf}
+use Rattle.namesakes.specs.Steps.{metIn}
+use Rattle.namesakes.proofs.Blocks.{Scanning, scan-start, scan-end, called-is, scan-ready, scan-found, scan-on}
+use Rattle.namesakes.proofs.in_block.Statement.{statement}
+use Rattle.namesakes.proofs.in_block.Tie as tie
+
+abbrev Inv-loop : tie.InvT-loop
+Inv-loop bins e s best keys₀ older₀ heads₀ j₀ n₀ keys older heads j n =
+    Scanning bins (entriesOf bins e) s best keys₀ older₀ heads₀ keys older heads j n
+
+abbrev μ-loop : tie.MeasureT-loop
+μ-loop bins e s best keys₀ older₀ heads₀ j₀ n₀ keys older heads j n = best - j
+
+loop-holds : tie.Need-loop-holds Inv-loop μ-loop
+loop-holds c = scan-start _ _ _ _ _ _ _ (c .before .before .before .before .pre .1 .1)
+
+name-of-requires : tie.Need-name-of-requires Inv-loop μ-loop
+name-of-requires c κs = (c .before .before .before .before .before .before .pre .0, omega (arith, c .before .before .before .before .before .before .pre .1 .0, c .loop-test .taken))
+
+hash-of-requires : tie.Need-hash-of-requires Inv-loop μ-loop
+hash-of-requires c κs = rw (c .name-of .ensures) (c .before .before .before .before .before .before .before .pre .0 .lie _ (omega (arith, c .before .before .before .before .before .before .before .pre .1 .0, c .before .loop-test .taken)))
+
+is-met-requires : tie.Need-is-met-requires Inv-loop μ-loop
+is-met-requires c κs =
+    scan-ready _ _ _ _ _ _ _ _ _ _ _ _ (c .before .before .before .before .before .before .loop .inv) (c .before .before .before .before .name-of .ensures) _ refl (c .before .before .before .before .before .before .before .before .before .before .before .pre .0) (c .before .before .before .before .before .before .before .before .before .before .before .pre .1 .0) (c .before .before .before .before .before .loop-test .taken) (c .before .before .before .hash-of .ensures)
+
+same-length : tie.Need-same-length Inv-loop μ-loop
+same-length c = c .before .before .before .before .before .before .before .before .loop .inv .keys-same
+
+same-length-2 : tie.Need-same-length-2 Inv-loop μ-loop
+same-length-2 c = c .before .before .before .before .before .before .before .before .loop .inv .older-same
+
+same-length-3 : tie.Need-same-length-3 Inv-loop μ-loop
+same-length-3 c = c .before .before .before .before .before .before .before .before .loop .inv .heads-same
+
+returns : tie.Need-returns Inv-loop μ-loop
+returns c =
+    let k = c .before .before .before .before .before .before .before .before .loop .inv in
+    let i = called-is _ _ _ _ _ _ _ _ _ _ _ _ k (c .before .before .before .before .before .before .name-of .ensures) in
+    scan-found _ _ _ _ _ _ _ _ _ _ _ _ k (c .before .before .before .before .before .before .before .loop-test .taken) (ap (metIn _ _ _ _) (sym i) ∙ sym (c .before .is-met .ensures) ∙ c .if1 .taken)
+
+take-in-requires : tie.Need-take-in-requires Inv-loop μ-loop
+take-in-requires c κs =
+    let k = c .before .before .before .before .before .before .before .before .before .before .before .loop .inv in
+    let p = c .before .before .before .before .before .before .before .before .before .before .before .before .before .before .before .before .pre .1 .1 in
+    (k .table, (omega (arith, k .keys-same, k .older-same, p .links), omega (arith, k .keys-same, p .few)))
+
+add-j : tie.Need-add-j Inv-loop μ-loop
+add-j c = omega (arith, c .before .before .before .before .before .before .before .before .before .before .before .before .before .before .before .before .before .before .before .before .before .before .before .fits .best, c .before .before .before .before .before .before .before .before .before .before .before .before .before .before .before .before .before .loop-test .taken)
+
+loop-less : tie.Need-loop-less Inv-loop μ-loop
+loop-less c = omega (arith, c .before .before .before .before .before .before .before .before .before .before .before .before .before .before .before .before .before .loop-test .taken)
+
+loop-again : tie.Need-loop-again Inv-loop μ-loop
+loop-again c =
+    let k = c .before .before .before .before .before .before .before .before .before .before .before .before .before .before .before .before .before .before .loop .inv in
+    let i = called-is _ _ _ _ _ _ _ _ _ _ _ _ k (c .before .before .before .before .before .before .before .before .before .before .before .before .before .before .before .before .name-of .ensures) in
+    let n = ap (metIn _ _ _ _) (sym i) ∙ sym (c .before .before .before .before .before .before .before .before .before .before .before .is-met .ensures) ∙ c .before .before .before .before .before .before .before .before .before .before .if1 .left in
+    scan-on _ _ _ _ _ _ _ _ _ _ _ _ k n (c .before .before .before .before .before .before .before .before .before .before .before .before .before .before .before .hash-of .ensures ∙ ap hashOf i) _ _ _
+    (c .before .before .before .before .before .before .take-in .ensures .0) (c .before .before .before .before .before .before .take-in .ensures .1) (c .before .before .before .before .before .keys .given) (c .before .before .before .older .given) (c .before .heads .given)
+
+same-length-4 : tie.Need-same-length-4 Inv-loop μ-loop
+same-length-4 c = c .before .loop .inv .keys-same
+
+same-length-5 : tie.Need-same-length-5 Inv-loop μ-loop
+same-length-5 c = c .before .loop .inv .older-same
+
+same-length-6 : tie.Need-same-length-6 Inv-loop μ-loop
+same-length-6 c = c .before .loop .inv .heads-same
+
+returns-2 : tie.Need-returns-2 Inv-loop μ-loop
+returns-2 c = scan-end _ _ _ _ _ _ _ _ _ _ _ _ (c .before .loop .inv) (omega (arith, c .loop-test .left))
+
+pub in-block-spec : {M : Type 1} → statement M
+in-block-spec =
+    tie.close
+    (tie.spec
+    Inv-loop
+    μ-loop
+    loop-holds
+    name-of-requires
+    hash-of-requires
+    is-met-requires
+    same-length
+    same-length-2
+    same-length-3
+    returns
+    take-in-requires
+    add-j
+    loop-less
+    loop-again
+    same-length-4
+    same-length-5
+    same-length-6
+    returns-2)

@@ -1,0 +1,91 @@
+use borrow.Author.Needs.{needs}
+use native.Mathlib.Omega.{arith}
+use Prim.Native.Nat.{_-_}
+use denote.Ref.{now}
+use mathlib.Core.Path.{refl, sym, _∙_}
+use lib.ListN.{length}
+use Rattle.records.specs.Keys.{codesOf}
+use Rattle.values.specs.Entries.{entriesOf}
+use Rattle.namesakes.proofs.Tables.{compared, hit, none-met, Seeking, seek-start, seek-on, seek-chain, seek-falls}
+use Rattle.namesakes.proofs.is_met.Statement.{statement}
+use Rattle.namesakes.proofs.is_met.Tie as tie
+
+abbrev Inv-loop : tie.InvT-loop
+Inv-loop bins e s n x g keys older heads p₀ p = Seeking bins (entriesOf bins e) s (codesOf bins x) keys g (length heads) n p
+
+abbrev μ-loop : tie.MeasureT-loop
+μ-loop bins e s n x g keys older heads p₀ p = p
+
+find-requires : tie.Need-find-requires Inv-loop μ-loop
+find-requires c κs = c .before .before .before .before .pre .table
+
+loop-holds : tie.Need-loop-holds Inv-loop μ-loop
+loop-holds c = seek-start _ _ _ _ _ _ _ _ (c .before .before .before .before .before .pre .telling) (c .find .ensures)
+
+sub-name-of : tie.Need-sub-name-of Inv-loop μ-loop
+sub-name-of c = search needs
+
+add-name-of : tie.Need-add-name-of Inv-loop μ-loop
+add-name-of c = omega (arith, c .before .before .before .before .before .before .before .pre .inside, c .before .loop .inv .chain .within)
+
+name-of-requires : tie.Need-name-of-requires Inv-loop μ-loop
+name-of-requires c κs = (c .before .before .before .before .before .before .before .pre .names, omega (arith, c .before .before .before .before .before .before .before .pre .inside, c .before .loop .inv .chain .within, c .loop-test .taken))
+
+is-namesake-requires : tie.Need-is-namesake-requires Inv-loop μ-loop
+is-namesake-requires c κs =
+    (rw (c .name-of .ensures) (c .before .before .before .before .before .before .before .before .pre .names .lie _ (omega (arith, c .before .before .before .before .before .before .before .before .pre .inside, c .before .before .loop .inv .chain .within, c .before .loop-test .taken))), c .before .before .before .before .before .before .before .before .pre .name)
+
+returns : tie.Need-returns Inv-loop μ-loop
+returns c =
+    let l = c .before .before .before .before .loop in
+    sym (l .inv .left ∙ hit _ _ _ _ (l .p) (c .before .before .before .loop-test .taken) (compared (now (c .before .before .before .before .before .before .before .before .before .before .args .bins)) (entriesOf (now (c .before .before .before .before .before .before .before .before .before .before .args .bins)) (c .before .before .before .before .before .before .before .before .before .before .args .e)) (c .before .before .before .before .before .before .before .before .before .before .args .s) _ (l .p - 1) (c .before .before .name-of .ensures) (c .before .is-namesake .ensures) ∙ c .if1 .taken))
+
+sub-q : tie.Need-sub-q Inv-loop μ-loop
+sub-q c = search needs
+
+mul-q : tie.Need-mul-q Inv-loop μ-loop
+mul-q c = omega (arith, c .before .before .before .before .before .before .before .before .before .before .pre .table .linked .links, c .before .before .before .before .loop .inv .chain .within)
+
+shared-slice-read-q : tie.Need-shared-slice-read-q Inv-loop μ-loop
+shared-slice-read-q c = omega (arith, c .before .before .before .before .before .before .before .before .before .before .before .pre .table .linked .links, c .before .before .before .before .before .loop .inv .chain .within, c .before .before .before .before .loop-test .taken)
+
+cast-q : tie.Need-cast-q Inv-loop μ-loop
+cast-q c = omega (arith, c .before .before .before .before .before .before .before .before .shared-slice-known3 .given (c .before .before .before .before .before .loop .p - 1))
+
+find-from-requires : tie.Need-find-from-requires Inv-loop μ-loop
+find-from-requires c κs =
+    (c .before .before .before .before .before .before .before .before .before .before .before .pre .table .linked, seek-chain _ _ _ _ _ _ _ _ (c .before .before .before .before .before .before .before .before .before .before .before .pre .telling) _ (c .before .before .before .before .before .before .before .before .before .before .before .pre .table .linked) (c .before .before .before .before .before .loop .inv) (c .before .before .before .before .loop-test .taken) refl)
+
+loop-less : tie.Need-loop-less Inv-loop μ-loop
+loop-less c = seek-falls _ _ _ _ _ _ _ _ (c .before .before .before .before .before .before .before .before .before .before .before .before .pre .telling) _ (c .before .before .before .before .before .before .before .before .before .before .before .before .pre .table .linked) (c .before .before .before .before .before .before .loop .inv) (c .before .before .before .before .before .loop-test .taken) refl (c .find-from .ensures)
+
+loop-again : tie.Need-loop-again Inv-loop μ-loop
+loop-again c =
+    let l = c .before .before .before .before .before .before .loop in
+    seek-on _ _ _ _ _ _ _ _ (c .before .before .before .before .before .before .before .before .before .before .before .before .pre .telling) _ (c .before .before .before .before .before .before .before .before .before .before .before .before .pre .table .linked) (l .inv) (c .before .before .before .before .before .loop-test .taken)
+    (compared (now (c .before .before .before .before .before .before .before .before .before .before .before .before .args .bins)) (entriesOf (now (c .before .before .before .before .before .before .before .before .before .before .before .before .args .bins)) (c .before .before .before .before .before .before .before .before .before .before .before .before .args .e)) (c .before .before .before .before .before .before .before .before .before .before .before .before .args .s) _ (l .p - 1) (c .before .before .before .before .name-of .ensures) (c .before .before .before .is-namesake .ensures) ∙ c .before .before .if1 .left) refl (c .find-from .ensures)
+
+returns-2 : tie.Need-returns-2 Inv-loop μ-loop
+returns-2 c = let l = c .before .loop in sym (l .inv .left ∙ none-met _ _ _ _ (c .loop-test .left))
+
+pub is-met-spec : {M : Type 1} → statement M
+is-met-spec =
+    tie.close
+    (tie.spec
+    Inv-loop
+    μ-loop
+    find-requires
+    loop-holds
+    sub-name-of
+    add-name-of
+    name-of-requires
+    is-namesake-requires
+    returns
+    sub-q
+    mul-q
+    shared-slice-read-q
+    cast-q
+    find-from-requires
+    loop-less
+    loop-again
+    returns-2)
