@@ -3,7 +3,7 @@ ghost use mathlib.Core.Path.{_≡_};
 ghost use Prim.Native.Nat.{_*_, _%_, _≤_, _<_};
 ghost use mathlib.Core.Bool.{_||_};
 ghost use lib.Dec.{eqb, ltb};
-ghost use lib.ListN.{length, getD};
+ghost use lib.ListN.{length, getD, drop};
 ghost use Rattle.names.specs.Codes.{codes, charactersIn, hasCode, backslash};
 ghost use Rattle.names.specs.Upper_case.{upper};
 ghost use Rattle.names.specs.Comparison.{compare, sameName};
@@ -83,6 +83,41 @@ pub enum Order {
     After,
 }
 
+// The lesser of two counts.
+fn lesser(a: usize, b: usize) -> usize
+    ensures { λ r. ⌜ (r ≤ a) × (r ≤ b) × (r < a → r ≡ b) ⌝ }
+{
+    if a < b { a } else { b }
+}
+
+// Past the bytes that two names of one byte per character have in common from the start on, of so many: what is left of them decides.
+fn past_alike(a: &[u8], b: &[u8], end: usize) -> usize
+    requires { ⌜ (end ≤ length (now a)) × (end ≤ length (now b)) ⌝ }
+    ensures { λ r. ⌜ (r ≤ end) × (compare (now (a .entry)) (now (b .entry)) ≡ compare (drop r (now (a .entry))) (drop r (now (b .entry)))) ⌝ }
+{
+    let mut i = 0;
+    while i < end {
+        if a[i] != b[i] {
+            return i;
+        }
+        i += 1;
+    }
+    i
+}
+
+// The same of any two names: most that are compared have one byte per character, and these need no test for each.
+fn past_shared(a: &[u8], a_narrow: bool, b: &[u8], b_narrow: bool, end: usize) -> usize
+    requires { ⌜ (end ≤ length (codes «a_narrow» (now a))) × (end ≤ length (codes «b_narrow» (now b))) ⌝ }
+    ensures { λ r. ⌜ (r ≤ end) × (compare (codes «a_narrow» (now (a .entry))) (codes «b_narrow» (now (b .entry))) ≡ compare (drop r (codes «a_narrow» (now (a .entry)))) (drop r (codes «b_narrow» (now (b .entry))))) ⌝ }
+{
+    if a_narrow {
+        if b_narrow {
+            return past_alike(a, b, end);
+        }
+    }
+    0
+}
+
 // "Names, also of values, are compared by code after upper-casing a to z, 0xE0 to 0xFE except 0xF7 (each 32 down) and 0xFF (to 0x0178), a prefix before
 // the longer name"
 pub fn compare_stored(a: &[u8], a_narrow: bool, b: &[u8], b_narrow: bool) -> Order
@@ -90,11 +125,9 @@ pub fn compare_stored(a: &[u8], a_narrow: bool, b: &[u8], b_narrow: bool) -> Ord
 {
     let a_count = count(a, a_narrow);
     let b_count = count(b, b_narrow);
-    let mut i = 0;
-    while i < a_count {
-        if b_count <= i {
-            return Order::After;
-        }
+    let shared = lesser(a_count, b_count);
+    let mut i = past_shared(a, a_narrow, b, b_narrow, shared);
+    while i < shared {
         let x = code_at(a, a_narrow, i);
         let y = code_at(b, b_narrow, i);
         if !same_letter(x, y) {
@@ -105,18 +138,14 @@ pub fn compare_stored(a: &[u8], a_narrow: bool, b: &[u8], b_narrow: bool) -> Ord
         }
         i += 1;
     }
+    if i < a_count {
+        return Order::After;
+    }
     if i < b_count {
         Order::Before
     } else {
         Order::Same
     }
-}
-
-// The lesser of two counts.
-fn lesser(a: usize, b: usize) -> usize
-    ensures { λ r. ⌜ (r ≤ a) × (r ≤ b) × (r < a → r ≡ b) ⌝ }
-{
-    if a < b { a } else { b }
 }
 
 // A stored name against a given one, by the same comparison. The loop ends with the shorter of the two, so that it has one test of its own.

@@ -12,11 +12,11 @@ use Rattle.names.proofs.compare_stored.Tie as tie
 
 -- what is left decides
 abbrev Inv-loop : tie.InvT-loop
-Inv-loop a a-narrow b b-narrow a-count b-count i₀ i =
+Inv-loop a a-narrow b b-narrow a-count b-count shared i₀ i =
     compare (codes a-narrow a) (codes b-narrow b) ≡ left (codes a-narrow a) (codes b-narrow b) i
 
 abbrev μ-loop : tie.MeasureT-loop
-μ-loop a a-narrow b b-narrow a-count b-count i₀ i = a-count - i
+μ-loop a a-narrow b b-narrow a-count b-count shared i₀ i = shared - i
 
 count-requires : tie.Need-count-requires Inv-loop μ-loop
 count-requires c κs = search needs
@@ -24,11 +24,14 @@ count-requires c κs = search needs
 count-requires-2 : tie.Need-count-requires-2 Inv-loop μ-loop
 count-requires-2 c κs = search needs
 
-loop-holds : tie.Need-loop-holds Inv-loop μ-loop
-loop-holds c = refl
+lesser-requires : tie.Need-lesser-requires Inv-loop μ-loop
+lesser-requires c κs = search needs
 
-returns : tie.Need-returns Inv-loop μ-loop
-returns c = let l = c .before .before .loop in sym (l .inv ∙ turn-longer _ _ (l .i) (omega arith) (omega arith))
+past-shared-requires : tie.Need-past-shared-requires Inv-loop μ-loop
+past-shared-requires c κs = let e = c .lesser .ensures in (omega arith, omega arith)
+
+loop-holds : tie.Need-loop-holds Inv-loop μ-loop
+loop-holds c = c .past-shared .ensures .1
 
 code-at-requires : tie.Need-code-at-requires Inv-loop μ-loop
 code-at-requires c κs = omega arith
@@ -45,21 +48,21 @@ upper-requires c κs = search needs
 upper-requires-2 : tie.Need-upper-requires-2 Inv-loop μ-loop
 upper-requires-2 c κs = search needs
 
-returns-2 : tie.Need-returns-2 Inv-loop μ-loop
-returns-2 c =
-    let l = c .before .before .before .before .before .before .before .before .before .loop in
+returns : tie.Need-returns Inv-loop μ-loop
+returns c =
+    let l = c .before .before .before .before .before .before .before .before .loop in
     let x = ap upper (c .before .before .before .before .before .before .code-at .ensures) in
     let y = ap upper (c .before .before .before .before .before .code-at2 .ensures) in
     sym (l .inv ∙ turn-below _ _ (l .i) (omega arith) (omega arith) (omega arith))
 
-returns-3 : tie.Need-returns-3 Inv-loop μ-loop
-returns-3 c =
-    let l = c .before .before .before .before .before .before .before .before .before .loop in
+returns-2 : tie.Need-returns-2 Inv-loop μ-loop
+returns-2 c =
+    let l = c .before .before .before .before .before .before .before .before .loop in
     let x = ap upper (c .before .before .before .before .before .before .code-at .ensures) in
     let y = ap upper (c .before .before .before .before .before .code-at2 .ensures) in
     let n =
     eqb-false (upper (c .before .before .before .before .before .before .code-at .result)) (upper (c .before .before .before .before .before .code-at2 .result))
-    (sym (c .before .before .before .before .same-letter .ensures) ∙ not-true (c .before .before .before .before .same-letter .result) (c .before .before .before .if2 .taken)) in
+    (sym (c .before .before .before .before .same-letter .ensures) ∙ not-true (c .before .before .before .before .same-letter .result) (c .before .before .before .if1 .taken)) in
     sym (l .inv ∙ turn-above _ _ (l .i) (omega arith) (omega arith) (omega arith))
 
 add-i : tie.Need-add-i Inv-loop μ-loop
@@ -70,16 +73,22 @@ loop-less c = search needs
 
 loop-again : tie.Need-loop-again Inv-loop μ-loop
 loop-again c =
-    let l = c .before .before .before .before .before .before .loop in
-    let e = eqb-true _ _ (sym (c .before .same-letter .ensures) ∙ not-false (c .before .same-letter .result) (c .if2 .left)) in
+    let l = c .before .before .before .before .before .loop in
+    let e = eqb-true _ _ (sym (c .before .same-letter .ensures) ∙ not-false (c .before .same-letter .result) (c .if1 .left)) in
     l .inv ∙ turn-level _ _ (l .i) (omega arith) (omega arith)
     (sym (ap upper (c .before .before .before .code-at .ensures)) ∙ e ∙ ap upper (c .before .before .code-at2 .ensures))
 
+returns-3 : tie.Need-returns-3 Inv-loop μ-loop
+returns-3 c =
+    let l = c .before .before .loop in
+    let e = c .before .before .before .before .lesser .ensures .2 (omega arith) in
+    sym (l .inv ∙ turn-longer _ _ (l .i) (omega arith) (omega arith))
+
 returns-4 : tie.Need-returns-4 Inv-loop μ-loop
-returns-4 c = let l = c .before .before .loop in sym (l .inv ∙ turn-shorter _ _ (l .i) (omega arith) (omega arith))
+returns-4 c = let l = c .before .before .before .loop in sym (l .inv ∙ turn-shorter _ _ (l .i) (omega arith) (omega arith))
 
 returns-5 : tie.Need-returns-5 Inv-loop μ-loop
-returns-5 c = let l = c .before .before .loop in sym (l .inv ∙ turn-ended _ _ (l .i) (omega arith) (omega arith))
+returns-5 c = let l = c .before .before .before .loop in sym (l .inv ∙ turn-ended _ _ (l .i) (omega arith) (omega arith))
 
 pub compare-stored-spec : {M : Type 1} → statement M
 compare-stored-spec =
@@ -89,17 +98,19 @@ compare-stored-spec =
     μ-loop
     count-requires
     count-requires-2
+    lesser-requires
+    past-shared-requires
     loop-holds
-    returns
     code-at-requires
     code-at-requires-2
     same-letter-requires
     upper-requires
     upper-requires-2
+    returns
     returns-2
-    returns-3
     add-i
     loop-less
     loop-again
+    returns-3
     returns-4
     returns-5)

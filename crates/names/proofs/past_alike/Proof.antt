@@ -1,0 +1,57 @@
+use borrow.Author.Needs.{needs}
+use native.Mathlib.Omega.{arith}
+use Prim.Native.Nat.{_≤_, _-_}
+use mathlib.Core.Path.{_≡_, refl, ap, _∙_}
+use Rattle.names.specs.Upper_case.{upper}
+use Rattle.names.specs.Comparison.{compare}
+use Rattle.names.proofs.Turns.{left, turn-level}
+use Rattle.names.proofs.past_alike.Statement.{statement}
+use Rattle.names.proofs.past_alike.Tie as tie
+
+-- what is left decides
+abbrev Inv-loop : tie.InvT-loop
+Inv-loop a b end i₀ i = (i ≤ end) × (compare a b ≡ left a b i)
+
+abbrev μ-loop : tie.MeasureT-loop
+μ-loop a b end i₀ i = end - i
+
+loop-holds : tie.Need-loop-holds Inv-loop μ-loop
+loop-holds c = (omega arith, refl)
+
+shared-slice-read-if1 : tie.Need-shared-slice-read-if1 Inv-loop μ-loop
+shared-slice-read-if1 c = search needs
+
+shared-slice-read-if1-2 : tie.Need-shared-slice-read-if1-2 Inv-loop μ-loop
+shared-slice-read-if1-2 c = search needs
+
+returns : tie.Need-returns Inv-loop μ-loop
+returns c = c .before .before .before .before .loop .inv
+
+add-i : tie.Need-add-i Inv-loop μ-loop
+add-i c = search needs
+
+loop-less : tie.Need-loop-less Inv-loop μ-loop
+loop-less c = search needs
+
+loop-again : tie.Need-loop-again Inv-loop μ-loop
+loop-again c =
+    let l = c .before .before .before .before .loop in
+    (omega arith, l .inv .1 ∙ turn-level _ _ (l .i) (omega arith) (omega arith) (ap upper (c .if1 .left)))
+
+returns-2 : tie.Need-returns-2 Inv-loop μ-loop
+returns-2 c = c .before .loop .inv
+
+pub past-alike-spec : {M : Type 1} → statement M
+past-alike-spec =
+    tie.close
+    (tie.spec
+    Inv-loop
+    μ-loop
+    loop-holds
+    shared-slice-read-if1
+    shared-slice-read-if1-2
+    returns
+    add-i
+    loop-less
+    loop-again
+    returns-2)
