@@ -1,10 +1,11 @@
 // Names: the codes of a stored name, upper case, order and hash. Names are read in place and never copied.
 ghost use mathlib.Core.Path.{_≡_};
-ghost use Prim.Native.Nat.{_*_, _%_, _≤_, _<_};
+ghost use Prim.Native.Nat.{_+_, _*_, _%_, _≤_, _<_};
 ghost use mathlib.Core.Bool.{_||_};
 ghost use lib.Dec.{eqb, ltb};
 ghost use lib.ListN.{length, getD, drop};
 ghost use Rattle.names.specs.Codes.{codes, charactersIn, hasCode, backslash};
+ghost use Rattle.names.specs.Steps.{AmongFour};
 ghost use Rattle.names.specs.Upper_case.{upper};
 ghost use Rattle.names.specs.Comparison.{compare, sameName};
 ghost use Rattle.names.specs.Hashing.{mixed, hashOf};
@@ -211,8 +212,8 @@ pub fn is_same(a: &[u8], a_narrow: bool, b: &[u8], b_narrow: bool) -> bool
     true
 }
 
-// "A name has .. no backslash"
-pub fn has_backslash(s: &[u8], narrow: bool) -> bool
+// A short name's characters, one by one.
+fn has_in_turn(s: &[u8], narrow: bool) -> bool
     ensures { λ r. ⌜ r ≡ hasCode backslash (codes narrow (now (s .entry))) ⌝ }
 {
     let end = count(s, narrow);
@@ -224,6 +225,46 @@ pub fn has_backslash(s: &[u8], narrow: bool) -> bool
         i += 1;
     }
     false
+}
+
+// Four characters from one on.
+fn among_four(s: &[u8], narrow: bool, i: usize) -> bool
+    requires { ⌜ i + 4 ≤ length (codes narrow (now s)) ⌝ }
+    ensures { λ r. ⌜ AmongFour (codes narrow (now (s .entry))) i r ⌝ }
+{
+    if code_at(s, narrow, i) == 92 {
+        return true;
+    }
+    if code_at(s, narrow, i + 1) == 92 {
+        return true;
+    }
+    if code_at(s, narrow, i + 2) == 92 {
+        return true;
+    }
+    if code_at(s, narrow, i + 3) == 92 {
+        return true;
+    }
+    false
+}
+
+// "A name has .. no backslash". Four characters in each turn, so that the loop's own test is made for four; the last four are asked at the end, and some
+// of them may be asked twice.
+pub fn has_backslash(s: &[u8], narrow: bool) -> bool
+    ensures { λ r. ⌜ r ≡ hasCode backslash (codes narrow (now (s .entry))) ⌝ }
+{
+    let end = count(s, narrow);
+    if end < 4 {
+        return has_in_turn(s, narrow);
+    }
+    let last = end - 4;
+    let mut i = 0;
+    while i < last {
+        if among_four(s, narrow, i) {
+            return true;
+        }
+        i += 4;
+    }
+    among_four(s, narrow, last)
 }
 
 // A product modulo 2^32: whole in 64 bits, of which the remainder is taken.

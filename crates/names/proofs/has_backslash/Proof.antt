@@ -1,47 +1,54 @@
-use borrow.Author.Needs.{needs}
 use native.Mathlib.Omega.{arith}
 use Prim.Native.Nat.{_-_}
-use mathlib.Core.Path.{_≡_, refl, sym, _∙_}
-use lib.ListN.{drop}
-use Rattle.names.specs.Codes.{codes, hasCode, backslash}
-use Rattle.names.proofs.LawsCodes.{found, passed, ended}
+use mathlib.Core.Path.{sym}
+use borrow.Author.Needs.{needs}
+use Rattle.names.specs.Codes.{codes}
+use Rattle.names.proofs.LawsCodes.{Clear, clear-first, clear-four, four-found, four-last}
 use Rattle.names.proofs.has_backslash.Statement.{statement}
 use Rattle.names.proofs.has_backslash.Tie as tie
 
--- what is left decides
 abbrev Inv-loop : tie.InvT-loop
-Inv-loop s narrow end i₀ i = hasCode backslash (codes narrow s) ≡ hasCode backslash (drop i (codes narrow s))
+Inv-loop s narrow end last i₀ i = Clear (codes narrow s) i
 
 abbrev μ-loop : tie.MeasureT-loop
-μ-loop s narrow end i₀ i = end - i
+μ-loop s narrow end last i₀ i = last - i
 
 count-requires : tie.Need-count-requires Inv-loop μ-loop
 count-requires c κs = search needs
 
-loop-holds : tie.Need-loop-holds Inv-loop μ-loop
-loop-holds c = refl
-
-code-at-requires : tie.Need-code-at-requires Inv-loop μ-loop
-code-at-requires c κs = omega arith
+has-in-turn-requires : tie.Need-has-in-turn-requires Inv-loop μ-loop
+has-in-turn-requires c κs = search needs
 
 returns : tie.Need-returns Inv-loop μ-loop
-returns c =
+returns c = c .has-in-turn .ensures
+
+loop-holds : tie.Need-loop-holds Inv-loop μ-loop
+loop-holds c = clear-first _
+
+among-four-requires : tie.Need-among-four-requires Inv-loop μ-loop
+among-four-requires c κs = omega arith
+
+returns-2 : tie.Need-returns-2 Inv-loop μ-loop
+returns-2 c =
     let l = c .before .before .before .loop in
-    sym (l .inv ∙ found _ _ (l .i) (omega arith) (omega arith))
+    sym (four-found _ (l .i) (l .inv) (c .if2 .taken) (c .before .among-four .ensures))
 
 add-i : tie.Need-add-i Inv-loop μ-loop
-add-i c = search needs
+add-i c = omega arith
 
 loop-less : tie.Need-loop-less Inv-loop μ-loop
-loop-less c = search needs
+loop-less c = omega arith
 
 loop-again : tie.Need-loop-again Inv-loop μ-loop
 loop-again c =
     let l = c .before .before .before .loop in
-    l .inv ∙ passed _ _ (l .i) (omega arith) (λ e. c .if1 .left (c .before .code-at .ensures ∙ e))
+    clear-four _ (l .i) (l .inv) (c .if2 .left) (c .before .among-four .ensures)
 
-returns-2 : tie.Need-returns-2 Inv-loop μ-loop
-returns-2 c = let l = c .before .loop in sym (l .inv ∙ ended _ _ (l .i) (omega arith))
+among-four-requires-2 : tie.Need-among-four-requires-2 Inv-loop μ-loop
+among-four-requires-2 c κs = omega arith
+
+returns-3 : tie.Need-returns-3 Inv-loop μ-loop
+returns-3 c = let l = c .before .before .loop in four-last _ (l .i) _ (l .inv) (omega arith) (omega arith) (c .among-four2 .ensures)
 
 pub has-backslash-spec : {M : Type 1} → statement M
 has-backslash-spec =
@@ -50,10 +57,13 @@ has-backslash-spec =
     Inv-loop
     μ-loop
     count-requires
-    loop-holds
-    code-at-requires
+    has-in-turn-requires
     returns
+    loop-holds
+    among-four-requires
+    returns-2
     add-i
     loop-less
     loop-again
-    returns-2)
+    among-four-requires-2
+    returns-3)
