@@ -5,6 +5,7 @@ mod namesakes;
 mod new_log;
 mod quick;
 mod security;
+mod walk;
 use check::{Flaw, Idiom, Plain, Report, Style};
 use std::fs::{read, write};
 use std::hint::black_box;
@@ -43,6 +44,15 @@ struct HivePage {
     to: u64,
 }
 #[repr(C)]
+struct HiveWalk {
+    answer: HiveAnswer,
+    state: u64,
+    depth: u64,
+    name: u64,
+    length: u64,
+    narrow: u64,
+}
+#[repr(C)]
 struct HiveRows {
     answer: HiveAnswer,
     state: u64,
@@ -61,6 +71,8 @@ unsafe extern "C" {
     fn hive_find_key(h: *const u8, n: usize, p: *const u16, k: usize) -> HiveAnswer;
     fn hive_quick_key(h: *const u8, n: usize, p: *const u16, k: usize) -> HiveAnswer;
     fn hive_value_copy(h: *const u8, n: usize, p: *const u16, k: usize, x: *const u16, j: usize, o: *mut u8, m: usize) -> HiveCopy;
+    fn hive_walk_begin(h: *const u8, n: usize, l: *mut u32, k: usize) -> HiveWalk;
+    fn hive_walk_step(h: *const u8, n: usize, l: *mut u32, k: usize, depth: usize) -> HiveWalk;
     fn hive_remnants(h: *const u8, n: usize, from: usize, r: *mut u32, k: usize) -> HiveRows;
     fn hive_recover_page(h: *mut u8, n: usize, l: *const u8, k: usize, page: usize) -> HiveRecovery;
     fn hive_recover_close(h: *mut u8, n: usize, l: *const u8, k: usize) -> HiveRecovery;
@@ -91,6 +103,7 @@ enum Kind {
     Find,
     Quick,
     Copy,
+    Walk,
     Deleted,
     Repair,
     Sample,
@@ -107,6 +120,7 @@ enum Outcome {
     Check(Result<Report, Flaw>),
     Find(Result<u32, Flaw>),
     Copy(Result<usize, Flaw>),
+    Walk(Result<(usize, usize), Flaw>),
     Deleted(Result<usize, Flaw>),
     Repair(Result<usize, Flaw>),
     All(Result<(usize, usize), Flaw>),
@@ -142,6 +156,18 @@ fn rattle(i: &mut Input) -> Outcome {
             Kind::Copy => {
                 let c = hive_value_copy(h, n, i.path.as_ptr(), i.path.len(), LARGE.as_ptr(), 5, i.out.as_mut_ptr(), i.out.len());
                 Outcome::Copy(answer(c.answer, c.length as usize))
+            }
+            Kind::Walk => {
+                let (mut count, mut sum) = (0, 0usize);
+                let (l, k) = (i.rows.as_mut_ptr(), i.rows.len());
+                let mut w = hive_walk_begin(h, n, l, k);
+                while w.state >= 2 {
+                    let told = if w.state == 2 { w.name ^ w.length ^ w.narrow } else { 0 };
+                    sum = sum.wrapping_mul(37).wrapping_add(w.answer.value as usize ^ told as usize);
+                    count += 1;
+                    w = hive_walk_step(h, n, l, k, w.depth as usize);
+                }
+                Outcome::Walk(answer(w.answer, (count, sum)))
             }
             Kind::Deleted => {
                 let r = hive_remnants(h, n, 0, i.rows.as_mut_ptr(), i.rows.len());
@@ -185,6 +211,7 @@ fn rust<S: Style>(i: &mut Input) -> Outcome {
         Kind::Find => Outcome::Find(check::find::<S>(&i.hive, &i.path)),
         Kind::Quick => Outcome::Find(quick::find::<S>(&i.hive, &i.path)),
         Kind::Copy => Outcome::Copy(check::copy::<S>(&i.hive, &i.path, &LARGE, &mut i.out)),
+        Kind::Walk => Outcome::Walk(walk::all::<S>(&i.hive, &mut i.rows)),
         Kind::Deleted => Outcome::Deleted(check::remnants::<S>(&i.hive, &mut i.rows)),
         Kind::Repair => {
             let (mut done, mut at) = (0, check::next::<S>(&i.log, 0));
@@ -231,10 +258,10 @@ fn measured(side: &str, i: &mut Input) -> Outcome {
     }
 }
 
-const ROWS: [&str; 34] = [
+const ROWS: [&str; 37] = [
     "check-1", "check-4", "check-16", "check-64", "check-1024", "check-wide", "check-items", "check-values", "check-hints", "last-100", "absent-100", "last-5000", "absent-5000", "last-60000", "absent-60000",
     "quick-last-100", "quick-absent-100", "quick-last-5000", "quick-absent-5000", "quick-last-60000", "quick-absent-60000",
-    "copy", "deleted-1", "deleted-64", "clean-64", "repair-1000", "repair-1000-of-131072", "repair-100000", "all-1000", "all-1000-of-131072", "all-100000",
+    "copy", "walk-1", "walk-64", "walk-wide", "deleted-1", "deleted-64", "clean-64", "repair-1000", "repair-1000-of-131072", "repair-100000", "all-1000", "all-1000-of-131072", "all-100000",
     "new-1000", "new-60000", "hash-30M",
 ];
 
@@ -247,6 +274,8 @@ fn input(row: &str, folder: &str) -> Input {
         Some(("check", n)) => (Kind::Check, format!("mixed-{n}")),
         Some(("last" | "absent", n)) => (Kind::Find, format!("wide-{n}")),
         Some(("quick", rest)) => (Kind::Quick, format!("wide-{}", rest.split_once('-').unwrap().1)),
+        Some(("walk", "wide")) => (Kind::Walk, "wide-60000".into()),
+        Some(("walk", n)) => (Kind::Walk, format!("mixed-{n}")),
         Some(("deleted", n)) => (Kind::Deleted, format!("left-{n}")),
         Some(("clean", n)) => (Kind::Deleted, format!("zeros-{n}")),
         Some(("repair", n)) => (Kind::Repair, format!("torn-{n}")),
@@ -264,7 +293,7 @@ fn input(row: &str, folder: &str) -> Input {
         _ => String::new(),
     };
     let out = vec![0; if kind == Kind::Check { hive.len() / 64 } else if kind == Kind::New || kind == Kind::All { hive.len() / 4096 } else { 1_048_576 }];
-    let rows = vec![0; if kind == Kind::Deleted { hive.len() / 24 * 4 } else { 0 }];
+    let rows = vec![0; if kind == Kind::Deleted { hive.len() / 24 * 4 } else if kind == Kind::Walk { 1539 } else { 0 }];
     Input { kind, hive, log, path: path.encode_utf16().collect(), out, rows }
 }
 

@@ -1,10 +1,9 @@
-/* The path of the key that a refusal names. The hive may hold anything, so its parent fields are followed no further than a tree is deep. */
+/* The way from a key up to the root, and the path of the key that a refusal names. The hive may hold anything, so parent fields are followed no further
+ * than a tree is deep. */
 #include "host.h"
 
-enum { LEVELS = 512 };
-
 /* The names from a key up to the root, whose own is left out. Answers how many, or -1 where a step is refused or the root is not met. */
-static int climb(const Hive *h, uint32_t key, Name *names)
+int climb(const Hive *h, uint32_t key, Name *names)
 {
     HiveAnswer root = hive_find_key(h->bytes.at, h->bytes.length, NULL, 0);
     for (int n = 0; root.number == 0 && n <= LEVELS; n++) {

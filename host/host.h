@@ -62,7 +62,7 @@ typedef int Verb(const Order *);
 int read_order(int count, char **words, Order *out, Verb **verb);
 
 /* The verbs. */
-Verb check_verb, key_verb, list_verb, value_verb, deleted_verb, repair_verb, explain_verb;
+Verb check_verb, key_verb, list_verb, keys_verb, value_verb, deleted_verb, repair_verb, explain_verb;
 
 /* say.c: answers on standard output, as a line or as a JSON object; messages on standard error. Those that answer an int answer TROUBLE. */
 void say_as(bool json, bool many);
@@ -73,6 +73,7 @@ void say_bare(const char *label, uint64_t n);
 void say_only(const char *label, uint64_t n);
 void say_word(const char *label, const char *word);
 void say_name(Name name, enum Style style);
+void say_path(const Name *way, size_t count);
 void say_end(void);
 void put_json_name(FILE *to, Name name);
 int trouble(const char *file, const char *format, ...) __attribute__((format(printf, 2, 3)));
@@ -88,6 +89,7 @@ long decode(const char **text);
 void put_utf8(FILE *to, uint32_t code);
 void put_escape(FILE *to, uint32_t code);
 void put_name(FILE *to, Name name, enum Style style);
+void put_path(FILE *to, const Name *way, size_t count);
 void put_argument(FILE *to, const char *text);
 int path_units(const char *text, Path *out);
 int name_units(const char *text, Units *out);
@@ -106,7 +108,9 @@ int refusal(const Hive *h, HiveAnswer a, const Path *path);
 int check(const char *file, Bytes hive, HiveReport *out);
 int report(const Hive *h, HiveReport r);
 
-/* climb.c: the key that a refusal names, by its path */
+/* climb.c: a key's way up to the root, and the key that a refusal names, by its path */
+enum { LEVELS = 512 };
+int climb(const Hive *h, uint32_t key, Name *names);
 void put_key(FILE *to, const Hive *h, uint32_t key);
 
 /* hints.c */

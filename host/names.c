@@ -93,6 +93,15 @@ long decode(const char **text)
     return c;
 }
 
+/* The names of keys on the way down from the root, whose own is left out. */
+void put_path(FILE *to, const Name *way, size_t count)
+{
+    for (size_t i = 0; i < count; i++) {
+        fputs(i == 0 ? "" : "\\", to);
+        put_name(to, way[i], KEY_NAME);
+    }
+}
+
 /* A word of the command line, or the name of a file, in a message. */
 void put_argument(FILE *to, const char *text)
 {

@@ -16,6 +16,7 @@ static const struct {
     {"check", "FILE..", 1, NO_END, LOG | GROW | JSON, check_verb},
     {"key", "FILE PATH", 2, 2, LOG | GROW | JSON | WIDE, key_verb},
     {"ls", "FILE [PATH]", 1, 2, LOG | GROW | JSON | WIDE, list_verb},
+    {"keys", "FILE [PATH]", 1, 2, LOG | GROW | JSON, keys_verb},
     {"value", "FILE PATH NAME [OUT]", 3, 4, LOG | GROW | JSON | NTH, value_verb},
     {"deleted", "FILE", 1, 1, LOG | GROW | JSON, deleted_verb},
     {"repair", "FILE LOG [LOG2]", 2, 3, GROW | JSON | DRY_RUN | BACKUP | ANYWAY, repair_verb},
@@ -88,7 +89,7 @@ int read_order(int count, char **words, Order *o, Verb **verb)
     while (v < VERB_COUNT && strcmp(words[0], VERBS[v].name) != 0)
         v++;
     if (v == VERB_COUNT)
-        return misused("\"%s\" is none of check, key, ls, value, deleted, repair and explain", words[0]);
+        return misused("\"%s\" is none of check, key, ls, keys, value, deleted, repair and explain", words[0]);
     *o = (Order){.words = words};
     for (int i = 1; i < count && status == GOOD; i++) {
         if (options && strcmp(words[i], "--") == 0)

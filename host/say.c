@@ -34,11 +34,16 @@ static void put_json_code(FILE *to, uint32_t c)
         put_utf8(to, c);
 }
 
+static void put_json_units(FILE *to, Name name)
+{
+    for (size_t i = 0; i < unit_count(name);)
+        put_json_code(to, next_code(name, &i));
+}
+
 void put_json_name(FILE *to, Name name)
 {
     fputc('"', to);
-    for (size_t i = 0; i < unit_count(name);)
-        put_json_code(to, next_code(name, &i));
+    put_json_units(to, name);
     fputc('"', to);
 }
 
@@ -100,15 +105,18 @@ void say_word(const char *label, const char *word)
     put_json_text(stdout, word);
 }
 
-/* The name as the tool reads it, which loses nothing. */
-static void say_notation(Name name, enum Style style)
+/* A name, or a key's path, as the tool reads it, which loses nothing. */
+static void say_notation(const Name *way, size_t count, enum Style style)
 {
     char *text = NULL;
     size_t length;
     FILE *to = open_memstream(&text, &length);
     if (to == NULL)
         return;
-    put_name(to, name, style);
+    if (style == KEY_NAME)
+        put_path(to, way, count);
+    else
+        put_name(to, way[0], style);
     fclose(to);
     say_word("notation", text);
     free(text);
@@ -124,7 +132,24 @@ void say_name(Name name, enum Style style)
     fputs(",\"name\":", stdout);
     put_json_name(stdout, name);
     if (shape.replaced)
-        say_notation(name, style);
+        say_notation(&name, 1, style);
+}
+
+/* A key's path: the names on the way, which alone stand on a line. */
+void say_path(const Name *way, size_t count)
+{
+    if (!shape.json) {
+        put_path(stdout, way, count);
+        return;
+    }
+    fputs(",\"path\":\"", stdout);
+    for (size_t i = 0; i < count; i++) {
+        fputs(i == 0 ? "" : "\\\\", stdout);
+        put_json_units(stdout, way[i]);
+    }
+    fputc('"', stdout);
+    if (shape.replaced)
+        say_notation(way, count, KEY_NAME);
 }
 
 void say_end(void)

@@ -71,11 +71,14 @@ enum HiveFault {
     HIVE_FAULT_NAMESAKE = 29, /* a value with the name of one before it in its key */
 };
 
-/* The states: of an answer that goes on or ends, and of a step of the repair. */
+/* The states: of an answer that goes on or ends, of a walk, and of a step of the repair. */
 enum {
     HIVE_REFUSED = 0,
     HIVE_NO_MORE = 1,
     HIVE_THERE = 2,
+    HIVE_OVER = 1,
+    HIVE_OPENS = 2,
+    HIVE_CLOSES = 3,
     HIVE_CLEAN = 1,
     HIVE_DONE = 2,
 };
@@ -98,8 +101,8 @@ enum {
 
 /* Part of every answer. number: 0, or the refusal's number. place: the refusal's place. key: the refusal's key, else
  * HIVE_NO_KEY. value: the offset of the key or value that hive_find_key, hive_quick_key, hive_nth_subkey, hive_nth_value,
- * hive_key_at or hive_next_remnant found, else 0.
- * Where number is not 0, every other field of the answer but place and key is 0.
+ * hive_key_at or hive_next_remnant found, or of the key that hive_walk_begin or hive_walk_step opens or closes, else 0.
+ * Where number is not 0, every other field of the answer but place, key and a walk's depth is 0.
  */
 typedef struct {
     uint32_t number;
@@ -199,6 +202,25 @@ HIVE_ASSERT(offsetof(HiveKey, name) == 48);
 HIVE_ASSERT(offsetof(HiveKey, length) == 56);
 HIVE_ASSERT(offsetof(HiveKey, narrow) == 64);
 HIVE_ASSERT(sizeof(HiveKey) == 72);
+
+/* A step of a walk over all keys. state: HIVE_REFUSED; HIVE_OVER: no key is open; HIVE_OPENS or HIVE_CLOSES: a key, and answer.value is its
+ * offset. depth: how many keys are open after it. name, length, narrow: where a key opens as of a HiveMember, else 0.
+ */
+typedef struct {
+    HiveAnswer answer;
+    uint64_t state;
+    uint64_t depth;
+    uint64_t name;
+    uint64_t length;
+    uint64_t narrow;
+} HiveWalk;
+HIVE_ASSERT(offsetof(HiveWalk, answer) == 0);
+HIVE_ASSERT(offsetof(HiveWalk, state) == 16);
+HIVE_ASSERT(offsetof(HiveWalk, depth) == 24);
+HIVE_ASSERT(offsetof(HiveWalk, name) == 32);
+HIVE_ASSERT(offsetof(HiveWalk, length) == 40);
+HIVE_ASSERT(offsetof(HiveWalk, narrow) == 48);
+HIVE_ASSERT(sizeof(HiveWalk) == 56);
 
 /* A key or value record that deletion left in a free cell. state: HIVE_REFUSED, HIVE_NO_MORE or HIVE_THERE; then answer.value is
  * its offset, that of the size field of the cell that it once had: the record starts 4 bytes further on. kind: HIVE_OLD_KEY or
@@ -383,6 +405,24 @@ HiveCopy hive_copy_at(const uint8_t *hive, size_t hive_len, uint32_t value, uint
 
 /* What the record of the key at an offset says of it. Refuses 1 to 7, then 11 and 12 of the key. */
 HiveKey hive_key_at(const uint8_t *hive, size_t hive_len, uint32_t key);
+
+/* Starts a walk over all keys, each before those below it: opens the root. levels is a cursor that the caller lends, three words for
+ * each open key: its offset, the number of the leaf of its list and of the element in it that come next. 1,539 words are enough for
+ * any hive that hive_check accepts. Refuses 1 to 7, 11 and 12 of the root, then 20 where there are fewer than three words. A refusal
+ * leaves the words as they were.
+ */
+HiveWalk hive_walk_begin(const uint8_t *hive, size_t hive_len, uint32_t *levels, size_t levels_len);
+
+/* The next event of a walk: the next child of the last open key opens, or that key closes, or with depth 0 it is over. Start with
+ * hive_walk_begin, and go on with the depth of each answer until HIVE_OVER. On a hive that hive_check accepts every key opens once, and
+ * closes after all below it, and there is no refusal: a caller who lists keys needs no test for one that comes twice.
+ *
+ * The words and the depth may be any: a copy of them goes on from there, and { key, 0, 0 } with depth 1 walks what is below a key. On a
+ * hive that hive_check refuses a walk may take some 2^512 steps: check first, or count them. Refuses 1 to 7; 20 where the words are fewer
+ * than 3 x depth; 11 and 12 of the open key, of its list, the leaf and the child; 15 at a child below 513 open keys; 20 where there is
+ * no room for the child. Only where a key opens the words change: those of the open key and the three behind them.
+ */
+HiveWalk hive_walk_step(const uint8_t *hive, size_t hive_len, uint32_t *levels, size_t levels_len, size_t depth);
 
 /* The first record that deletion left in a free cell, at or past an offset in the bins data: at a multiple of 8 inside the cell
  * (its start counts), with "nk" or "vk" 4 bytes further on, ending inside the cell, with an admissible name. Start with 0, and go

@@ -34,10 +34,12 @@ __all__ = ["Hive", "Key", "Value", "Deleted", "Report", "Repair", "Log", "Refuse
 SECTOR = 512
 INTERFACES = (2, 1)  # those that this file knows: their structs and calls are the same, and in 1 no refusal names a key
 REFUSED, NO_MORE, THERE = 0, 1, 2
+OVER, OPENS, CLOSES = 1, 2, 3
 CLEAN, DONE = 1, 2
 SEGMENTS = 3
 NO_KEY = 0xFFFFFFFF
 LEVELS = 512
+WORDS_OF_A_WALK = 3 * (LEVELS + 1)  # three for each key that is open at once
 OLD_KEY, OLD_VALUE = 1, 2
 ROWS = 4096  # so many deleted records a call, each of four words
 
@@ -115,6 +117,10 @@ class _Key(ctypes.Structure):
                 ("name", c_uint64), ("length", c_uint64), ("narrow", c_uint64)]
 
 
+class _Walk(ctypes.Structure):
+    _fields_ = [("answer", _Answer), ("state", c_uint64), ("depth", c_uint64), ("name", c_uint64), ("length", c_uint64), ("narrow", c_uint64)]
+
+
 class _Rows(ctypes.Structure):
     _fields_ = [("answer", _Answer), ("state", c_uint64), ("rows", c_uint64)]
 
@@ -144,6 +150,7 @@ _CALLS = {
     "hive_value_at": (_Value, _MEMORY + [c_uint32]),
     "hive_copy_at": (_Copy, _MEMORY + [c_uint32] + _MEMORY),
     "hive_key_at": (_Key, _MEMORY + [c_uint32]),
+    "hive_walk_step": (_Walk, _MEMORY * 2 + [c_size_t]),
     "hive_remnants": (_Rows, _MEMORY + [c_size_t] + _MEMORY),
     "hive_recover_start": (_Recovery, _MEMORY * 2),
     "hive_recover_all": (_Recovery, _MEMORY * 2),
@@ -589,6 +596,26 @@ class Hive:
             if found.rows < ROWS:
                 return
             start = rows[4 * ROWS - 4] + 1
+
+    def keys(self, path: str = "") -> Iterator[Key]:
+        """Every key, or the key of that path and every key below it: each before those below it, in the order of the lists, and each once. The hive is
+        checked first, and Refused where the check refuses it. That no key of the rest comes twice, and that none is missing, is proved.
+
+        >>> [key.path for key in Hive("sample").keys("a")]
+        ['a', 'a\\\\k1', 'a\\\\k2', 'a\\\\k3', 'a\\\\k4', 'a\\\\k5', 'a\\\\k6', 'a\\\\k7']
+        """
+        self.check()
+        way, words = [self.key(path)], (c_uint32 * WORDS_OF_A_WALK)()
+        words[0] = way[0].offset
+        yield way[0]
+        while way:  # the keys that are open
+            step = _library.hive_walk_step(*self._memory, words, WORDS_OF_A_WALK, len(way))
+            _allow(step.answer)
+            if step.state == OPENS:
+                way.append(Key(self, step.answer.value, way[-1]._below(self._name(step))))
+                yield way[-1]
+            else:
+                way.pop()
 
     @property
     def root(self) -> Key:

@@ -528,6 +528,85 @@ def quick_copy(hive, path, name, out):
     return value_copy(hive, path, name, out, halving)
 
 
+# ---- the model: a walk over all keys
+
+WALK_REFUSED, WALK_OVER, WALK_OPENS, WALK_CLOSES = 0, 1, 2, 3
+OPEN_MOST = 513
+
+
+def opened(reader, at):
+    """That a key opens: its offset, where in the file its name stands, how many bytes the name has and whether each is a character."""
+    d = reader.cell(at)
+    return WALK_OPENS, at, BASE + at + 4 + 76, u16(d, 72), u16(d, 2) >> 5 & 1
+
+
+def walk_begin(hive, words):
+    """The root opens, and `words`, a list of numbers, start with root, 0, 0. Or Refused, and they stay."""
+    reader = Reader(open_hive(hive), u32(hive, 24))
+    root = reader.key(u32(hive, 36))["at"]
+    if len(words) < 3:
+        raise Refused(20)
+    words[0:3] = root, 0, 0
+    return opened(reader, root)
+
+
+def walk_step(hive, words, depth):
+    """One step of a walk in which so many keys are open, each with three of the words: its offset, and the numbers of the leaf and of the element that
+    come next. (state, offset, ..) or Refused. The words change only where a key opens."""
+    reader = Reader(open_hive(hive), u32(hive, 24))
+    if depth == 0:
+        return (WALK_OVER,)
+    if len(words) // 3 < depth:
+        raise Refused(20)
+    at, leaf, element = words[3 * depth - 3:3 * depth]
+    leaves = reader.leaf_offsets(reader.accepted(at))
+    children = reader.leaf(leaves[leaf]) if leaf < len(leaves) else []
+    if element >= len(children):
+        return WALK_CLOSES, at
+    child = children[element][0]
+    reader.key(child)
+    if depth >= OPEN_MOST:
+        raise Refused(15, child, child)
+    if len(words) // 3 < depth + 1:
+        raise Refused(20, 0, at)
+    after = (leaf, element + 1) if element + 1 < len(children) else (leaf + 1, 0)
+    words[3 * depth - 2:3 * depth + 3] = after + (child, 0, 0)
+    return opened(reader, child)
+
+
+def depth_after(answer, depth):
+    """How many keys are open after a step that was not refused."""
+    return depth + (answer[0] == WALK_OPENS) - (answer[0] == WALK_CLOSES)
+
+
+def walked(hive, words, depth=None, most=None):
+    """The answers of a walk: of begin and then steps, or of steps at a depth; the last is WALK_OVER or Refused, unless there are so many before."""
+    answers = []
+    while most is None or len(answers) < most:
+        try:
+            answers.append(walk_begin(hive, words) if depth is None else walk_step(hive, words, depth))
+        except Refused as refused:
+            return answers + [refused]
+        depth = depth_after(answers[-1], depth or 0)
+        if answers[-1][0] == WALK_OVER:
+            break
+    return answers
+
+
+def events(hive, at=None):
+    """What a walk of an accepted hive gives, by its tree alone: a key opens, then what is below it, and it closes; from the root, or from a key on."""
+    reader = Reader(open_hive(hive), u32(hive, 24))
+
+    def of(at):
+        yield opened(reader, at)
+        for leaf in reader.leaves(reader.key(at)):
+            for child, _ in leaf:
+                yield from of(child)
+        yield WALK_CLOSES, at
+
+    return list(of(u32(hive, 36) if at is None else at))
+
+
 # ---- the model: what deletion left behind
 
 OLD_KEY, OLD_VALUE = 1, 2

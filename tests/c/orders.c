@@ -1,12 +1,12 @@
 /* orders <STREAM: the frames of the test program answered by the C face. A refusal's line says the key under examination too, and lines that start
-   with a space say what the other calls answer, and what deletion left. tools/compare --keys compares them with the model. */
+   with a space say what the other calls answer, what deletion left, and a walk. tools/compare --keys compares them with the model. */
 #include <stdio.h>
 #include <string.h>
 #include <unistd.h>
 
 #include "../../include/kiweamotu.h"
 
-enum { LONGEST = 20480, HIVE = 1, LOG = 2, PATH = 3, MEMBERS = 4, ROOM = 3, ROWS = 3 };
+enum { LONGEST = 20480, HIVE = 1, LOG = 2, PATH = 3, MEMBERS = 4, ROOM = 3, ROWS = 3, WORDS = 1539, STEPS = 300, WILD = 12 };
 static uint8_t hive[LONGEST], payload[LONGEST];
 static size_t hive_length;
 
@@ -19,14 +19,21 @@ static size_t take(uint8_t *to, size_t n)
     return got;
 }
 
+static void say_refused(const char *before, HiveAnswer a)
+{
+    if (a.key == HIVE_NO_KEY)
+        printf("%srefused %u at %u in none", before, a.number, a.place);
+    else
+        printf("%srefused %u at %u in %u", before, a.number, a.place, a.key);
+}
+
 static void say(const char *before, HiveAnswer a)
 {
     if (a.number == 0)
-        printf("%skey at %u\n", before, a.value);
-    else if (a.key == HIVE_NO_KEY)
-        printf("%srefused %u at %u in none\n", before, a.number, a.place);
+        printf("%skey at %u", before, a.value);
     else
-        printf("%srefused %u at %u in %u\n", before, a.number, a.place, a.key);
+        say_refused(before, a);
+    putchar('\n');
 }
 
 static void members(const char *kind, HiveMember (*nth)(const uint8_t *, size_t, uint32_t, size_t), uint32_t key)
@@ -68,6 +75,91 @@ static void left(size_t length)
         say(" row: ", r.answer);
 }
 
+/* The bytes as one number: 37 times the number before, and the byte, wrapping at 32 bits. */
+static uint32_t sum(const uint8_t *bytes, size_t length)
+{
+    uint32_t sum = 0;
+    for (size_t i = 0; i < length; i++)
+        sum = sum * 37 + bytes[i];
+    return sum;
+}
+
+/* Words as one number in the same way. */
+static uint32_t sum_words(const uint32_t *words, size_t count)
+{
+    uint32_t sum = 0;
+    for (size_t i = 0; i < count; i++)
+        sum = sum * 37 + words[i];
+    return sum;
+}
+
+static void say_event(const char *before, HiveWalk w)
+{
+    if (w.state == HIVE_REFUSED)
+        say_refused(before, w.answer);
+    else if (w.state == HIVE_OVER)
+        printf("%sover", before);
+    else if (w.state == HIVE_CLOSES)
+        printf("%scloses %u", before, w.answer.value);
+    else
+        printf("%sopens %u name %llu length %llu narrow %llu", before, w.answer.value, (unsigned long long)w.name, (unsigned long long)w.length,
+               (unsigned long long)w.narrow);
+    printf(" depth %llu\n", (unsigned long long)w.depth);
+}
+
+static void walk(size_t length)
+{
+    uint32_t words[WORDS];
+    for (int i = 0; i < WORDS; i++)
+        words[i] = 7;
+    HiveWalk w = hive_walk_begin(hive, length, words, WORDS);
+    say_event(" walk: ", w);
+    for (int n = 1; n < STEPS && (w.state == HIVE_OPENS || w.state == HIVE_CLOSES); n++)
+        say_event(" walk: ", w = hive_walk_step(hive, length, words, WORDS, w.depth));
+    printf(" words: %u\n", sum_words(words, WORDS));
+}
+
+static uint32_t dice;
+
+static uint32_t throw(uint32_t sides)
+{
+    dice = dice * 1664525 + 1013904223;
+    return (dice >> 8) % sides;
+}
+
+static uint32_t root_of(size_t length)
+{
+    return length < 40 ? 0 : hive[36] | hive[37] << 8 | hive[38] << 16 | (uint32_t)hive[39] << 24;
+}
+
+/* The root, or mostly where a key may lie, at or behind some place. */
+static uint32_t some_offset(size_t length)
+{
+    uint32_t kind = throw(8);
+    if (kind == 0 || length < 4096 + 8)
+        return throw(1 << 24);
+    uint32_t at = throw((uint32_t)length - 4096) / 8 * 8;
+    while (at + 4096 + 8 < length && memcmp(hive + 4096 + at + 4, "nk", 2) != 0)
+        at += 8;
+    return kind < 3 || at + 4096 + 8 >= length ? root_of(length) : at;
+}
+
+/* Steps from words and depths that no walk has left. */
+static void wild(size_t length)
+{
+    dice = sum(hive, length);
+    for (int n = 0; n < WILD; n++) {
+        uint32_t words[12] = {0};
+        size_t count = throw(13), depth = throw(5);
+        for (size_t i = 0; i < count; i++)
+            words[i] = i % 3 == 0 ? some_offset(length) : throw(8) != 0 ? throw(2) : 0xffffffff - throw(2);
+        if (throw(16) == 0)
+            depth = (size_t)-1 - depth;
+        say_event(" wild: ", hive_walk_step(hive, length, words, count, depth));
+        printf(" words: %u\n", sum_words(words, count));
+    }
+}
+
 static void on_hive(size_t length)
 {
     static uint8_t map[LONGEST / 64];
@@ -80,19 +172,12 @@ static void on_hive(size_t length)
         printf("accepted bins %llu keys %llu values %llu used %llu free %llu\n", (unsigned long long)r.bins, (unsigned long long)r.keys,
                (unsigned long long)r.values, (unsigned long long)r.used, (unsigned long long)r.free);
     left(length);
-    uint32_t root = length < 40 ? 0 : hive[36] | hive[37] << 8 | hive[38] << 16 | (uint32_t)hive[39] << 24;
+    walk(length);
+    wild(length);
+    uint32_t root = root_of(length);
     members(" subkey: ", hive_nth_subkey, root);
     members(" value: ", hive_nth_value, root);
     say(" root: ", hive_key_at(hive, length, root).answer);
-}
-
-/* The bytes as one number: 37 times the number before, and the byte, wrapping at 32 bits. */
-static uint32_t sum(const uint8_t *bytes, size_t length)
-{
-    uint32_t sum = 0;
-    for (size_t i = 0; i < length; i++)
-        sum = sum * 37 + bytes[i];
-    return sum;
 }
 
 /* What the log says by itself: its facts, its pages all at once, and one by one with their places. */

@@ -6,6 +6,7 @@
 #include "build.h"
 #include "expect.h"
 #include "lend.h"
+#include "reading.h"
 
 enum { MOST = 65535, LONGEST_NAME = 16 };
 static uint32_t keys[MOST], leaves[MOST];
@@ -165,61 +166,6 @@ typedef struct {
 static Turn stopped(uint32_t number, uint32_t offset)
 {
     return (Turn){STOP, number, offset};
-}
-
-static uint32_t get16(const uint8_t *p)
-{
-    return p[0] | (uint32_t)p[1] << 8;
-}
-
-/* The data of the cell at an offset, by its own header, or NULL. */
-static const uint8_t *cell_at(const Made *m, uint32_t offset, size_t *length)
-{
-    const uint8_t *bins = m->file + 4096;
-    if (offset < 32 || offset % 8 != 0 || (size_t)offset + 4 > m->bins)
-        return NULL;
-    size_t size = 0u - get32(bins + offset);
-    if (get32(bins + offset) < 0x80000000 || size % 8 != 0 || offset + size > m->bins)
-        return NULL;
-    *length = size - 4;
-    return bins + offset + 4;
-}
-
-/* 11, 12 or 0 of a key. Each byte of a name is a character in these hives. */
-static uint32_t key_fault(const Made *m, uint32_t offset)
-{
-    size_t n;
-    const uint8_t *d = cell_at(m, offset, &n);
-    if (d == NULL)
-        return 11;
-    if (n < 76 || memcmp(d, "nk", 2) != 0 || (d[2] & 0x20) == 0)
-        return 12;
-    size_t length = get16(d + 72);
-    bool fits = length >= 1 && length <= 255 && 76 + length <= n;
-    for (size_t i = 0; fits && i < length; i++)
-        fits = d[76 + i] != '\\';
-    return fits ? 0 : 12;
-}
-
-static uint32_t list_fault(const Made *m, uint32_t offset, bool index_too)
-{
-    size_t n;
-    const uint8_t *d = cell_at(m, offset, &n);
-    if (d == NULL)
-        return 11;
-    if (n < 4)
-        return 12;
-    bool index = memcmp(d, "ri", 2) == 0, four = memcmp(d, "li", 2) == 0, eight = memcmp(d, "lf", 2) == 0 || memcmp(d, "lh", 2) == 0;
-    if (!four && !eight && !(index && index_too))
-        return 12;
-    size_t count = get16(d + 2);
-    return count >= 1 && 4 + count * (eight ? 8 : 4) <= n ? 0 : 12;
-}
-
-static uint32_t element(const Made *m, uint32_t list, size_t i)
-{
-    const uint8_t *d = data_of(m, list);
-    return get32(d + 4 + i * (d[0] == 'l' && d[1] != 'i' ? 8 : 4));
 }
 
 static int capital(int c)
@@ -433,15 +379,6 @@ static void t_spoilt(void)
         spoilt_at(keys[13], number, "n00012", GOOD(12), GOOD(12));
         spoilt_at(keys[13], number, "n00013", BAD(keys[13]), BAD(keys[13]));
     }
-}
-
-static uint32_t dice(void)
-{
-    static uint64_t seed = 88172645463325252;
-    seed ^= seed << 13;
-    seed ^= seed >> 7;
-    seed ^= seed << 17;
-    return (uint32_t)(seed >> 32);
 }
 
 /* Some subkeys in small leaves, each third with a subkey of its own, each second with a value. */

@@ -333,6 +333,34 @@ def loops():
     expect(refusal(lambda: list(Hive(hives.Builder(deep).hive).walk()))[0], 15)
 
 
+@test
+def every_key():
+    """the keys, each once, by the proved walk"""
+    for file in ("sample", "letters", "notation", "sources", "minimal"):
+        hive, data = Hive(file), bytes_of(file)
+        expect([(k.offset, k.path, k.name) for k in hive.keys()], [(k.offset, k.path, k.name) for k in hive.walk()])
+        expect([k.offset for k in hive.keys()], [e[1] for e in hives.events(data) if e[0] == hives.WALK_OPENS])
+        expect(len(list(hive.keys())), hive.check().keys)
+        if file != "notation":  # where JSON cannot hold a name
+            expect([k.path for k in hive.keys()], [json.loads(line)["path"] for line in asked("keys", "--json", file).splitlines()])
+        for key in hive.walk():
+            expect([k.offset for k in hive.keys(key.path)], [k.offset for k in key.walk()])
+    for seed in range(40):
+        dice = random.Random(seed)
+        names = sorted({"%c%d" % (dice.choice("kK"), dice.randrange(30)) for _ in range(dice.randrange(12))}, key=lambda n: hives.folded(hives.units(n)))
+        keys = [hives.Key(n, [hives.Key("x")] * dice.randrange(2), lists=dice.choice(("li", "lf", "lh"))) for n in {hives.name_hash(hives.units(n)): n for n in names}.values()]
+        made = hives.Builder(hives.Key("root", keys, lists=[(dice.choice(("li", "lf", "lh")), 1) for _ in keys] if keys else "lh"))
+        file = bytearray(made.hive)
+        if dice.random() < 0.5:
+            file[4096 + 32 + dice.randrange(2000)] ^= 1 << dice.randrange(8)
+        listed = lambda: [k.offset for k in Hive(file).keys()]
+        wanted = lambda: hives.check(file, bytearray(len(file) // 64)) and [e[1] for e in hives.events(file) if e[0] == hives.WALK_OPENS]
+        expect(told(listed), told(wanted))
+    expect(refusal(lambda: list(Hive("bad-key").keys()))[:2], (12, 120))
+    expect(refusal(lambda: list(Hive("sample").keys("nobody")))[0], 17)
+    expect(refusal(lambda: list(Hive("chain").keys()))[0], 15)
+
+
 class Cut(Exception):
     pass
 

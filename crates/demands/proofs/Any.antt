@@ -22,6 +22,7 @@ use Rattle.recovery.specs.declared.Stepped.the-variants as stepped
 use Rattle.recovery.specs.Calls.{pageAnswer, pageHive, closeAnswer, closeHive}
 use Rattle.recovery.proofs.Refusals.{start-refuses, page-refuses, close-refuses, next-refuses, all-refuses, mark-refuses, marked-refuses, facts-refuses as log-refuses}
 use Rattle.recovery.specs.AtOnce.{allAnswer, allHive, markedAnswer, markedMap}
+use Rattle.walk.proofs.Refusals.{begin-refuses, step-refuses, begin-stays, step-stays}
 use Rattle.remnants.proofs.Refusals.{next-refuses as remnant-refuses, rows-refuse, rows-stay}
 use Rattle.demands.specs.First.{Demand1}
 use Rattle.demands.proofs.As_check.{refuses-as-check}
@@ -95,6 +96,8 @@ demand1 =
       at-place = λ h v r e. at-refuses h v e;
       copy-at-place = λ h v n r e. copy-at-refuses h v n e;
       facts-place = λ h o r e. facts-refuses h o e;
+      begin-place = λ h ws r e. begin-refuses h ws e;
+      step-place = λ h ws n r e. step-refuses h ws n e;
       remnant-place = λ h from r e. remnant-refuses h from e;
       rows-place = λ h from n r e. rows-refuse h from n e;
       refuses-as-check = refuses-as-check;
@@ -109,6 +112,8 @@ demand1 =
       copy-stays = λ h us x out r e. refused-untouched InTurn h us x out e;
       quick-copy-stays = λ h us x out r e. refused-untouched Halving h us x out e;
       copy-at-stays = λ h v out r e. copy-at-stays h v out e;
+      begin-stays = λ h ws r e. begin-stays h ws e;
+      step-stays = λ h ws n r e. step-stays h ws n e;
       rows-stay = λ h from rows r e. rows-stay h from rows e;
       page-stays = page-stays;
       close-stays = close-stays;

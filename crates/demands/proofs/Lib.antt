@@ -4,3 +4,4 @@ pub mod Exactly
 pub mod Power
 pub mod One
 pub mod Honest
+pub mod Listing

@@ -31,6 +31,7 @@ use Rattle.recovery.specs.declared.Started.the-variants as started
 use Rattle.recovery.specs.Calls.{startAnswer}
 use Rattle.crash.proofs.Demand3.{until, running, finishes, may-seal, landed}
 use Rattle.crash.proofs.Barrier.{barrier}
+use Rattle.walk.proofs.Ways.{begin-stop, step-stop}
 use Rattle.remnants.proofs.Refusals.{base-stops, next-stops, rows-stop}
 use Rattle.demands.specs.Third.{Unread, Demand3}
 
@@ -103,6 +104,8 @@ module _ (d : List ℕ) (f : Flaw) (e : baseFault d ≡ Flawed f) where
         info-at = at;
         copy-at = λ v out. (copy-at v out, copy-stays d v out (copy-at v out));
         key-facts = key-facts;
+        walk-begin = λ ws. begin-stop d ws e;
+        walk-step = λ ws i. step-stop d ws i e;
         next-remnant = next-stops d (base-stops d e);
         remnants = rows-stop d (base-stops d e);
       }

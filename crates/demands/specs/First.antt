@@ -2,7 +2,8 @@
 --
 -- Every public call's contract is an equation, for all lists of bytes and with no condition on them: what it answers is `checkAnswer h m`, `findAnswer h us`,
 -- `infoAnswer h us x`, `viewAnswer h us x`, `copyAnswer h us x n`, `quickAnswer h us`, `quickInfo h us x`, `quickView h us x`, `quickCopy h us x n`,
--- `subkeyAnswer h o n`, `valueAnswer h o n`, `infoAt h v`, `copyAt h v n`, `factsAnswer h o`, `remnantAnswer h from`, `rowsAnswer h from n`,
+-- `subkeyAnswer h o n`, `valueAnswer h o n`, `infoAt h v`, `copyAt h v n`, `factsAnswer h o`, `beginAnswer h ws`, `stepAnswer h ws n`, `remnantAnswer h from`,
+-- `rowsAnswer h from n`,
 -- `startAnswer h l`, `pageAnswer h l p`, `closeAnswer h l`, `nextAnswer l from`, `allAnswer h l`, `markAnswer l from`, `markedAnswer l n` and
 -- `factsAnswer l` of a log. These are total functions, so there is an answer. What is left to say is what a refusal is.
 use Prim.Native.Nat.{ℕ, _/_, _≤_}
@@ -36,6 +37,9 @@ use Rattle.listing.specs.declared.KeyFacts.the-variants as facts
 use Rattle.listing.specs.declared.Member.the-variants as member
 use Rattle.listing.specs.Members.{subkeyAnswer, valueAnswer, infoAt, copyAt, outAt, factsAnswer}
 use Rattle.listing.specs.Refused.{OfSubkey, OfNth, OfInfo, OfCopied, OfFacts}
+use Rattle.walk.specs.declared.Walked.the-variants as walked
+use Rattle.walk.specs.Steps.{beginAnswer, beginLevels, stepAnswer, stepLevels}
+use Rattle.walk.specs.Refused.{OfBegin, OfStep}
 use Rattle.remnants.specs.declared.Filled.the-variants as filled
 use Rattle.remnants.specs.declared.Remnant.the-variants as remnant
 use Rattle.remnants.specs.Remnants.{remnantAnswer, rowsAnswer, rowsOut}
@@ -73,6 +77,8 @@ pub record Demand1 : Type 0 where
   pub at-place : (h : List ℕ) (v : Offset) (r : Refusal) → infoAt h v ≡ value.Refused r → Keyless (OfInfo h v) r
   pub copy-at-place : (h : List ℕ) (v : Offset) (n : ℕ) (r : Refusal) → copyAt h v n ≡ copied.Refused r → Keyless (OfCopied h v n) r
   pub facts-place : (h : List ℕ) (o : Offset) (r : Refusal) → factsAnswer h o ≡ facts.Refused r → Keyless (OfFacts h o) r
+  pub begin-place : (h ws : List ℕ) (r : Refusal) → beginAnswer h ws ≡ walked.Refused r → Keyless (OfBegin h ws) r
+  pub step-place : (h ws : List ℕ) (n : ℕ) (r : Refusal) → stepAnswer h ws n ≡ walked.Refused r → Because (OfStep h ws n) r
   pub remnant-place : (h : List ℕ) (from : ℕ) (r : Refusal) → remnantAnswer h from ≡ remnant.Refused r → Keyless (OfTiles h) r
   pub rows-place : (h : List ℕ) (from n : ℕ) (r : Refusal) → rowsAnswer h from n ≡ filled.Refused r → Keyless (OfRows h from n) r
   -- "1 to 7, 9 and 10 apply": with a map that is large enough, exactly as the check refuses, with the same number and place
@@ -90,6 +96,8 @@ pub record Demand1 : Type 0 where
   pub copy-stays : (h us x out : List ℕ) (r : Refusal) → copyAnswer h us x (length out) ≡ copied.Refused r → copyOut h us x out ≡ out
   pub quick-copy-stays : (h us x out : List ℕ) (r : Refusal) → quickCopy h us x (length out) ≡ copied.Refused r → quickOut h us x out ≡ out
   pub copy-at-stays : (h : List ℕ) (v : Offset) (out : List ℕ) (r : Refusal) → copyAt h v (length out) ≡ copied.Refused r → outAt h v out ≡ out
+  pub begin-stays : (h ws : List ℕ) (r : Refusal) → beginAnswer h ws ≡ walked.Refused r → beginLevels h ws ≡ ws
+  pub step-stays : (h ws : List ℕ) (n : ℕ) (r : Refusal) → stepAnswer h ws n ≡ walked.Refused r → stepLevels h ws n ≡ ws
   pub rows-stay : (h : List ℕ) (from : ℕ) (rows : List ℕ) (r : Refusal) → rowsAnswer h from (length rows) ≡ filled.Refused r → rowsOut h from rows ≡ rows
   pub page-stays : (h l : List ℕ) (p : ℕ) (r : Refusal) → pageAnswer h l p ≡ stepped.Refused r → pageHive h l p ≡ h
   pub close-stays : (h l : List ℕ) (r : Refusal) → closeAnswer h l ≡ stepped.Refused r → closeHive h l ≡ h

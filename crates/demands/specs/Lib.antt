@@ -3,3 +3,4 @@ pub mod Second
 pub mod Third
 pub mod Promises
 pub mod Frauds
+pub mod Listing

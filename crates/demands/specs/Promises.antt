@@ -16,6 +16,8 @@ use Rattle.lookup.specs.Answers.{infoAnswer, viewAnswer, viewStart, viewBytes, 
 use Rattle.listing.specs.declared.KeyFacts.{KeyFacts}
 use Rattle.listing.specs.declared.Member.{Member}
 use Rattle.listing.specs.Members.{subkeyAnswer, valueAnswer, infoAt, copyAt, outAt, factsAnswer}
+use Rattle.walk.specs.declared.Walked.{Walked}
+use Rattle.walk.specs.Steps.{beginAnswer, beginLevels, stepAnswer, stepLevels}
 use Rattle.remnants.specs.declared.Filled.{Filled}
 use Rattle.remnants.specs.declared.Remnant.{Remnant}
 use Rattle.remnants.specs.Remnants.{remnantAnswer, rowsAnswer, rowsOut}
@@ -52,6 +54,12 @@ QuickViews h us x hive s part = (s ≡ quickViewBytes h us x) × (part ≡ (hive
 abbrev pub CopiesAt : List ℕ → Offset → List ℕ → Copied → List ℕ → Type 0
 CopiesAt h v out r after = (r ≡ copyAt h v (length out)) × (after ≡ outAt h v out)
 
+abbrev pub Begins : List ℕ → List ℕ → Walked → List ℕ → Type 0
+Begins h ws r after = (r ≡ beginAnswer h ws) × (after ≡ beginLevels h ws)
+
+abbrev pub Steps : List ℕ → List ℕ → ℕ → Walked → List ℕ → Type 0
+Steps h ws n r after = (r ≡ stepAnswer h ws n) × (after ≡ stepLevels h ws n)
+
 abbrev pub Rows : List ℕ → ℕ → List ℕ → Filled → List ℕ → Type 0
 Rows h from rows r after = (r ≡ rowsAnswer h from (length rows)) × (after ≡ rowsOut h from rows)
 
@@ -84,6 +92,8 @@ pub record Unique : Type 0 where
   pub info-at : (h : List ℕ) (v : Offset) (r r′ : ValueFound) → r ≡ infoAt h v → r′ ≡ infoAt h v → r ≡ r′
   pub copy-at : (h : List ℕ) (v : Offset) (out : List ℕ) → Determines (CopiesAt h v out)
   pub key-facts : (h : List ℕ) (o : Offset) (r r′ : KeyFacts) → r ≡ factsAnswer h o → r′ ≡ factsAnswer h o → r ≡ r′
+  pub walk-begin : (h ws : List ℕ) → Determines (Begins h ws)
+  pub walk-step : (h ws : List ℕ) (n : ℕ) → Determines (Steps h ws n)
   pub next-remnant : (h : List ℕ) (from : ℕ) (r r′ : Remnant) → r ≡ remnantAnswer h from → r′ ≡ remnantAnswer h from → r ≡ r′
   pub remnants : (h : List ℕ) (from : ℕ) (rows : List ℕ) → Determines (Rows h from rows)
   pub start : (h l : List ℕ) (r r′ : Started) → r ≡ startAnswer h l → r′ ≡ startAnswer h l → r ≡ r′

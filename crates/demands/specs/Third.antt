@@ -21,6 +21,8 @@ use Rattle.lookup.specs.Answers.{infoAnswer, viewAnswer, viewBytes, copyAnswer,
 use Rattle.listing.specs.declared.KeyFacts.the-variants as facts
 use Rattle.listing.specs.declared.Member.the-variants as member
 use Rattle.listing.specs.Members.{subkeyAnswer, valueAnswer, infoAt, copyAt, outAt, factsAnswer}
+use Rattle.walk.specs.declared.Walked.the-variants as walked
+use Rattle.walk.specs.Steps.{beginAnswer, beginLevels, stepAnswer, stepLevels}
 use Rattle.remnants.specs.declared.Filled.the-variants as filled
 use Rattle.remnants.specs.declared.Remnant.the-variants as remnant
 use Rattle.remnants.specs.Remnants.{remnantAnswer, rowsAnswer, rowsOut}
@@ -49,6 +51,8 @@ pub record Unread (d : List ℕ) (r : Refusal) : Type 0 where
   pub info-at : (v : Offset) → infoAt d v ≡ value.Refused r
   pub copy-at : (v : Offset) (out : List ℕ) → (copyAt d v (length out) ≡ copied.Refused r) × (outAt d v out ≡ out)
   pub key-facts : (o : Offset) → factsAnswer d o ≡ facts.Refused r
+  pub walk-begin : (ws : List ℕ) → (beginAnswer d ws ≡ walked.Refused r) × (beginLevels d ws ≡ ws)
+  pub walk-step : (ws : List ℕ) (i : ℕ) → (stepAnswer d ws i ≡ walked.Refused r) × (stepLevels d ws i ≡ ws)
   pub next-remnant : (from : ℕ) → remnantAnswer d from ≡ remnant.Refused r
   pub remnants : (from : ℕ) (rows : List ℕ) → (rowsAnswer d from (length rows) ≡ filled.Refused r) × (rowsOut d from rows ≡ rows)
 

@@ -1,6 +1,6 @@
 -- What C is told: the answers' cases, laid flat. "If an answer is an enum, a definition tells you this paper's number and values for each of its
 -- cases. The promises use that definition."
-use Prim.Native.Nat.{ℕ}
+use Prim.Native.Nat.{ℕ, _+_, _-_}
 use mathlib.Core.Bool.{Bool, cond}
 use Rattle.fields.specs.declared.Refusal.{Refusal}
 use Rattle.fields.specs.Faults.{numberOf, noKey}
@@ -18,6 +18,8 @@ use Rattle.listing.specs.declared.KeyFacts.{KeyFacts}
 use Rattle.listing.specs.declared.KeyFacts.the-variants as facts
 use Rattle.listing.specs.declared.Member.{Member}
 use Rattle.listing.specs.declared.Member.the-variants as member
+use Rattle.walk.specs.declared.Walked.{Walked}
+use Rattle.walk.specs.declared.Walked.the-variants as walk
 use Rattle.recovery.specs.declared.Started.{Started}
 use Rattle.recovery.specs.declared.Started.the-variants as start
 use Rattle.recovery.specs.declared.Stepped.{Stepped}
@@ -41,6 +43,7 @@ use Rattle.hive_c.specs.declared.HiveValue.{HiveValue}
 use Rattle.hive_c.specs.declared.HiveCopy.{HiveCopy}
 use Rattle.hive_c.specs.declared.HiveKey.{HiveKey}
 use Rattle.hive_c.specs.declared.HiveMember.{HiveMember}
+use Rattle.hive_c.specs.declared.HiveWalk.{HiveWalk}
 use Rattle.hive_c.specs.declared.HiveRemnant.{HiveRemnant}
 use Rattle.hive_c.specs.declared.HiveRows.{HiveRows}
 use Rattle.hive_c.specs.declared.HiveRecovery.{HiveRecovery}
@@ -111,6 +114,16 @@ factsIn (facts.At k) =
     let e = k .entry in
     keyWith (granted (e .at .0)) (k .stamp) (k .parent .0) (k .subkeys) (k .values) (e .name .0) (e .len) (narrowIn (e .narrow))
 factsIn (facts.Refused f) = keyWith (refused f) 0 0 0 0 0 0 0
+
+abbrev pub walkWith : HiveAnswer → ℕ → ℕ → ℕ → ℕ → ℕ → HiveWalk
+walkWith a s n name len narrow = record { answer = a; state = s; depth = n; name = name; length = len; narrow = narrow }
+
+-- "state 0 refused, 1 over, 2 opens, 3 closes", of a walk in which n keys are open. "The depth afterwards is depth + 1, depth - 1, depth, depth."
+abbrev pub walkIn : Walked → ℕ → HiveWalk
+walkIn (walk.Refused f) n = walkWith (refused f) 0 n 0 0 0
+walkIn walk.Over n = walkWith (granted 0) 1 n 0 0 0
+walkIn (walk.Opens e) n = walkWith (granted (e .at .0)) 2 (n + 1) (e .name .0) (e .len) (narrowIn (e .narrow))
+walkIn (walk.Closes k) n = walkWith (granted (k .0)) 3 (n - 1) 0 0 0
 
 abbrev pub remnantWith : HiveAnswer → ℕ → ℕ → ℕ → ℕ → ℕ → HiveRemnant
 remnantWith a s k name len narrow = record { answer = a; state = s; kind = k; name = name; length = len; narrow = narrow }

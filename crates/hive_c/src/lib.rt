@@ -40,24 +40,35 @@ use remnants::Remain;
 use remnants::Remnant;
 use tree::Checked;
 use values::ValueData;
+use walk::Walked;
+ghost use Prim.Native.Nat.{_<_};
 ghost use mathlib.Core.Path.{_≡_};
+ghost use mathlib.Core.Bool.{true};
 ghost use lib.ListN.{length};
 ghost use Rattle.cells.specs.Survey.{mapLeft};
 ghost use Rattle.tree.specs.Tree.{checkAnswer};
 ghost use Rattle.paths.specs.Answers.{findAnswer, quickAnswer};
 ghost use Rattle.lookup.specs.Answers.{infoAnswer, viewAnswer, copyAnswer, copyOut, quickInfo, quickView, quickCopy, quickOut};
 ghost use Rattle.listing.specs.Members.{subkeyAnswer, valueAnswer, infoAt, copyAt, outAt, factsAnswer};
+ghost use Rattle.walk.specs.Events.{keepsCount};
+ghost use Rattle.walk.specs.Steps.{beginAnswer, beginLevels, stepAnswer, stepLevels};
 ghost use Rattle.recovery.specs.Calls.{startAnswer, pageAnswer, pageHive, closeAnswer, closeHive, nextAnswer};
 ghost use Rattle.recovery.specs.AtOnce.{allAnswer, allHive, markAnswer, markedAnswer, markedMap, factsAnswer as logAnswer};
 ghost use Rattle.remnants.specs.Remnants.{kindWord, remnantAnswer, rowsAnswer, rowsOut};
-ghost use Rattle.hive_c.specs.Flat.{remnantIn, rowsIn, granted as grantedOf, refused as refusedOf, reportIn, keyIn, formOf, valueIn, copyIn, narrowIn, memberIn, factsIn, startIn, stepIn, pageIn, markIn, mapIn, logIn};
+ghost use Rattle.hive_c.specs.Flat.{remnantIn, rowsIn, walkWith, walkIn, granted as grantedOf, refused as refusedOf, reportIn, keyIn, formOf, valueIn, copyIn, narrowIn, memberIn, factsIn, startIn, stepIn, pageIn, markIn, mapIn, logIn};
 
-// The states: of an answer that goes on or ends, and of a step of the repair.
+// The states: of an answer that goes on or ends, of a walk, and of a step of the repair.
 const REFUSED: u64 = 0;
 
 const NO_MORE: u64 = 1;
 
 const THERE: u64 = 2;
+
+const OVER: u64 = 1;
+
+const OPENS: u64 = 2;
+
+const CLOSES: u64 = 3;
 
 const CLEAN: u64 = 1;
 
@@ -80,8 +91,8 @@ const NO_KEY: u32 = 0xffff_ffff;
 
 // Part of every answer. number: 0, or the refusal's number. place: the refusal's place. key: the refusal's key, else
 // HIVE_NO_KEY. value: the offset of the key or value that hive_find_key, hive_quick_key, hive_nth_subkey, hive_nth_value,
-// hive_key_at or hive_next_remnant found, else 0.
-// Where number is not 0, every other field of the answer but place and key is 0.
+// hive_key_at or hive_next_remnant found, or of the key that hive_walk_begin or hive_walk_step opens or closes, else 0.
+// Where number is not 0, every other field of the answer but place, key and a walk's depth is 0.
 #[repr(C)]
 pub struct HiveAnswer {
     pub number: u32,
@@ -142,6 +153,18 @@ pub struct HiveKey {
     pub parent: u64,
     pub subkeys: u64,
     pub values: u64,
+    pub name: u64,
+    pub length: u64,
+    pub narrow: u64,
+}
+
+// A step of a walk over all keys. state: HIVE_REFUSED; HIVE_OVER: no key is open; HIVE_OPENS or HIVE_CLOSES: a key, and answer.value is its
+// offset. depth: how many keys are open after it. name, length, narrow: where a key opens as of a HiveMember, else 0.
+#[repr(C)]
+pub struct HiveWalk {
+    pub answer: HiveAnswer,
+    pub state: u64,
+    pub depth: u64,
     pub name: u64,
     pub length: u64,
     pub narrow: u64,
@@ -559,6 +582,74 @@ pub extern "C" fn hive_key_at(hive: &[u8], key: u32) -> HiveKey
     ensures { λ r. ⌜ r ≡ factsIn (factsAnswer (now (hive .entry)) (record { 0 = key })) ⌝ }
 {
     key_told(listing::key_facts(hive, Offset(key)))
+}
+
+fn opening(e: Entry, depth: usize) -> HiveWalk
+    requires { ⌜ depth < 513 ⌝ }
+    ensures { λ r. ⌜ r ≡ walkIn (Walked.Opens e) depth ⌝ }
+{
+    let deeper = depth as u64 + 1;
+    HiveWalk {
+        answer: granted(e.at.0),
+        state: OPENS,
+        depth: deeper,
+        name: e.name.0 as u64,
+        length: e.len as u64,
+        narrow: narrow_of(e.narrow),
+    }
+}
+
+fn nameless(answer: HiveAnswer, state: u64, depth: usize) -> HiveWalk
+    ensures { λ r. ⌜ r ≡ walkWith answer state depth 0 0 0 ⌝ }
+{
+    HiveWalk {
+        answer,
+        state,
+        depth: depth as u64,
+        name: 0,
+        length: 0,
+        narrow: 0,
+    }
+}
+
+fn walked(w: Walked, depth: usize) -> HiveWalk
+    requires { ⌜ keepsCount w depth ≡ true ⌝ }
+    ensures { λ r. ⌜ r ≡ walkIn w depth ⌝ }
+{
+    match w {
+        Walked::Opens(e) => opening(e, depth),
+        Walked::Closes(k) => nameless(granted(k.0), CLOSES, depth - 1),
+        Walked::Over => nameless(granted(0), OVER, depth),
+        Walked::Refused(f) => nameless(refused(f), REFUSED, depth),
+    }
+}
+
+// Starts a walk over all keys, each before those below it: opens the root. levels is a cursor that the caller lends, three words for
+// each open key: its offset, the number of the leaf of its list and of the element in it that come next. 1,539 words are enough for
+// any hive that hive_check accepts. Refuses 1 to 7, 11 and 12 of the root, then 20 where there are fewer than three words. A refusal
+// leaves the words as they were.
+#[no_mangle]
+pub extern "C" fn hive_walk_begin(hive: &[u8], levels: &mut [u32]) -> HiveWalk
+    ensures { λ r. ⌜ r ≡ walkIn (beginAnswer (now (hive .entry)) (now (levels .entry))) 0 ⌝ }
+    ensures { λ _. ⌜ now (levels .exit) ≡ beginLevels (now (hive .entry)) (now (levels .entry)) ⌝ }
+{
+    walked(walk::begin(hive, levels), 0)
+}
+
+// The next event of a walk: the next child of the last open key opens, or that key closes, or with depth 0 it is over. Start with
+// hive_walk_begin, and go on with the depth of each answer until HIVE_OVER. On a hive that hive_check accepts every key opens once, and
+// closes after all below it, and there is no refusal: a caller who lists keys needs no test for one that comes twice.
+//
+// The words and the depth may be any: a copy of them goes on from there, and { key, 0, 0 } with depth 1 walks what is below a key. On a
+// hive that hive_check refuses a walk may take some 2^512 steps: check first, or count them. Refuses 1 to 7; 20 where the words are fewer
+// than 3 x depth; 11 and 12 of the open key, of its list, the leaf and the child; 15 at a child below 513 open keys; 20 where there is
+// no room for the child. Only where a key opens the words change: those of the open key and the three behind them.
+#[no_mangle]
+pub extern "C" fn hive_walk_step(hive: &[u8], levels: &mut [u32], depth: usize) -> HiveWalk
+    ensures { λ r. ⌜ r ≡ walkIn (stepAnswer (now (hive .entry)) (now (levels .entry)) depth) depth ⌝ }
+    ensures { λ _. ⌜ now (levels .exit) ≡ stepLevels (now (hive .entry)) (now (levels .entry)) depth ⌝ }
+{
+    walked(walk::step(hive, levels, depth), depth)
 }
 
 fn kind_of(k: Kind) -> u64

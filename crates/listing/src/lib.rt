@@ -44,7 +44,8 @@ pub enum Member {
     Refused(Refusal),
 }
 
-fn entry_of(o: Offset, n: Name) -> Entry
+// A record that was tested, by its offset and its name.
+pub fn entry_of(o: Offset, n: Name) -> Entry
     requires { ⌜ n .at < 4294967296 ⌝ }
     ensures { λ r. ⌜ r ≡ entryOf o n ⌝ }
 {

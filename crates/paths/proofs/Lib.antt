@@ -7,6 +7,7 @@ pub mod Opens
 pub mod Held
 pub mod Exact
 pub mod Listed
+pub mod Each
 pub mod In_accepted
 pub mod Refusals
 pub mod Quick

@@ -1,10 +1,11 @@
 -- Every key of the pre-order listing is found again by the path of its names: the same cell.
-use Prim.Native.Nat.{ℕ, zero, suc}
+use Prim.Native.Nat.{ℕ, zero, suc, _<_}
 use native.Mathlib.Omega.{arith}
 use mathlib.Core.Path.{_≡_, sym, subst}
 use mathlib.Core.Bool.{true}
 use mathlib.Core.Logic.{⊎-elim}
 use mathlib.Core.List.{List, [], _∷_, List·Memᴰ, List·Memᴰ·cases-cons, List·Memᴰ·not-nil}
+use lib.ListN.{length}
 use Rattle.fields.specs.declared.Offset.{Offset}
 use Rattle.base.specs.Block.{binsData}
 use Rattle.cells.specs.Tiled.{BinsTile}
@@ -24,20 +25,21 @@ use Rattle.paths.proofs.Held.{part-name, held-few}
 use Rattle.paths.proofs.Splits.{PartNames, no-names, names-on, parts-joined, path-joined}
 use Rattle.paths.proofs.Exact.{find-exactly}
 
--- a key that is listed has names along its way
-listed-named : (d : List ℕ) (n : ℕ) (at k : Offset) → List·Memᴰ k (keysIn d n at) → (xs : List (List ℕ)) × Named d at xs k
+-- a key that is listed has names along its way, fewer than there are levels
+pub listed-named : (d : List ℕ) (n : ℕ) (at k : Offset) → List·Memᴰ k (keysIn d n at) → (xs : List (List ℕ)) × Named d at xs k × (length xs < n)
 unfolding keysIn
 listed-named d zero at k i = absurd (List·Memᴰ·not-nil i)
 listed-named d (suc n) at k i =
-    ⊎-elim (λ e. ([], subst (λ (o : Offset). Named d at [] o) (sym e) itself))
+    ⊎-elim (λ e. ([], subst (λ (o : Offset). Named d at [] o) (sym e) itself, omega arith))
     (λ j.
     let x = in-joined (keysIn d n) (children d at) k j in
     let r = listed-named d n (x .0 .at) k (x .2) in
-    (nameAt d (x .0 .at) ∷ r .0, child (x .1) (r .1)))
+    let q = r .2 in
+    (nameAt d (x .0 .at) ∷ r .0, child (x .1) (r .1), omega arith))
     (List·Memᴰ·cases-cons i)
 
 -- names lead where they are compared
-named-holds : {d : List ℕ} {o e : Offset} {xs : List (List ℕ)} → Named d o xs e → Holds d o xs e
+pub named-holds : {d : List ℕ} {o e : Offset} {xs : List (List ℕ)} → Named d o xs e → Holds d o xs e
 named-holds itself = here
 named-holds {d} (child {c = c} i r) = below i (same-reflexive (nameAt d (c .at))) (named-holds r)
 
@@ -58,7 +60,7 @@ module _ (h : List ℕ) (w : CleanAndWellFormed h) where
         let f = held-few (binsData h) (hiveOf h) (w .formed .tiled) levels xs (w .formed .tree) (named-holds named) in
         path-joined xs good-names (omega arith)
 
-    named-found : findAnswer h (joinedBy xs) ≡ At k
+    pub named-found : findAnswer h (joinedBy xs) ≡ At k
     named-found =
         find-exactly h w (joinedBy xs) k .1
         (rw (parts-joined xs good-names) (named-holds named))

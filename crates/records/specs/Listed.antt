@@ -5,7 +5,8 @@ use Rattle.fields.specs.declared.Offset.{Offset}
 use Rattle.records.specs.declared.Child.{Child}
 use Rattle.records.specs.Lists.{children}
 
--- the keys of the tree below a key with so many levels, itself first: in pre-order
+-- "in an accepted hive a pre-order listing gives every key the tree holds, each cell exactly once": a key, and then its children's listings, joined in list
+-- order. Of a tree with so many levels.
 unfoldable pub joined : (Offset → List Offset) → List Child → List Offset
 joined f [] = []
 joined f (c ∷ cs) = f (c .at) ++ joined f cs

@@ -1,0 +1,26 @@
+use Rattle.hive_c.specs.Flat.{walkIn}
+use Rattle.walk.specs.Events.{keepsCount}
+use Rattle.walk.proofs.Depths.{step-keeps}
+use Rattle.walk.specs.declared.Walked.{Walked}
+use mathlib.Core.Path.{ap, _∙_}
+use borrow.Author.Needs.{needs}
+use Rattle.hive_c.proofs.hive_walk_step.Statement.{statement}
+use Rattle.hive_c.proofs.hive_walk_step.Tie as tie
+
+step-requires : tie.Need-step-requires
+step-requires c κs = search needs
+
+walked-requires : tie.Need-walked-requires
+walked-requires c κs = ap (λ (x : Walked). keepsCount x (c .before .before .before .before .before .before .args .depth)) (c .before .before .step .ensures .0) ∙ step-keeps _ _ _
+
+same-length : tie.Need-same-length
+same-length c = search needs
+
+returns : tie.Need-returns
+returns c = (
+  c .walked .ensures ∙ ap (λ (x : Walked). walkIn x (c .before .before .before .before .before .before .before .args .depth)) (c .before .before .before .step .ensures .0),
+  c .before .before .before .step .ensures .1,
+)
+
+pub hive-walk-step-spec : {M : Type 1} → statement M
+hive-walk-step-spec = tie.close (tie.spec step-requires walked-requires same-length returns)

@@ -1,0 +1,44 @@
+use Rattle.walk.proofs.Ways.{below-none, below-bad, below-on}
+use Rattle.records.proofs.Totals.{total-ready}
+use mathlib.Core.Path.{sym, _∙_}
+use native.Mathlib.Omega.{arith}
+use borrow.Author.Needs.{needs}
+use Rattle.walk.proofs.next_below.Statement.{statement}
+use Rattle.walk.proofs.next_below.Tie as tie
+
+returns : tie.Need-returns
+returns c = sym (below-none _ _ _ (c .if1 .taken))
+
+slice-aggregate-head-at : tie.Need-slice-aggregate-head-at
+slice-aggregate-head-at c = search needs
+
+head-at-requires : tie.Need-head-at-requires
+head-at-requires c κs = search needs
+
+enum-known-f : tie.Need-enum-known-f
+enum-known-f c = search needs
+
+enum-known-ls : tie.Need-enum-known-ls
+enum-known-ls c = search needs
+
+next-in-requires : tie.Need-next-in-requires
+next-in-requires c κs = total-ready _ _ _ (c .before .before .before .before .before .before .before .before .before .args .k) (c .before .before .before .before .before .before .if1 .left) _ (sym (c .before .before .before .head-at .ensures) ∙ c .before .ls .given .1) (λ i. omega (arith, c .before .before .before .before .before .before .before .before .shared-slice-known .given i))
+
+returns-2 : tie.Need-returns-2
+returns-2 c = sym (below-bad _ _ _ (c .before .before .before .before .before .before .if1 .left) (sym (c .before .before .before .head-at .ensures) ∙ c .before .f .given .1))
+
+returns-3 : tie.Need-returns-3
+returns-3 c = c .next-in .ensures ∙ sym (below-on _ _ _ (c .before .before .before .before .before .before .before .if1 .left) (sym (c .before .before .before .before .head-at .ensures) ∙ c .before .before .ls .given .1))
+
+pub next-below-spec : {M : Type 1} → statement M
+next-below-spec =
+    tie.close
+    (tie.spec
+    returns
+    slice-aggregate-head-at
+    head-at-requires
+    enum-known-f
+    enum-known-ls
+    next-in-requires
+    returns-2
+    returns-3)

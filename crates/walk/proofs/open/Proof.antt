@@ -1,0 +1,58 @@
+use Rattle.walk.proofs.Ways.{name-small, open-bad, open-on}
+use Rattle.walk.specs.Steps.{entering, answerOf, levelsAfter}
+use Rattle.walk.specs.declared.Walked.the-variants.{Refused}
+use Rattle.listing.specs.declared.Entry.{Entry}
+use denote.Ref.{now}
+use mathlib.Core.Path.{sym, ap, _∙_}
+use borrow.Author.Needs.{needs}
+use Rattle.walk.proofs.open.Statement.{statement}
+use Rattle.walk.proofs.open.Tie as tie
+
+name-at-requires : tie.Need-name-at-requires
+name-at-requires c κs = search needs
+
+enum-known-f : tie.Need-enum-known-f
+enum-known-f c = search needs
+
+refused-requires : tie.Need-refused-requires
+refused-requires c κs = search needs
+
+enum-known-name : tie.Need-enum-known-name
+enum-known-name c = search needs
+
+entry-of-requires : tie.Need-entry-of-requires
+entry-of-requires c κs = name-small _ _ (sym (c .before .before .before .before .name-at .ensures) ∙ c .before .before .name .given .1)
+
+enter-requires : tie.Need-enter-requires
+enter-requires c κs = search needs
+
+returns : tie.Need-returns
+returns c =
+    let a = c .before .before .before .before .before .before .before .args in
+    let q = open-bad (a .bins .now) (now (a .levels)) (a .depth) (a .key) (a .c) (a .m) (sym (c .before .before .before .before .name-at .ensures) ∙ c .before .before .f .given .1) in
+    (ap Refused (c .refused .ensures) ∙ sym (ap answerOf q), sym (ap (levelsAfter (now (a .levels)) (a .depth)) q))
+
+same-length : tie.Need-same-length
+same-length c = search needs
+
+returns-2 : tie.Need-returns-2
+returns-2 c =
+    let a = c .before .before .before .before .before .before .before .before .before .before .before .args in
+    let q =
+    open-on (a .bins .now) (now (a .levels)) (a .depth) (a .key) (a .c) (a .m) (sym (c .before .before .before .before .before .before .before .before .name-at .ensures) ∙ c .before .before .before .before .before .before .name .given .1)
+    ∙ ap (λ (x : Entry). entering (now (a .levels)) (a .depth) (a .key) x (a .m)) (sym (c .before .before .before .entry-of .ensures)) in
+    (c .before .before .enter .ensures .0 ∙ sym (ap answerOf q), c .before .before .enter .ensures .1 ∙ sym (ap (levelsAfter (now (a .levels)) (a .depth)) q))
+
+pub open-spec : {M : Type 1} → statement M
+open-spec =
+    tie.close
+    (tie.spec
+    name-at-requires
+    enum-known-f
+    refused-requires
+    enum-known-name
+    entry-of-requires
+    enter-requires
+    returns
+    same-length
+    returns-2)

@@ -1,0 +1,3 @@
+pub mod Steps
+pub mod Events
+pub mod Refused
