@@ -7,9 +7,9 @@
 #include "expect.h"
 #include "lend.h"
 #include "reading.h"
+#include "wide.h"
 
 enum { LEVELS = 513, ENOUGH = 3 * LEVELS, MANY = 60000, MOST_EVENTS = 2 * (MANY + 1) };
-static uint32_t keys[MANY], leaves[MANY];
 
 static bool alike(HiveWalk a, HiveWalk b)
 {
@@ -164,36 +164,6 @@ static void walks(const Made *m)
         w = hive_walk_step(m->file, made_length(m), words, ENOUGH, w.depth);
     }
     free(e.at);
-}
-
-static const char *name_of(size_t i)
-{
-    static char name[16];
-    snprintf(name, sizeof name, "%c%05zu", i % 2 == 0 ? 'N' : 'n', i);
-    return name;
-}
-
-/* A list of the first keys: leaves of so many below an `ri`, of one kind or of all in turn ("??"); with 0 it is one leaf. */
-static uint32_t list_of(Made *m, size_t count, size_t each, const char *kind)
-{
-    static const char *const kinds[] = {"li", "lf", "lh"};
-    size_t n = 0;
-    if (each == 0)
-        return new_leaf(m, kind[0] == '?' ? "lh" : kind, keys, count);
-    for (size_t from = 0; from < count; from += each, n++)
-        leaves[n] = new_leaf(m, kind[0] == '?' ? kinds[n % 3] : kind, keys + from, count - from < each ? count - from : each);
-    return new_index(m, leaves, n);
-}
-
-static Made wide(size_t count, size_t each, const char *kind)
-{
-    Made m = made((256 + 112 * count + 4095) / 4096 * 4096 + 4096, 5);
-    m.root = new_key(&m, "R", 0);
-    for (size_t i = 0; i < count; i++)
-        keys[i] = new_key(&m, name_of(i), m.root);
-    hang_keys(&m, m.root, list_of(&m, count, each, kind), (uint32_t)count);
-    finish(&m);
-    return m;
 }
 
 /* A root, and so many keys each below the other: keys[0] is the root. */
