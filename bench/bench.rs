@@ -5,6 +5,7 @@ mod namesakes;
 mod new_log;
 mod quick;
 mod security;
+mod export;
 mod walk;
 use check::{Flaw, Idiom, Plain, Report, Style};
 use std::fs::{read, write};
@@ -53,6 +54,15 @@ struct HiveWalk {
     narrow: u64,
 }
 #[repr(C)]
+struct HiveExport {
+    answer: HiveAnswer,
+    state: u64,
+    depth: u64,
+    due: u64,
+    frames: u64,
+    bytes: u64,
+}
+#[repr(C)]
 struct HiveRows {
     answer: HiveAnswer,
     state: u64,
@@ -73,6 +83,8 @@ unsafe extern "C" {
     fn hive_value_copy(h: *const u8, n: usize, p: *const u16, k: usize, x: *const u16, j: usize, o: *mut u8, m: usize) -> HiveCopy;
     fn hive_walk_begin(h: *const u8, n: usize, l: *mut u32, k: usize) -> HiveWalk;
     fn hive_walk_step(h: *const u8, n: usize, l: *mut u32, k: usize, depth: usize) -> HiveWalk;
+    fn hive_export_begin(h: *const u8, n: usize, m: *mut u8, j: usize, l: *mut u32, k: usize) -> HiveExport;
+    fn hive_export_run(h: *const u8, n: usize, l: *mut u32, k: usize, depth: usize, due: usize, o: *mut u8, m: usize) -> HiveExport;
     fn hive_remnants(h: *const u8, n: usize, from: usize, r: *mut u32, k: usize) -> HiveRows;
     fn hive_recover_page(h: *mut u8, n: usize, l: *const u8, k: usize, page: usize) -> HiveRecovery;
     fn hive_recover_close(h: *mut u8, n: usize, l: *const u8, k: usize) -> HiveRecovery;
@@ -104,6 +116,7 @@ enum Kind {
     Quick,
     Copy,
     Walk,
+    Export,
     Deleted,
     Repair,
     Sample,
@@ -156,6 +169,18 @@ fn rattle(i: &mut Input) -> Outcome {
             Kind::Copy => {
                 let c = hive_value_copy(h, n, i.path.as_ptr(), i.path.len(), LARGE.as_ptr(), 5, i.out.as_mut_ptr(), i.out.len());
                 Outcome::Copy(answer(c.answer, c.length as usize))
+            }
+            Kind::Export => {
+                let (mut frames, mut bytes) = (0, 0);
+                let (l, k) = (i.rows.as_mut_ptr(), i.rows.len());
+                let (out, map) = i.out.split_at_mut(EXPORT_ROOM);
+                let mut e = hive_export_begin(h, n, map.as_mut_ptr(), map.len(), l, k);
+                while e.state == 2 {
+                    e = hive_export_run(h, n, l, k, e.depth as usize, e.due as usize, out.as_mut_ptr(), out.len());
+                    frames += e.frames as usize;
+                    bytes += e.bytes as usize;
+                }
+                Outcome::Walk(answer(e.answer, (frames, bytes)))
             }
             Kind::Walk => {
                 let (mut count, mut sum) = (0, 0usize);
@@ -212,6 +237,10 @@ fn rust<S: Style>(i: &mut Input) -> Outcome {
         Kind::Quick => Outcome::Find(quick::find::<S>(&i.hive, &i.path)),
         Kind::Copy => Outcome::Copy(check::copy::<S>(&i.hive, &i.path, &LARGE, &mut i.out)),
         Kind::Walk => Outcome::Walk(walk::all::<S>(&i.hive, &mut i.rows)),
+        Kind::Export => {
+            let (out, map) = i.out.split_at_mut(EXPORT_ROOM);
+            Outcome::Walk(export::all::<S>(&i.hive, map, &mut i.rows, out))
+        }
         Kind::Deleted => Outcome::Deleted(check::remnants::<S>(&i.hive, &mut i.rows)),
         Kind::Repair => {
             let (mut done, mut at) = (0, check::next::<S>(&i.log, 0));
@@ -258,10 +287,13 @@ fn measured(side: &str, i: &mut Input) -> Outcome {
     }
 }
 
-const ROWS: [&str; 37] = [
+// A run's buffer, before the check's map.
+const EXPORT_ROOM: usize = 2 << 20;
+
+const ROWS: [&str; 40] = [
     "check-1", "check-4", "check-16", "check-64", "check-1024", "check-wide", "check-items", "check-values", "check-hints", "last-100", "absent-100", "last-5000", "absent-5000", "last-60000", "absent-60000",
     "quick-last-100", "quick-absent-100", "quick-last-5000", "quick-absent-5000", "quick-last-60000", "quick-absent-60000",
-    "copy", "walk-1", "walk-64", "walk-wide", "deleted-1", "deleted-64", "clean-64", "repair-1000", "repair-1000-of-131072", "repair-100000", "all-1000", "all-1000-of-131072", "all-100000",
+    "copy", "walk-1", "walk-64", "walk-wide", "export-1", "export-64", "export-wide", "deleted-1", "deleted-64", "clean-64", "repair-1000", "repair-1000-of-131072", "repair-100000", "all-1000", "all-1000-of-131072", "all-100000",
     "new-1000", "new-60000", "hash-30M",
 ];
 
@@ -276,6 +308,8 @@ fn input(row: &str, folder: &str) -> Input {
         Some(("quick", rest)) => (Kind::Quick, format!("wide-{}", rest.split_once('-').unwrap().1)),
         Some(("walk", "wide")) => (Kind::Walk, "wide-60000".into()),
         Some(("walk", n)) => (Kind::Walk, format!("mixed-{n}")),
+        Some(("export", "wide")) => (Kind::Export, "wide-60000".into()),
+        Some(("export", n)) => (Kind::Export, format!("mixed-{n}")),
         Some(("deleted", n)) => (Kind::Deleted, format!("left-{n}")),
         Some(("clean", n)) => (Kind::Deleted, format!("zeros-{n}")),
         Some(("repair", n)) => (Kind::Repair, format!("torn-{n}")),
@@ -292,8 +326,8 @@ fn input(row: &str, folder: &str) -> Input {
         Some(("absent", _)) => "component999999".into(),
         _ => String::new(),
     };
-    let out = vec![0; if kind == Kind::Check { hive.len() / 64 } else if kind == Kind::New || kind == Kind::All { hive.len() / 4096 } else { 1_048_576 }];
-    let rows = vec![0; if kind == Kind::Deleted { hive.len() / 24 * 4 } else if kind == Kind::Walk { 1539 } else { 0 }];
+    let out = vec![0; if kind == Kind::Check { hive.len() / 64 } else if kind == Kind::Export { EXPORT_ROOM + hive.len() / 64 } else if kind == Kind::New || kind == Kind::All { hive.len() / 4096 } else { 1_048_576 }];
+    let rows = vec![0; if kind == Kind::Deleted { hive.len() / 24 * 4 } else if kind == Kind::Walk || kind == Kind::Export { 1539 } else { 0 }];
     Input { kind, hive, log, path: path.encode_utf16().collect(), out, rows }
 }
 

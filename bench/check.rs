@@ -435,13 +435,13 @@ fn each_leaf<S: Style>(bins: &[u8], map: Option<&[u8]>, o: u32, mut f: impl FnMu
     Ok(())
 }
 
-struct Data<'a> {
-    one: &'a [u8],
-    segments: Option<(&'a [u8], usize)>,
-    len: usize,
+pub struct Data<'a> {
+    pub one: &'a [u8],
+    pub segments: Option<(&'a [u8], usize)>,
+    pub len: usize,
 }
 
-fn data<'a, S: Style>(bins: &'a [u8], map: Option<&[u8]>, minor: u32, r: &'a [u8]) -> Res<Data<'a>> {
+pub fn data<'a, S: Style>(bins: &'a [u8], map: Option<&[u8]>, minor: u32, r: &'a [u8]) -> Res<Data<'a>> {
     let size = S::u32_at(r, 4);
     if size >= 0x8000_0000 {
         let len = (size & 0x7fff_ffff) as usize;
@@ -477,7 +477,7 @@ fn data<'a, S: Style>(bins: &'a [u8], map: Option<&[u8]>, minor: u32, r: &'a [u8
     Ok(Data { one: &[], segments: Some((list, count)), len })
 }
 
-fn value<'a, S: Style>(bins: &'a [u8], map: Option<&[u8]>, o: u32) -> Res<(&'a [u8], &'a [u8], bool)> {
+pub fn value<'a, S: Style>(bins: &'a [u8], map: Option<&[u8]>, o: u32) -> Res<(&'a [u8], &'a [u8], bool)> {
     let r = cell::<S>(bins, map, o)?;
     if r.len() < 20 || &r[0..2] != b"vk" {
         return Err(Flaw(12, o));
@@ -492,7 +492,7 @@ fn value<'a, S: Style>(bins: &'a [u8], map: Option<&[u8]>, o: u32) -> Res<(&'a [
     Ok((r, &r[20..20 + len], wide))
 }
 
-fn value_list<'a, S: Style>(bins: &'a [u8], map: Option<&[u8]>, k: &Key) -> Res<(&'a [u8], usize)> {
+pub fn value_list<'a, S: Style>(bins: &'a [u8], map: Option<&[u8]>, k: &Key) -> Res<(&'a [u8], usize)> {
     let n = S::u32_at(k.r, 36) as usize;
     if n == 0 {
         return Ok((&[], 0));

@@ -13,7 +13,7 @@ fn opens(at: u32, k: &Key) -> Event {
 }
 
 // The leaf of that number below a key, and how far its elements lie apart.
-fn leaf_of<'a, S: Style>(bins: &'a [u8], k: &Key, j: usize) -> Res<Option<(&'a [u8], usize)>> {
+pub fn leaf_of<'a, S: Style>(bins: &'a [u8], k: &Key, j: usize) -> Res<Option<(&'a [u8], usize)>> {
     if S::u32_at(k.r, 20) == 0 {
         return Ok(None);
     }

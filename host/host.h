@@ -62,7 +62,7 @@ typedef int Verb(const Order *);
 int read_order(int count, char **words, Order *out, Verb **verb);
 
 /* The verbs. */
-Verb check_verb, key_verb, list_verb, keys_verb, value_verb, deleted_verb, repair_verb, explain_verb;
+Verb check_verb, key_verb, list_verb, keys_verb, value_verb, export_verb, deleted_verb, repair_verb, explain_verb;
 
 /* say.c: answers on standard output, as a line or as a JSON object; messages on standard error. Those that answer an int answer TROUBLE. */
 void say_as(bool json, bool many);
@@ -131,6 +131,8 @@ int store(int fd, const char *path, const uint8_t *from, size_t length, uint64_t
 int settle(int fd, const char *path);
 int lengthen(int fd, const char *path, uint64_t length);
 int write_new(const char *path, Bytes bytes);
+typedef int Pieces(void *of, Bytes *next);
+int pieces_new(const char *path, Pieces *next, void *of);
 int copy_new(const char *path, int from, const char *from_path);
 
 /* repair.c */

@@ -18,6 +18,7 @@ static const struct {
     {"ls", "FILE [PATH]", 1, 2, LOG | GROW | JSON | WIDE, list_verb},
     {"keys", "FILE [PATH]", 1, 2, LOG | GROW | JSON, keys_verb},
     {"value", "FILE PATH NAME [OUT]", 3, 4, LOG | GROW | JSON | NTH, value_verb},
+    {"export", "FILE [OUT]", 1, 2, LOG | GROW | JSON, export_verb},
     {"deleted", "FILE", 1, 1, LOG | GROW | JSON, deleted_verb},
     {"repair", "FILE LOG [LOG2]", 2, 3, GROW | JSON | DRY_RUN | BACKUP | ANYWAY, repair_verb},
     {"explain", "N", 1, 1, 0, explain_verb},
@@ -89,7 +90,7 @@ int read_order(int count, char **words, Order *o, Verb **verb)
     while (v < VERB_COUNT && strcmp(words[0], VERBS[v].name) != 0)
         v++;
     if (v == VERB_COUNT)
-        return misused("\"%s\" is none of check, key, ls, keys, value, deleted, repair and explain", words[0]);
+        return misused("\"%s\" is none of check, key, ls, keys, value, export, deleted, repair and explain", words[0]);
     *o = (Order){.words = words};
     for (int i = 1; i < count && status == GOOD; i++) {
         if (options && strcmp(words[i], "--") == 0)

@@ -148,6 +148,21 @@ int write_new(const char *path, Bytes bytes)
     return new_end(&n, status);
 }
 
+/* Piece by piece, until one is empty. */
+int pieces_new(const char *path, Pieces *next, void *of)
+{
+    New n;
+    Bytes piece = {NULL, 0};
+    int status = new_start(path, &n);
+    for (uint64_t at = 0; status == GOOD; at += piece.length) {
+        status = next(of, &piece);
+        if (status != GOOD || piece.length == 0)
+            break;
+        status = store(n.fd, n.part, piece.at, piece.length, at);
+    }
+    return new_end(&n, status);
+}
+
 /* All that an open file holds. */
 int copy_new(const char *path, int from, const char *from_path)
 {

@@ -71,7 +71,7 @@ enum HiveFault {
     HIVE_FAULT_NAMESAKE = 29, /* a value with the name of one before it in its key */
 };
 
-/* The states: of an answer that goes on or ends, of a walk, and of a step of the repair. */
+/* The states: of an answer that goes on or ends, of a walk, of an export, and of a step of the repair. */
 enum {
     HIVE_REFUSED = 0,
     HIVE_NO_MORE = 1,
@@ -79,6 +79,7 @@ enum {
     HIVE_OVER = 1,
     HIVE_OPENS = 2,
     HIVE_CLOSES = 3,
+    HIVE_WRITTEN = 2,
     HIVE_CLEAN = 1,
     HIVE_DONE = 2,
 };
@@ -102,7 +103,7 @@ enum {
 /* Part of every answer. number: 0, or the refusal's number. place: the refusal's place. key: the refusal's key, else
  * HIVE_NO_KEY. value: the offset of the key or value that hive_find_key, hive_quick_key, hive_nth_subkey, hive_nth_value,
  * hive_key_at or hive_next_remnant found, or of the key that hive_walk_begin or hive_walk_step opens or closes, else 0.
- * Where number is not 0, every other field of the answer but place, key and a walk's depth is 0.
+ * Where number is not 0, every other field of the answer but place, key, a walk's depth and an export's depth and due is 0.
  */
 typedef struct {
     uint32_t number;
@@ -221,6 +222,38 @@ HIVE_ASSERT(offsetof(HiveWalk, name) == 32);
 HIVE_ASSERT(offsetof(HiveWalk, length) == 40);
 HIVE_ASSERT(offsetof(HiveWalk, narrow) == 48);
 HIVE_ASSERT(sizeof(HiveWalk) == 56);
+
+/* One frame of an export. state: HIVE_REFUSED; HIVE_NO_MORE: there is no frame of that number; HIVE_WRITTEN. length: how many bytes were
+ * written, else 0.
+ */
+typedef struct {
+    HiveAnswer answer;
+    uint64_t state;
+    uint64_t length;
+} HiveFrame;
+HIVE_ASSERT(offsetof(HiveFrame, answer) == 0);
+HIVE_ASSERT(offsetof(HiveFrame, state) == 16);
+HIVE_ASSERT(offsetof(HiveFrame, length) == 24);
+HIVE_ASSERT(sizeof(HiveFrame) == 32);
+
+/* Where an export stands. state: HIVE_REFUSED; HIVE_NO_MORE: all frames were written; HIVE_WRITTEN. depth, due: what the next run is asked
+ * with; where nothing was written they are those that were given. frames, bytes: how many this run wrote, else 0.
+ */
+typedef struct {
+    HiveAnswer answer;
+    uint64_t state;
+    uint64_t depth;
+    uint64_t due;
+    uint64_t frames;
+    uint64_t bytes;
+} HiveExport;
+HIVE_ASSERT(offsetof(HiveExport, answer) == 0);
+HIVE_ASSERT(offsetof(HiveExport, state) == 16);
+HIVE_ASSERT(offsetof(HiveExport, depth) == 24);
+HIVE_ASSERT(offsetof(HiveExport, due) == 32);
+HIVE_ASSERT(offsetof(HiveExport, frames) == 40);
+HIVE_ASSERT(offsetof(HiveExport, bytes) == 48);
+HIVE_ASSERT(sizeof(HiveExport) == 56);
 
 /* A key or value record that deletion left in a free cell. state: HIVE_REFUSED, HIVE_NO_MORE or HIVE_THERE; then answer.value is
  * its offset, that of the size field of the cell that it once had: the record starts 4 bytes further on. kind: HIVE_OLD_KEY or
@@ -423,6 +456,29 @@ HiveWalk hive_walk_begin(const uint8_t *hive, size_t hive_len, uint32_t *levels,
  * no room for the child. Only where a key opens the words change: those of the open key and the three behind them.
  */
 HiveWalk hive_walk_step(const uint8_t *hive, size_t hive_len, uint32_t *levels, size_t levels_len, size_t depth);
+
+/* Writes frame n of the hive's export, counted from 0, to the start of out: each key's opening frame, its values, its subkeys' frames and
+ * its closing frame, as docs/FRAMES.md lays them out. Every step checks the hive first, with a work map as of hive_check, and refuses
+ * what that refuses. Past the last frame it is HIVE_NO_MORE. 20, with the frame's key, where the frame is longer than out: ask again with
+ * more room; no frame is longer than 1,081,356 bytes. Only where a frame is written out changes, and only its first bytes.
+ */
+HiveFrame hive_export_step(const uint8_t *hive, size_t hive_len, uint8_t *map, size_t map_len, size_t n, uint8_t *out, size_t out_len);
+
+/* Starts an export in runs: checks the hive, with a work map as of hive_check, and opens the root. levels are 1,539 words that the caller
+ * lends: with fewer it is 20. A refusal leaves the words as they were.
+ */
+HiveExport hive_export_begin(const uint8_t *hive, size_t hive_len, uint8_t *map, size_t map_len, uint32_t *levels, size_t levels_len);
+
+/* As many whole frames as out has room for, one after the other, from where the last run or hive_export_begin ended: its depth and due, and
+ * the words as they were left. Go on until HIVE_NO_MORE; all runs together wrote what hive_export_step gives frame by frame. Where not
+ * even one frame fits it is 20, with the frame's key: ask again with more room.
+ *
+ * The hive is not checked again: that would read all of it for each run. In a hive that was accepted, and with words, depth and due as they
+ * were left, there is no other refusal. With any others the stream is wrong, or a run refuses 1 to 7, 20 where there are fewer than 1,539
+ * or 3 x depth words, 11, 12 and 15; but nothing outside is read or written, whatever they are. HIVE_NO_MORE and refusals leave out and
+ * the words.
+ */
+HiveExport hive_export_run(const uint8_t *hive, size_t hive_len, uint32_t *levels, size_t levels_len, size_t depth, size_t due, uint8_t *out, size_t out_len);
 
 /* The first record that deletion left in a free cell, at or past an offset in the bins data: at a multiple of 8 inside the cell
  * (its start counts), with "nk" or "vk" 4 bytes further on, ending inside the cell, with an admissible name. Start with 0, and go

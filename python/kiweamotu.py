@@ -27,9 +27,9 @@ import mmap
 import os
 import stat
 from ctypes import c_size_t, c_uint32, c_uint64, c_void_p
-from typing import Any, Callable, Iterator, List, NamedTuple, Optional, Sequence, Tuple, Union
+from typing import Any, BinaryIO, Callable, Iterator, List, NamedTuple, Optional, Sequence, Tuple, TypeVar, Union, overload
 
-__all__ = ["Hive", "Key", "Value", "Deleted", "Report", "Repair", "Log", "Refused", "Unsound", "log_facts", "repair"]
+__all__ = ["Hive", "Key", "Value", "Deleted", "Report", "Exported", "Repair", "Log", "Refused", "Unsound", "log_facts", "repair"]
 
 SECTOR = 512
 INTERFACES = (2, 1)  # those that this file knows: their structs and calls are the same, and in 1 no refusal names a key
@@ -42,6 +42,7 @@ LEVELS = 512
 WORDS_OF_A_WALK = 3 * (LEVELS + 1)  # three for each key that is open at once
 OLD_KEY, OLD_VALUE = 1, 2
 ROWS = 4096  # so many deleted records a call, each of four words
+ROOM = 1 << 21  # for the frames of one run; no frame is longer than 1,081,356 bytes
 
 # What a refusal's number means. PLACED are those whose place is an offset.
 WORDS = {
@@ -88,6 +89,7 @@ SZ, EXPAND_SZ, DWORD, DWORD_BIG_ENDIAN, LINK, MULTI_SZ, QWORD = 1, 2, 4, 5, 6, 7
 Source = Union[str, "os.PathLike[str]", bytes, bytearray, memoryview, Any]
 Sources = Union[Source, Sequence[Source]]
 Decoded = Union[str, int, List[str], bytes]
+Done = TypeVar("Done")
 
 
 # ---- the structs and calls of kiweamotu.h
@@ -121,6 +123,10 @@ class _Walk(ctypes.Structure):
     _fields_ = [("answer", _Answer), ("state", c_uint64), ("depth", c_uint64), ("name", c_uint64), ("length", c_uint64), ("narrow", c_uint64)]
 
 
+class _Export(ctypes.Structure):
+    _fields_ = [("answer", _Answer), ("state", c_uint64), ("depth", c_uint64), ("due", c_uint64), ("frames", c_uint64), ("bytes", c_uint64)]
+
+
 class _Rows(ctypes.Structure):
     _fields_ = [("answer", _Answer), ("state", c_uint64), ("rows", c_uint64)]
 
@@ -151,6 +157,8 @@ _CALLS = {
     "hive_copy_at": (_Copy, _MEMORY + [c_uint32] + _MEMORY),
     "hive_key_at": (_Key, _MEMORY + [c_uint32]),
     "hive_walk_step": (_Walk, _MEMORY * 2 + [c_size_t]),
+    "hive_export_begin": (_Export, _MEMORY * 3),
+    "hive_export_run": (_Export, _MEMORY * 2 + [c_size_t] * 2 + _MEMORY),
     "hive_remnants": (_Rows, _MEMORY + [c_size_t] + _MEMORY),
     "hive_recover_start": (_Recovery, _MEMORY * 2),
     "hive_recover_all": (_Recovery, _MEMORY * 2),
@@ -318,6 +326,12 @@ class Deleted(NamedTuple):
     offset: int
     name: str
     length: int
+
+
+class Exported(NamedTuple):
+    """What an export wrote: how many frames, and how many bytes they have."""
+    frames: int
+    bytes: int
 
 
 class Repair(NamedTuple):
@@ -617,6 +631,45 @@ class Hive:
             else:
                 way.pop()
 
+    @overload
+    def export(self) -> bytes: ...
+
+    @overload
+    def export(self, out: Union[str, "os.PathLike[str]", BinaryIO]) -> Exported: ...
+
+    def export(self, out: Any = None) -> Union[bytes, Exported]:
+        """All keys with their stamps, values, types and data, as one stream of frames (docs/FRAMES.md); security, class names, flags and layout are not
+        in it. `out` names a new file, or is a file that takes bytes; without it the stream is given back. The hive is checked first, and Refused where
+        the check refuses it: then nothing is written. That the stream is the tree's, whole and in order, is proved.
+
+        >>> Hive("minimal").export().hex(" ", 2)
+        '0a00 0000 1000 0000 0000 0000 0000 5200 0000 0000 1200'
+        """
+        runs = self._export_runs()
+        if out is None:
+            return b"".join(bytes(data) for _, data in runs)
+        if isinstance(out, (str, os.PathLike)):
+            return _new_file(os.fspath(out), lambda to: _put_runs(runs, lambda data: os.write(to, data)))
+        return _put_runs(runs, out.write)
+
+    def _export_runs(self) -> Iterator[Tuple[int, memoryview]]:
+        """Checks, and gives the runs: how many frames, and their bytes, which stand until the next are asked for."""
+        work, words = bytearray(self._memory[1] // 64), (c_uint32 * WORDS_OF_A_WALK)()
+        lent = _Lent(work, writable=True)
+        begun = _library.hive_export_begin(*self._memory, *lent.memory, words, WORDS_OF_A_WALK)
+        _allow(begun.answer)
+        return self._runs_from(begun, words)
+
+    def _runs_from(self, at: _Export, words: Any) -> Iterator[Tuple[int, memoryview]]:
+        room = bytearray(ROOM)
+        lent = _Lent(room, writable=True)
+        while True:
+            at = _library.hive_export_run(*self._memory, words, WORDS_OF_A_WALK, at.depth, at.due, *lent.memory)
+            _allow(at.answer)
+            if at.state == NO_MORE:
+                return
+            yield at.frames, memoryview(room)[:at.bytes]
+
     @property
     def root(self) -> Key:
         return self.key("")
@@ -757,14 +810,14 @@ def _new_name(part: str, path: str) -> None:
         os.rename(part, path)
 
 
-def _back_up(fd: int, path: str) -> None:
+def _new_file(path: str, fill: Callable[[int], Done]) -> Done:
     """A new file has another name until it is whole and on the disk."""
     if os.path.lexists(path):
         raise FileExistsError("%s is there already and is not overwritten" % path)
     part = "%s.part%d" % (path, os.getpid())
     to = os.open(part, os.O_WRONLY | os.O_CREAT | os.O_EXCL | os.O_CLOEXEC, 0o600)
     try:
-        _copy_all(fd, to)
+        done = fill(to)
         os.fsync(to)
         _new_name(part, path)
     finally:
@@ -772,6 +825,20 @@ def _back_up(fd: int, path: str) -> None:
         with contextlib.suppress(FileNotFoundError):
             os.unlink(part)
     _settle_folder(path)
+    return done
+
+
+def _put_runs(runs: Iterator[Tuple[int, memoryview]], write: Callable[[memoryview], Optional[int]]) -> Exported:
+    """Every byte of each run: a file without a buffer may take a part of them."""
+    frames = length = 0
+    for count, data in runs:
+        frames, length = frames + count, length + len(data)
+        while len(data) > 0:
+            n = write(data)
+            if n is None:
+                raise BlockingIOError("the file takes no bytes now")
+            data = data[n:]
+    return Exported(frames, length)
 
 
 def _checked(hive: bytearray) -> Tuple[Optional[Report], Optional[Refused]]:
@@ -825,7 +892,7 @@ def _run(fd: int, start: _Start, backup: Optional[str], dry_run: bool, anyway: b
         raise Unsound(*refused.args)
     if not dry_run:
         if backup is not None:
-            _back_up(fd, backup)
+            _new_file(backup, lambda to: _copy_all(fd, to))
         _write_out(fd, start)
     return Repair(False, start.started.pages, not dry_run, report, refused, len(start.hive) if start.grown else None, start.logs)
 

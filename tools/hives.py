@@ -550,28 +550,37 @@ def walk_begin(hive, words):
     return opened(reader, root)
 
 
-def walk_step(hive, words, depth):
-    """One step of a walk in which so many keys are open, each with three of the words: its offset, and the numbers of the leaf and of the element that
-    come next. (state, offset, ..) or Refused. The words change only where a key opens."""
-    reader = Reader(open_hive(hive), u32(hive, 24))
+def ahead(reader, words, depth):
+    """What a step would do, and nothing moves: its answer, and where a key opens the leaf and the element that then come next of its parent. Or Refused."""
     if depth == 0:
-        return (WALK_OVER,)
+        return (WALK_OVER,), None
     if len(words) // 3 < depth:
         raise Refused(20)
     at, leaf, element = words[3 * depth - 3:3 * depth]
     leaves = reader.leaf_offsets(reader.accepted(at))
     children = reader.leaf(leaves[leaf]) if leaf < len(leaves) else []
     if element >= len(children):
-        return WALK_CLOSES, at
+        return (WALK_CLOSES, at), None
     child = children[element][0]
     reader.key(child)
     if depth >= OPEN_MOST:
         raise Refused(15, child, child)
     if len(words) // 3 < depth + 1:
         raise Refused(20, 0, at)
-    after = (leaf, element + 1) if element + 1 < len(children) else (leaf + 1, 0)
+    return opened(reader, child), (leaf, element + 1) if element + 1 < len(children) else (leaf + 1, 0)
+
+
+def go_below(words, depth, child, after):
     words[3 * depth - 2:3 * depth + 3] = after + (child, 0, 0)
-    return opened(reader, child)
+
+
+def walk_step(hive, words, depth):
+    """One step of a walk in which so many keys are open, each with three of the words: its offset, and the numbers of the leaf and of the element that
+    come next. (state, offset, ..) or Refused. The words change only where a key opens."""
+    answer, after = ahead(Reader(open_hive(hive), u32(hive, 24)), words, depth)
+    if after:
+        go_below(words, depth, answer[1], after)
+    return answer
 
 
 def depth_after(answer, depth):
@@ -605,6 +614,116 @@ def events(hive, at=None):
         yield WALK_CLOSES, at
 
     return list(of(u32(hive, 36) if at is None else at))
+
+
+# ---- the model: the tree as frames
+
+KEY_OPENS, KEY_VALUE, KEY_CLOSES = 16, 17, 18
+EXPORT_WORDS = 3 * OPEN_MOST
+PAST = 2**64 - 1
+
+
+def framed(kind, payload=b""):
+    return struct.pack("<IH", len(payload), kind) + payload
+
+
+def open_frame(reader, k):
+    """The stamp, 8 bytes at 4 of the key's record as they stand, and the name in UTF-16LE."""
+    return framed(KEY_OPENS, reader.cell(k["at"])[4:12] + name_bytes(k["name"], True))
+
+
+def value_frame(reader, at):
+    """The type, how many bytes the name has in UTF-16LE, that name, and the data."""
+    v = reader.value(at)
+    name = name_bytes(v["name"], True)
+    return framed(KEY_VALUE, struct.pack("<II", v["kind"], len(name)) + name + reader.data(v))
+
+
+def tree_frames(hive):
+    """The frames of an accepted hive, by its tree alone, each with its key: a key opens, its values, the frames below it, and it closes."""
+    reader = Reader(open_hive(hive), u32(hive, 24))
+
+    def of(at):
+        k = reader.key(at)
+        yield at, open_frame(reader, k)
+        for v in reader.value_offsets(k):
+            yield at, value_frame(reader, v)
+        for leaf in reader.leaves(k):
+            for child, _ in leaf:
+                yield from of(child)
+        yield at, framed(KEY_CLOSES)
+
+    return list(of(u32(hive, 36)))
+
+
+def stream_of(hive):
+    return b"".join(data for _, data in tree_frames(hive))
+
+
+def put_frame(out, at, key, data):
+    """A frame at a place of `out`, a bytearray: where it ends, or 20 with the frame's key."""
+    if len(out) - at < len(data):
+        raise Refused(20, 0, key)
+    out[at:at + len(data)] = data
+    return at + len(data)
+
+
+def export_step(hive, work, n, out):
+    """Frame n, written to the start of `out`: its length, None past the last frame, or Refused. `work` is the map of the check."""
+    check(hive, work)
+    frames = tree_frames(hive)
+    return put_frame(out, 0, *frames[n]) if n < len(frames) else None
+
+
+def export_begin(hive, work, words):
+    """The check, and then the root is open in `words`, a list of numbers. The depth and the due number for the first run, or Refused."""
+    check(hive, work)
+    if len(words) < EXPORT_WORDS:
+        raise Refused(20)
+    words[0:3] = u32(hive, 36), 0, 0
+    return 1, 0
+
+
+# A frame that is due: its key and its bytes, the depth and the due number behind it, and where a child opens what then comes next of its parent.
+Due = namedtuple("Due", "key data depth due after")
+
+
+def frame_due(reader, words, depth, due):
+    """The frame that comes next where so many keys are open: the last one's own, one of its values, or what the walk does. None where it is over."""
+    if depth == 0:
+        return None
+    top = reader.accepted(words[3 * depth - 3])
+    if due == 0:
+        return Due(top["at"], open_frame(reader, top), depth, 1, None)
+    if due <= top["values"]:
+        return Due(top["at"], value_frame(reader, reader.value_offsets(top)[due - 1]), depth, due + 1, None)
+    (state, at, *_), after = ahead(reader, words, depth)
+    if state == WALK_CLOSES:
+        return Due(at, framed(KEY_CLOSES), depth - 1, PAST, None)
+    return Due(at, open_frame(reader, reader.key(at)), depth + 1, 1, after)
+
+
+def export_run(hive, words, depth, due, out):
+    """As many whole frames as `out`, a bytearray, has room for: how many, how many bytes, and the depth and the due number behind them. None where all
+    were written, or Refused where not even one was. The hive is not checked; words, depth and due may be any."""
+    reader = Reader(open_hive(hive), u32(hive, 24))
+    if len(words) < EXPORT_WORDS or len(words) // 3 < depth:
+        raise Refused(20)
+    frames = at = 0
+    while True:
+        try:
+            next_one = frame_due(reader, words, depth, due)
+            if next_one is None:
+                break
+            at = put_frame(out, at, next_one.key, next_one.data)
+        except Refused:
+            if frames == 0:
+                raise
+            break
+        if next_one.after:
+            go_below(words, depth, next_one.key, next_one.after)
+        frames, depth, due = frames + 1, next_one.depth, next_one.due
+    return (frames, at, depth, due) if frames else None
 
 
 # ---- the model: what deletion left behind
@@ -951,10 +1070,10 @@ class Key:
     """A key of a tree. `lists` says how the subkeys are listed: a signature for one leaf, or a list of
     (signature, count) for leaves below an `ri`. `item` is one of the builder's; None: its first."""
 
-    def __init__(self, name, subkeys=(), values=(), lists="lh", wide=None, item=None):
+    def __init__(self, name, subkeys=(), values=(), lists="lh", wide=None, item=None, stamp=0):
         self.name, self.subkeys, self.values, self.lists = units(name), list(subkeys), list(values), lists
         self.wide = any(c > 255 for c in self.name) if wide is None else wide
-        self.item, self.at = item, None
+        self.item, self.stamp, self.at = item, stamp, None
 
 
 class Builder:
@@ -1032,7 +1151,7 @@ class Builder:
             self.lay_key(child, k.at)
         listed = self.lay_lists(k)
         d = bytearray(76)
-        struct.pack_into("<2sH", d, 0, b"nk", 0 if k.wide else 0x20)
+        struct.pack_into("<2sHQ", d, 0, b"nk", 0 if k.wide else 0x20, k.stamp)
         struct.pack_into("<IIII", d, 16, parent, len(k.subkeys), 0, listed)
         struct.pack_into("<II", d, 36, len(k.values), values)
         struct.pack_into("<H", d, 72, len(name))

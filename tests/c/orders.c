@@ -1,5 +1,5 @@
 /* orders <STREAM: the frames of the test program answered by the C face. A refusal's line says the key under examination too, and lines that start
-   with a space say what the other calls answer, what deletion left, and a walk. tools/compare --keys compares them with the model. */
+   with a space say what the other calls answer, what deletion left, a walk, and the tree as frames. tools/compare --keys compares them with the model. */
 #include <stdio.h>
 #include <string.h>
 #include <unistd.h>
@@ -7,7 +7,8 @@
 #include "../../include/kiweamotu.h"
 
 enum { LONGEST = 20480, HIVE = 1, LOG = 2, PATH = 3, MEMBERS = 4, ROOM = 3, ROWS = 3, WORDS = 1539, STEPS = 300, WILD = 12 };
-static uint8_t hive[LONGEST], payload[LONGEST];
+enum { RUNS = 60, NUMBERED = 4, SMALL = 600, LARGE = 65536 };
+static uint8_t hive[LONGEST], payload[LONGEST], work[LONGEST / 64], out[LARGE];
 static size_t hive_length;
 
 /* Up to n bytes of the input: fewer where it ends. */
@@ -144,6 +145,12 @@ static uint32_t some_offset(size_t length)
     return kind < 3 || at + 4096 + 8 >= length ? root_of(length) : at;
 }
 
+/* For a frame or two, and now and then for more. */
+static uint32_t some_room(void)
+{
+    return throw(3) == 0 ? throw(SMALL) : throw(64);
+}
+
 /* Steps from words and depths that no walk has left. */
 static void wild(size_t length)
 {
@@ -160,12 +167,96 @@ static void wild(size_t length)
     }
 }
 
+static void say_out(size_t written, size_t room)
+{
+    printf(" out: %u\n", sum(out, written + 8 < room ? written + 8 : room));
+}
+
+static void say_export(const char *before, HiveExport e)
+{
+    if (e.state == HIVE_REFUSED)
+        say_refused(before, e.answer);
+    else if (e.state == HIVE_NO_MORE)
+        printf("%sdone", before);
+    else
+        printf("%s%llu frames %llu bytes", before, (unsigned long long)e.frames, (unsigned long long)e.bytes);
+    printf(" depth %llu due %llu\n", (unsigned long long)e.depth, (unsigned long long)e.due);
+}
+
+/* A run from where another stands; 8 bytes behind the frames are told too. */
+static HiveExport run(const char *before, size_t length, uint32_t *words, size_t count, HiveExport at, size_t room)
+{
+    memset(out, 0x5a, sizeof out);
+    HiveExport e = hive_export_run(hive, length, words, count, at.depth, at.due, out, room);
+    say_export(before, e);
+    say_out(e.bytes, room);
+    return e;
+}
+
+static void numbered(size_t length, size_t n, size_t room)
+{
+    memset(out, 0x5a, sizeof out);
+    HiveFrame f = hive_export_step(hive, length, work, sizeof work, n, out, room);
+    if (f.state == HIVE_REFUSED)
+        say(" step: ", f.answer);
+    else if (f.state == HIVE_NO_MORE)
+        puts(" step: done");
+    else
+        printf(" step: %llu bytes\n", (unsigned long long)f.length);
+    say_out(f.length, room);
+}
+
+/* The tree as frames: begin, runs with some room, each again with more where that is too small, and then some frames by their numbers. */
+static void exported(size_t length)
+{
+    uint32_t words[WORDS], frames = 0;
+    for (int i = 0; i < WORDS; i++)
+        words[i] = 7;
+    dice = sum(hive, length);
+    HiveExport e = hive_export_begin(hive, length, work, sizeof work, words, WORDS);
+    say_export(" export: ", e);
+    for (int n = 0; n < RUNS && e.state == HIVE_WRITTEN; n++) {
+        size_t room = some_room();
+        HiveExport x = run(" run: ", length, words, WORDS, e, room);
+        while (x.state == HIVE_REFUSED && (room = 4 * room + 24) <= LARGE)
+            x = run(" again: ", length, words, WORDS, e, room);
+        e = x;
+        frames += (uint32_t)e.frames;
+    }
+    printf(" words: %u\n", sum_words(words, WORDS));
+    for (int i = 0; i < NUMBERED; i++) {
+        size_t n = throw(frames + 2), room = some_room();
+        numbered(length, throw(8) == 0 ? (size_t)-1 - n : n, room);
+    }
+}
+
+/* Runs from words, depths and due numbers that no call has left, each with a second one behind it. */
+static void wild_runs(size_t length)
+{
+    dice = sum(hive, length);
+    for (int n = 0; n < WILD; n++) {
+        uint32_t words[WORDS + 7] = {0};
+        size_t count = throw(8) == 0 ? WORDS - 3 + throw(10) : WORDS;
+        HiveExport e = {.depth = throw(4) == 0 ? 511 + throw(4) : throw(5)};
+        e.due = throw(4);
+        for (size_t k = e.depth < 3 ? 0 : e.depth - 3; k < e.depth && k < count / 3; k++) {
+            words[3 * k] = some_offset(length);
+            for (size_t i = 1; i < 3; i++)
+                words[3 * k + i] = throw(8) != 0 ? throw(2) : 0xffffffff - throw(2);
+        }
+        e.depth = throw(16) == 0 ? (uint64_t)-1 - e.depth : e.depth;
+        e.due = throw(16) == 0 ? (uint64_t)-1 - e.due : e.due;
+        e = run(" wild run: ", length, words, count, e, some_room());
+        run(" and then: ", length, words, count, e, some_room());
+        printf(" words: %u\n", sum_words(words, count));
+    }
+}
+
 static void on_hive(size_t length)
 {
-    static uint8_t map[LONGEST / 64];
     memcpy(hive, payload, length);
     hive_length = length;
-    HiveReport r = hive_check(hive, length, map, sizeof map);
+    HiveReport r = hive_check(hive, length, work, sizeof work);
     if (r.answer.number != 0)
         say("", r.answer);
     else
@@ -174,6 +265,8 @@ static void on_hive(size_t length)
     left(length);
     walk(length);
     wild(length);
+    exported(length);
+    wild_runs(length);
     uint32_t root = root_of(length);
     members(" subkey: ", hive_nth_subkey, root);
     members(" value: ", hive_nth_value, root);
@@ -236,7 +329,6 @@ static void on_path(size_t length)
     static const uint16_t name[] = {'v'};
     size_t n = length / 2;
     memcpy(units, payload, length);
-    uint8_t out[ROOM];
     say("", hive_find_key(hive, hive_length, units, n));
     say(" info: ", hive_value_info(hive, hive_length, units, n, name, 1).answer);
     say(" view: ", hive_value_view(hive, hive_length, units, n, name, 1).answer);

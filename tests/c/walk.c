@@ -48,32 +48,6 @@ static HiveWalk begun(const Made *m, uint32_t *words, size_t count)
     return opens(m, m->root, 1);
 }
 
-/* The child that comes next of a key, by the two numbers behind it, which are moved on. Answers 0, a fault there, or that there is none. */
-enum { NONE = 1 };
-
-static uint32_t next_child(const Made *m, uint32_t *words, uint32_t *place)
-{
-    uint32_t list = get32(data_of(m, words[0]) + 28), leaf = list, fault;
-    if (get32(data_of(m, words[0]) + 20) == 0)
-        return NONE;
-    *place = list;
-    if ((fault = list_fault(m, list, true)) != 0)
-        return fault;
-    bool index = data_of(m, list)[0] == 'r';
-    if (words[1] >= (index ? get16(data_of(m, list) + 2) : 1))
-        return NONE;
-    *place = leaf = index ? element(m, list, words[1]) : list;
-    if ((fault = list_fault(m, leaf, false)) != 0)
-        return fault;
-    uint32_t count = get16(data_of(m, leaf) + 2);
-    if (words[2] >= count)
-        return NONE;
-    *place = element(m, leaf, words[2]);
-    words[1] += words[2] + 1 == count;
-    words[2] = words[2] + 1 == count ? 0 : words[2] + 1;
-    return key_fault(m, *place);
-}
-
 static HiveWalk stepped(const Made *m, uint32_t *words, size_t count, size_t depth)
 {
     uint32_t place, fault;

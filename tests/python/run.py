@@ -5,6 +5,7 @@ import contextlib
 import ctypes
 import doctest
 import fcntl
+import io
 import json
 import mmap
 import os
@@ -359,6 +360,77 @@ def every_key():
     expect(refusal(lambda: list(Hive("bad-key").keys()))[:2], (12, 120))
     expect(refusal(lambda: list(Hive("sample").keys("nobody")))[0], 17)
     expect(refusal(lambda: list(Hive("chain").keys()))[0], 15)
+
+
+class Narrow(io.RawIOBase):
+    """A file that takes a few bytes at a time."""
+
+    def __init__(self):
+        self.taken = b""
+
+    def write(self, data):
+        self.taken += data[:7]
+        return min(7, len(data))
+
+
+@test
+def exported():
+    """the tree as frames: the tool's stream and the plain reading's; to a new file, to open ones, in small runs"""
+    for file in ("sample", "letters", "notation", "sources", "minimal"):
+        hive, wanted = Hive(file), hives.stream_of(bytes_of(file))
+        report, many = hive.check(), Narrow()
+        told_of = (2 * report.keys + report.values, len(wanted))
+        expect(hive.export(), wanted)
+        expect(hive.export(many), told_of)
+        with open("python-open", "wb") as to:
+            expect(hive.export(to), told_of)
+        expect(hive.export("python-frames"), told_of)
+        expect(asked("export", file, "python-tool"), "exported frames %d bytes %d\n" % told_of)
+        expect((many.taken, bytes_of("python-open"), bytes_of("python-frames"), bytes_of("python-tool")), (wanted,) * 4)
+        expect(subprocess.run(tool + ["export", file], stdout=subprocess.PIPE, check=True).stdout, wanted)
+        for name in ("python-open", "python-frames", "python-tool"):
+            os.remove(name)
+        with mock.patch.object(kiweamotu, "ROOM", max(len(data) for _, data in hives.tree_frames(bytes_of(file)))):
+            expect((hive.export(), hive.export(io.BytesIO())), (wanted, told_of))
+        with mock.patch.object(kiweamotu, "ROOM", 5):
+            expect(refusal(hive.export), (20, None, hive.root.offset))
+
+
+@test
+def exported_at_random():
+    """the tree as frames agrees with the plain reading of the request, also where the hive is refused"""
+    for seed in range(60):
+        dice = random.Random(seed)
+        sizes = (0, 1, 4, 5, 100, 16344, 16345, 40000)
+        values = [hives.Value(name, bytes(dice.randrange(256) for _ in range(dice.choice(sizes))), dice.randrange(2**32)) for name in dice.sample(["", "a", "b\\c", "\xe9", "\u0141"], dice.randrange(5))]
+        keys = [hives.Key(name, [hives.Key("x", [], values[:1], stamp=dice.randrange(2**64))] * dice.randrange(2), values[i:], stamp=dice.randrange(2**64))
+                for i, name in enumerate(("Alpha", "b\xe9", "\u0141")[:dice.randrange(4)])]
+        made = hives.Builder(hives.Key("root", keys, values, stamp=dice.randrange(2**64)), minor=dice.choice((3, 4, 5)))
+        file = bytearray(made.hive)
+        if dice.random() < 0.4:
+            place, width, _what = dice.choice(made.fields)
+            file[place + dice.randrange(width)] ^= 1 << dice.randrange(8)
+        wanted = lambda: hives.check(file, bytearray(len(file) // 64)) and hives.stream_of(file)
+        expect(told(Hive(file).export), told(wanted))
+
+
+@test
+def not_exported():
+    """the tree as frames: a refusal writes nothing, and no file is written over"""
+    for out in (None, "python-frames", io.BytesIO()):
+        expect(refusal(Hive("bad-key").export, *[out] * (out is not None))[:2], (12, 120))
+        expect(out.getvalue() if isinstance(out, io.BytesIO) else b"", b"")
+    expect(refusal(Hive("spoilt").export), (7, None, None))
+    expect(Hive("spoilt", log="log").export(), Hive("sample").export())
+    before = bytes_of("sample")
+    with contextlib.suppress(FileExistsError):
+        Hive("minimal").export("sample")
+        raise AssertionError("not refused")
+    with contextlib.suppress(FileExistsError), mock.patch("os.path.lexists", lambda path: False):  # it came after the look
+        Hive("minimal").export("sample")
+        raise AssertionError("not refused")
+    expect(bytes_of("sample"), before)
+    expect([name for name in os.listdir(".") if name.startswith(("python-frames", "sample.part"))], [])
 
 
 class Cut(Exception):

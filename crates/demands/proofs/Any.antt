@@ -23,6 +23,7 @@ use Rattle.recovery.specs.Calls.{pageAnswer, pageHive, closeAnswer, closeHive}
 use Rattle.recovery.proofs.Refusals.{start-refuses, page-refuses, close-refuses, next-refuses, all-refuses, mark-refuses, marked-refuses, facts-refuses as log-refuses}
 use Rattle.recovery.specs.AtOnce.{allAnswer, allHive, markedAnswer, markedMap}
 use Rattle.walk.proofs.Refusals.{begin-refuses, step-refuses, begin-stays, step-stays}
+use Rattle.export.proofs.Refusals.{step-refuses as frame-refuses, step-leaves, begin-refuses as export-refuses, begin-leaves, run-refuses, run-leaves}
 use Rattle.remnants.proofs.Refusals.{next-refuses as remnant-refuses, rows-refuse, rows-stay}
 use Rattle.demands.specs.First.{Demand1}
 use Rattle.demands.proofs.As_check.{refuses-as-check}
@@ -98,6 +99,9 @@ demand1 =
       facts-place = λ h o r e. facts-refuses h o e;
       begin-place = λ h ws r e. begin-refuses h ws e;
       step-place = λ h ws n r e. step-refuses h ws n e;
+      frame-place = λ h m n room r e. frame-refuses h m n room e;
+      export-place = λ h m ws r e. export-refuses h m ws e;
+      run-place = λ h ws c room r e. run-refuses h ws c room e;
       remnant-place = λ h from r e. remnant-refuses h from e;
       rows-place = λ h from n r e. rows-refuse h from n e;
       refuses-as-check = refuses-as-check;
@@ -114,6 +118,9 @@ demand1 =
       copy-at-stays = λ h v out r e. copy-at-stays h v out e;
       begin-stays = λ h ws r e. begin-stays h ws e;
       step-stays = λ h ws n r e. step-stays h ws n e;
+      frame-stays = λ h m n out r e. step-leaves h m n out e;
+      export-stays = λ h m ws r e. begin-leaves h m ws e;
+      run-stays = λ h ws c out r e. run-leaves h ws c out e;
       rows-stay = λ h from rows r e. rows-stay h from rows e;
       page-stays = page-stays;
       close-stays = close-stays;

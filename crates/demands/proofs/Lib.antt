@@ -5,3 +5,4 @@ pub mod Power
 pub mod One
 pub mod Honest
 pub mod Listing
+pub mod Export

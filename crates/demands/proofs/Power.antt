@@ -32,6 +32,7 @@ use Rattle.recovery.specs.Calls.{startAnswer}
 use Rattle.crash.proofs.Demand3.{until, running, finishes, may-seal, landed}
 use Rattle.crash.proofs.Barrier.{barrier}
 use Rattle.walk.proofs.Ways.{begin-stop, step-stop}
+use Rattle.export.proofs.Refusals.{step-unread, begin-unread, run-unread}
 use Rattle.remnants.proofs.Refusals.{base-stops, next-stops, rows-stop}
 use Rattle.demands.specs.Third.{Unread, Demand3}
 
@@ -106,6 +107,9 @@ module _ (d : List ℕ) (f : Flaw) (e : baseFault d ≡ Flawed f) where
         key-facts = key-facts;
         walk-begin = λ ws. begin-stop d ws e;
         walk-step = λ ws i. step-stop d ws i e;
+        export-step = λ m i out. let s = survey-front d m (front-base d (length m) e) in step-unread d m (check-refused d m (s .0) refl) i out;
+        export-begin = λ m ws. let s = survey-front d m (front-base d (length m) e) in begin-unread d m (check-refused d m (s .0) refl) ws;
+        export-run = λ ws c out. run-unread d ws c out e;
         next-remnant = next-stops d (base-stops d e);
         remnants = rows-stop d (base-stops d e);
       }

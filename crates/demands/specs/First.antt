@@ -2,8 +2,8 @@
 --
 -- Every public call's contract is an equation, for all lists of bytes and with no condition on them: what it answers is `checkAnswer h m`, `findAnswer h us`,
 -- `infoAnswer h us x`, `viewAnswer h us x`, `copyAnswer h us x n`, `quickAnswer h us`, `quickInfo h us x`, `quickView h us x`, `quickCopy h us x n`,
--- `subkeyAnswer h o n`, `valueAnswer h o n`, `infoAt h v`, `copyAt h v n`, `factsAnswer h o`, `beginAnswer h ws`, `stepAnswer h ws n`, `remnantAnswer h from`,
--- `rowsAnswer h from n`,
+-- `subkeyAnswer h o n`, `valueAnswer h o n`, `infoAt h v`, `copyAt h v n`, `factsAnswer h o`, `beginAnswer h ws`, `stepAnswer h ws n`, `stepAnswer h m n room`,
+-- `beginAnswer h m ws` and `runAnswer h ws c room` of an export, `remnantAnswer h from`, `rowsAnswer h from n`,
 -- `startAnswer h l`, `pageAnswer h l p`, `closeAnswer h l`, `nextAnswer l from`, `allAnswer h l`, `markAnswer l from`, `markedAnswer l n` and
 -- `factsAnswer l` of a log. These are total functions, so there is an answer. What is left to say is what a refusal is.
 use Prim.Native.Nat.{ℕ, _/_, _≤_}
@@ -40,6 +40,12 @@ use Rattle.listing.specs.Refused.{OfSubkey, OfNth, OfInfo, OfCopied, OfFacts}
 use Rattle.walk.specs.declared.Walked.the-variants as walked
 use Rattle.walk.specs.Steps.{beginAnswer, beginLevels, stepAnswer, stepLevels}
 use Rattle.walk.specs.Refused.{OfBegin, OfStep}
+use Rattle.export.specs.declared.Begun.the-variants as begun
+use Rattle.export.specs.declared.Cursor.{Cursor}
+use Rattle.export.specs.declared.Ran.the-variants as ran
+use Rattle.export.specs.declared.Stepped.the-variants as frame
+use Rattle.export.specs.Answers.{stepAnswer as frameAnswer, stepOut, beginAnswer as exportAnswer, beginLevels as exportLevels, runAnswer, runOut, runLevels}
+use Rattle.export.specs.Refused.{OfFrame, OfBegun, OfRun}
 use Rattle.remnants.specs.declared.Filled.the-variants as filled
 use Rattle.remnants.specs.declared.Remnant.the-variants as remnant
 use Rattle.remnants.specs.Remnants.{remnantAnswer, rowsAnswer, rowsOut}
@@ -79,6 +85,9 @@ pub record Demand1 : Type 0 where
   pub facts-place : (h : List ℕ) (o : Offset) (r : Refusal) → factsAnswer h o ≡ facts.Refused r → Keyless (OfFacts h o) r
   pub begin-place : (h ws : List ℕ) (r : Refusal) → beginAnswer h ws ≡ walked.Refused r → Keyless (OfBegin h ws) r
   pub step-place : (h ws : List ℕ) (n : ℕ) (r : Refusal) → stepAnswer h ws n ≡ walked.Refused r → Because (OfStep h ws n) r
+  pub frame-place : (h m : List ℕ) (n room : ℕ) (r : Refusal) → frameAnswer h m n room ≡ frame.Refused r → Because (OfFrame h m n room) r
+  pub export-place : (h m ws : List ℕ) (r : Refusal) → exportAnswer h m ws ≡ begun.Refused r → Because (OfBegun h m ws) r
+  pub run-place : (h ws : List ℕ) (c : Cursor) (room : ℕ) (r : Refusal) → runAnswer h ws c room ≡ ran.Refused r → Because (OfRun h ws c room) r
   pub remnant-place : (h : List ℕ) (from : ℕ) (r : Refusal) → remnantAnswer h from ≡ remnant.Refused r → Keyless (OfTiles h) r
   pub rows-place : (h : List ℕ) (from n : ℕ) (r : Refusal) → rowsAnswer h from n ≡ filled.Refused r → Keyless (OfRows h from n) r
   -- "1 to 7, 9 and 10 apply": with a map that is large enough, exactly as the check refuses, with the same number and place
@@ -98,6 +107,10 @@ pub record Demand1 : Type 0 where
   pub copy-at-stays : (h : List ℕ) (v : Offset) (out : List ℕ) (r : Refusal) → copyAt h v (length out) ≡ copied.Refused r → outAt h v out ≡ out
   pub begin-stays : (h ws : List ℕ) (r : Refusal) → beginAnswer h ws ≡ walked.Refused r → beginLevels h ws ≡ ws
   pub step-stays : (h ws : List ℕ) (n : ℕ) (r : Refusal) → stepAnswer h ws n ≡ walked.Refused r → stepLevels h ws n ≡ ws
+  pub frame-stays : (h m : List ℕ) (n : ℕ) (out : List ℕ) (r : Refusal) → frameAnswer h m n (length out) ≡ frame.Refused r → stepOut h m n out ≡ out
+  pub export-stays : (h m ws : List ℕ) (r : Refusal) → exportAnswer h m ws ≡ begun.Refused r → exportLevels h m ws ≡ ws
+  pub run-stays : (h ws : List ℕ) (c : Cursor) (out : List ℕ) (r : Refusal) → runAnswer h ws c (length out) ≡ ran.Refused r
+      → (runOut h ws c out ≡ out) × (runLevels h ws c (length out) ≡ ws)
   pub rows-stay : (h : List ℕ) (from : ℕ) (rows : List ℕ) (r : Refusal) → rowsAnswer h from (length rows) ≡ filled.Refused r → rowsOut h from rows ≡ rows
   pub page-stays : (h l : List ℕ) (p : ℕ) (r : Refusal) → pageAnswer h l p ≡ stepped.Refused r → pageHive h l p ≡ h
   pub close-stays : (h l : List ℕ) (r : Refusal) → closeAnswer h l ≡ stepped.Refused r → closeHive h l ≡ h

@@ -4,3 +4,4 @@ pub mod Third
 pub mod Promises
 pub mod Frauds
 pub mod Listing
+pub mod Export

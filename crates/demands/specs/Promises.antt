@@ -18,6 +18,11 @@ use Rattle.listing.specs.declared.Member.{Member}
 use Rattle.listing.specs.Members.{subkeyAnswer, valueAnswer, infoAt, copyAt, outAt, factsAnswer}
 use Rattle.walk.specs.declared.Walked.{Walked}
 use Rattle.walk.specs.Steps.{beginAnswer, beginLevels, stepAnswer, stepLevels}
+use Rattle.export.specs.declared.Begun.{Begun}
+use Rattle.export.specs.declared.Cursor.{Cursor}
+use Rattle.export.specs.declared.Ran.{Ran}
+use Rattle.export.specs.declared.Stepped.{Stepped as Framed}
+use Rattle.export.specs.Answers.{stepAnswer as frameAnswer, stepOut, beginAnswer as exportAnswer, beginLevels as exportLevels, runAnswer, runOut, runLevels}
 use Rattle.remnants.specs.declared.Filled.{Filled}
 use Rattle.remnants.specs.declared.Remnant.{Remnant}
 use Rattle.remnants.specs.Remnants.{remnantAnswer, rowsAnswer, rowsOut}
@@ -60,6 +65,16 @@ Begins h ws r after = (r ≡ beginAnswer h ws) × (after ≡ beginLevels h ws)
 abbrev pub Steps : List ℕ → List ℕ → ℕ → Walked → List ℕ → Type 0
 Steps h ws n r after = (r ≡ stepAnswer h ws n) × (after ≡ stepLevels h ws n)
 
+-- what a step writes beside its answer: the map and the buffer; begin the map and the words; a run the words and the buffer
+abbrev pub Frames : List ℕ → List ℕ → ℕ → List ℕ → Framed → List ℕ × List ℕ → Type 0
+Frames h m n out r after = (r ≡ frameAnswer h m n (length out)) × (after ≡ (mapLeft h m, stepOut h m n out))
+
+abbrev pub Exports : List ℕ → List ℕ → List ℕ → Begun → List ℕ × List ℕ → Type 0
+Exports h m ws r after = (r ≡ exportAnswer h m ws) × (after ≡ (mapLeft h m, exportLevels h m ws))
+
+abbrev pub Runs : List ℕ → List ℕ → Cursor → List ℕ → Ran → List ℕ × List ℕ → Type 0
+Runs h ws c out r after = (r ≡ runAnswer h ws c (length out)) × (after ≡ (runLevels h ws c (length out), runOut h ws c out))
+
 abbrev pub Rows : List ℕ → ℕ → List ℕ → Filled → List ℕ → Type 0
 Rows h from rows r after = (r ≡ rowsAnswer h from (length rows)) × (after ≡ rowsOut h from rows)
 
@@ -94,6 +109,9 @@ pub record Unique : Type 0 where
   pub key-facts : (h : List ℕ) (o : Offset) (r r′ : KeyFacts) → r ≡ factsAnswer h o → r′ ≡ factsAnswer h o → r ≡ r′
   pub walk-begin : (h ws : List ℕ) → Determines (Begins h ws)
   pub walk-step : (h ws : List ℕ) (n : ℕ) → Determines (Steps h ws n)
+  pub export-step : (h m : List ℕ) (n : ℕ) (out : List ℕ) → Determines (Frames h m n out)
+  pub export-begin : (h m ws : List ℕ) → Determines (Exports h m ws)
+  pub export-run : (h ws : List ℕ) (c : Cursor) (out : List ℕ) → Determines (Runs h ws c out)
   pub next-remnant : (h : List ℕ) (from : ℕ) (r r′ : Remnant) → r ≡ remnantAnswer h from → r′ ≡ remnantAnswer h from → r ≡ r′
   pub remnants : (h : List ℕ) (from : ℕ) (rows : List ℕ) → Determines (Rows h from rows)
   pub start : (h l : List ℕ) (r r′ : Started) → r ≡ startAnswer h l → r′ ≡ startAnswer h l → r ≡ r′

@@ -21,6 +21,11 @@ use Rattle.lookup.specs.Answers.{infoAnswer, viewAnswer, viewBytes, copyAnswer,
 use Rattle.listing.specs.declared.KeyFacts.the-variants as facts
 use Rattle.listing.specs.declared.Member.the-variants as member
 use Rattle.listing.specs.Members.{subkeyAnswer, valueAnswer, infoAt, copyAt, outAt, factsAnswer}
+use Rattle.export.specs.declared.Begun.the-variants as begun
+use Rattle.export.specs.declared.Cursor.{Cursor}
+use Rattle.export.specs.declared.Ran.the-variants as ran
+use Rattle.export.specs.declared.Stepped.the-variants as frame
+use Rattle.export.specs.Answers.{stepAnswer as frameAnswer, stepOut, beginAnswer as exportAnswer, beginLevels as exportLevels, runAnswer, runOut, runLevels}
 use Rattle.walk.specs.declared.Walked.the-variants as walked
 use Rattle.walk.specs.Steps.{beginAnswer, beginLevels, stepAnswer, stepLevels}
 use Rattle.remnants.specs.declared.Filled.the-variants as filled
@@ -53,6 +58,10 @@ pub record Unread (d : List ℕ) (r : Refusal) : Type 0 where
   pub key-facts : (o : Offset) → factsAnswer d o ≡ facts.Refused r
   pub walk-begin : (ws : List ℕ) → (beginAnswer d ws ≡ walked.Refused r) × (beginLevels d ws ≡ ws)
   pub walk-step : (ws : List ℕ) (i : ℕ) → (stepAnswer d ws i ≡ walked.Refused r) × (stepLevels d ws i ≡ ws)
+  pub export-step : (m : List ℕ) (i : ℕ) (out : List ℕ) → (frameAnswer d m i (length out) ≡ frame.Refused r) × (stepOut d m i out ≡ out)
+  pub export-begin : (m ws : List ℕ) → (exportAnswer d m ws ≡ begun.Refused r) × (exportLevels d m ws ≡ ws)
+  pub export-run : (ws : List ℕ) (c : Cursor) (out : List ℕ)
+      → (runAnswer d ws c (length out) ≡ ran.Refused r) × (runOut d ws c out ≡ out) × (runLevels d ws c (length out) ≡ ws)
   pub next-remnant : (from : ℕ) → remnantAnswer d from ≡ remnant.Refused r
   pub remnants : (from : ℕ) (rows : List ℕ) → (rowsAnswer d from (length rows) ≡ filled.Refused r) × (rowsOut d from rows ≡ rows)
 

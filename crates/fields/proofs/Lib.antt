@@ -3,6 +3,7 @@ pub mod Bools
 pub mod Charges
 pub mod Every
 pub mod Firsts
+pub mod Little
 pub mod Loops
 pub mod Numbers
 pub mod Same_bytes

@@ -2,9 +2,10 @@
 ghost use mathlib.Core.Path.{_≡_};
 ghost use Prim.Native.Nat.{_+_, _≤_};
 ghost use lib.ListN.{length};
+ghost use lib.Seq.{sets};
 ghost use mir.Syntax.{w32};
 ghost use mir.Val.{toZ};
-ghost use Rattle.fields.specs.Number.{u16At, u32At, u64At, sizeOf, sizeAt};
+ghost use Rattle.fields.specs.Number.{u16At, u32At, u64At, le16, le32, sizeOf, sizeAt};
 ghost use Rattle.fields.specs.Bytes.{sameBytes, standsAt};
 ghost use Rattle.fields.specs.Steps.{Told};
 ghost use Rattle.fields.specs.Position.{placeOf, offsetOf};
@@ -60,6 +61,23 @@ pub fn u64_at(s: &[u8], i: usize) -> u64
     ensures { λ r. ⌜ r ≡ u64At (now (s .entry)) i ⌝ }
 {
     (u32_at(s, i) as u64) + (u32_at(s, i + 4) as u64) * 0x1_0000_0000
+}
+
+// The way back: a number's bytes, and no others.
+pub fn put_u16(dst: &mut [u8], i: usize, v: u16)
+    requires { ⌜ i + 2 ≤ length (now dst) ⌝ }
+    ensures { λ _. ⌜ now (dst .exit) ≡ sets (now (dst .entry)) i (le16 v) ⌝ }
+{
+    dst[i] = (v % 256) as u8;
+    dst[i + 1] = (v / 256) as u8;
+}
+
+pub fn put_u32(dst: &mut [u8], i: usize, v: u32)
+    requires { ⌜ i + 4 ≤ length (now dst) ⌝ }
+    ensures { λ _. ⌜ now (dst .exit) ≡ sets (now (dst .entry)) i (le32 v) ⌝ }
+{
+    put_u16(dst, i, (v % 65536) as u16);
+    put_u16(dst, i + 2, (v / 65536) as u16);
 }
 
 // The bits of a u32, read as signed: no cast that could lose bits is taken.

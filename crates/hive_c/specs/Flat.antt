@@ -20,6 +20,13 @@ use Rattle.listing.specs.declared.Member.{Member}
 use Rattle.listing.specs.declared.Member.the-variants as member
 use Rattle.walk.specs.declared.Walked.{Walked}
 use Rattle.walk.specs.declared.Walked.the-variants as walk
+use Rattle.export.specs.declared.Begun.{Begun}
+use Rattle.export.specs.declared.Begun.the-variants as begun
+use Rattle.export.specs.declared.Cursor.{Cursor}
+use Rattle.export.specs.declared.Ran.{Ran}
+use Rattle.export.specs.declared.Ran.the-variants as ran
+use Rattle.export.specs.declared.Stepped.{Stepped as Framed}
+use Rattle.export.specs.declared.Stepped.the-variants as frame
 use Rattle.recovery.specs.declared.Started.{Started}
 use Rattle.recovery.specs.declared.Started.the-variants as start
 use Rattle.recovery.specs.declared.Stepped.{Stepped}
@@ -44,6 +51,8 @@ use Rattle.hive_c.specs.declared.HiveCopy.{HiveCopy}
 use Rattle.hive_c.specs.declared.HiveKey.{HiveKey}
 use Rattle.hive_c.specs.declared.HiveMember.{HiveMember}
 use Rattle.hive_c.specs.declared.HiveWalk.{HiveWalk}
+use Rattle.hive_c.specs.declared.HiveFrame.{HiveFrame}
+use Rattle.hive_c.specs.declared.HiveExport.{HiveExport}
 use Rattle.hive_c.specs.declared.HiveRemnant.{HiveRemnant}
 use Rattle.hive_c.specs.declared.HiveRows.{HiveRows}
 use Rattle.hive_c.specs.declared.HiveRecovery.{HiveRecovery}
@@ -124,6 +133,31 @@ walkIn (walk.Refused f) n = walkWith (refused f) 0 n 0 0 0
 walkIn walk.Over n = walkWith (granted 0) 1 n 0 0 0
 walkIn (walk.Opens e) n = walkWith (granted (e .at .0)) 2 (n + 1) (e .name .0) (e .len) (narrowIn (e .narrow))
 walkIn (walk.Closes k) n = walkWith (granted (k .0)) 3 (n - 1) 0 0 0
+
+-- of an export: "state 0 refused, 1 done, 2 written"
+abbrev pub frameWith : HiveAnswer → ℕ → ℕ → HiveFrame
+frameWith a s n = record { answer = a; state = s; length = n }
+
+abbrev pub frameIn : Framed → HiveFrame
+frameIn (frame.Written n) = frameWith (granted 0) 2 n
+frameIn frame.Done = frameWith (granted 0) 1 0
+frameIn (frame.Refused f) = frameWith (refused f) 0 0
+
+abbrev pub cursorAt : ℕ → ℕ → Cursor
+cursorAt depth due = record { depth = depth; due = due }
+
+abbrev pub exportWith : HiveAnswer → ℕ → Cursor → ℕ → ℕ → HiveExport
+exportWith a s c frames bytes = record { answer = a; state = s; depth = c .depth; due = c .due; frames = frames; bytes = bytes }
+
+abbrev pub begunIn : Begun → HiveExport
+begunIn (begun.At c) = exportWith (granted 0) 2 c 0 0
+begunIn (begun.Refused f) = exportWith (refused f) 0 (cursorAt 0 0) 0 0
+
+-- of a run that was asked with the cursor c
+abbrev pub exportIn : Ran → Cursor → HiveExport
+exportIn (ran.Written p) c = exportWith (granted 0) 2 (p .next) (p .frames) (p .bytes)
+exportIn ran.Done c = exportWith (granted 0) 1 c 0 0
+exportIn (ran.Refused f) c = exportWith (refused f) 0 c 0 0
 
 abbrev pub remnantWith : HiveAnswer → ℕ → ℕ → ℕ → ℕ → ℕ → HiveRemnant
 remnantWith a s k name len narrow = record { answer = a; state = s; kind = k; name = name; length = len; narrow = narrow }

@@ -19,6 +19,9 @@
 // is the key that lists it, of 13 to 15 the place, of 17 the deepest key that was found, of 18 to 20 and 29 the key of the
 // value, of 28 the root, or the place where that is a key. In all calls of the repair, and where a value is asked by its offset,
 // it is HIVE_NO_KEY.
+use export::Begun;
+use export::Cursor;
+use export::Ran;
 use fields::Offset;
 use fields::Refusal;
 use listing::Entry;
@@ -52,12 +55,13 @@ ghost use Rattle.lookup.specs.Answers.{infoAnswer, viewAnswer, copyAnswer, copy
 ghost use Rattle.listing.specs.Members.{subkeyAnswer, valueAnswer, infoAt, copyAt, outAt, factsAnswer};
 ghost use Rattle.walk.specs.Events.{keepsCount};
 ghost use Rattle.walk.specs.Steps.{beginAnswer, beginLevels, stepAnswer, stepLevels};
+ghost use Rattle.export.specs.Answers.{stepAnswer as frameAnswer, stepOut, beginAnswer as exportAnswer, beginLevels as exportLevels, runAnswer, runOut, runLevels};
 ghost use Rattle.recovery.specs.Calls.{startAnswer, pageAnswer, pageHive, closeAnswer, closeHive, nextAnswer};
 ghost use Rattle.recovery.specs.AtOnce.{allAnswer, allHive, markAnswer, markedAnswer, markedMap, factsAnswer as logAnswer};
 ghost use Rattle.remnants.specs.Remnants.{kindWord, remnantAnswer, rowsAnswer, rowsOut};
-ghost use Rattle.hive_c.specs.Flat.{remnantIn, rowsIn, walkWith, walkIn, granted as grantedOf, refused as refusedOf, reportIn, keyIn, formOf, valueIn, copyIn, narrowIn, memberIn, factsIn, startIn, stepIn, pageIn, markIn, mapIn, logIn};
+ghost use Rattle.hive_c.specs.Flat.{remnantIn, rowsIn, walkWith, walkIn, frameIn, exportWith, begunIn, exportIn, cursorAt, granted as grantedOf, refused as refusedOf, reportIn, keyIn, formOf, valueIn, copyIn, narrowIn, memberIn, factsIn, startIn, stepIn, pageIn, markIn, mapIn, logIn};
 
-// The states: of an answer that goes on or ends, of a walk, and of a step of the repair.
+// The states: of an answer that goes on or ends, of a walk, of an export, and of a step of the repair.
 const REFUSED: u64 = 0;
 
 const NO_MORE: u64 = 1;
@@ -69,6 +73,8 @@ const OVER: u64 = 1;
 const OPENS: u64 = 2;
 
 const CLOSES: u64 = 3;
+
+const WRITTEN: u64 = 2;
 
 const CLEAN: u64 = 1;
 
@@ -92,7 +98,7 @@ const NO_KEY: u32 = 0xffff_ffff;
 // Part of every answer. number: 0, or the refusal's number. place: the refusal's place. key: the refusal's key, else
 // HIVE_NO_KEY. value: the offset of the key or value that hive_find_key, hive_quick_key, hive_nth_subkey, hive_nth_value,
 // hive_key_at or hive_next_remnant found, or of the key that hive_walk_begin or hive_walk_step opens or closes, else 0.
-// Where number is not 0, every other field of the answer but place, key and a walk's depth is 0.
+// Where number is not 0, every other field of the answer but place, key, a walk's depth and an export's depth and due is 0.
 #[repr(C)]
 pub struct HiveAnswer {
     pub number: u32,
@@ -168,6 +174,27 @@ pub struct HiveWalk {
     pub name: u64,
     pub length: u64,
     pub narrow: u64,
+}
+
+// One frame of an export. state: HIVE_REFUSED; HIVE_NO_MORE: there is no frame of that number; HIVE_WRITTEN. length: how many bytes were
+// written, else 0.
+#[repr(C)]
+pub struct HiveFrame {
+    pub answer: HiveAnswer,
+    pub state: u64,
+    pub length: u64,
+}
+
+// Where an export stands. state: HIVE_REFUSED; HIVE_NO_MORE: all frames were written; HIVE_WRITTEN. depth, due: what the next run is asked
+// with; where nothing was written they are those that were given. frames, bytes: how many this run wrote, else 0.
+#[repr(C)]
+pub struct HiveExport {
+    pub answer: HiveAnswer,
+    pub state: u64,
+    pub depth: u64,
+    pub due: u64,
+    pub frames: u64,
+    pub bytes: u64,
 }
 
 // A key or value record that deletion left in a free cell. state: HIVE_REFUSED, HIVE_NO_MORE or HIVE_THERE; then answer.value is
@@ -650,6 +677,123 @@ pub extern "C" fn hive_walk_step(hive: &[u8], levels: &mut [u32], depth: usize) 
     ensures { λ _. ⌜ now (levels .exit) ≡ stepLevels (now (hive .entry)) (now (levels .entry)) depth ⌝ }
 {
     walked(walk::step(hive, levels, depth), depth)
+}
+
+fn framed(s: export::Stepped) -> HiveFrame
+    ensures { λ r. ⌜ r ≡ frameIn s ⌝ }
+{
+    match s {
+        export::Stepped::Written(n) => HiveFrame {
+            answer: granted(0),
+            state: WRITTEN,
+            length: n as u64,
+        },
+        export::Stepped::Done => HiveFrame {
+            answer: granted(0),
+            state: NO_MORE,
+            length: 0,
+        },
+        export::Stepped::Refused(f) => HiveFrame {
+            answer: refused(f),
+            state: REFUSED,
+            length: 0,
+        },
+    }
+}
+
+// Writes frame n of the hive's export, counted from 0, to the start of out: each key's opening frame, its values, its subkeys' frames and
+// its closing frame, as docs/FRAMES.md lays them out. Every step checks the hive first, with a work map as of hive_check, and refuses
+// what that refuses. Past the last frame it is HIVE_NO_MORE. 20, with the frame's key, where the frame is longer than out: ask again with
+// more room; no frame is longer than 1,081,356 bytes. Only where a frame is written out changes, and only its first bytes.
+#[no_mangle]
+pub extern "C" fn hive_export_step(
+    hive: &[u8],
+    map: &mut [u8],
+    n: usize,
+    out: &mut [u8],
+) -> HiveFrame
+    ensures { λ r. ⌜ r ≡ frameIn (frameAnswer (now (hive .entry)) (now (map .entry)) n (length (now (out .entry)))) ⌝ }
+    ensures { λ _. ⌜ now (map .exit) ≡ mapLeft (now (hive .entry)) (now (map .entry)) ⌝ }
+    ensures { λ _. ⌜ now (out .exit) ≡ stepOut (now (hive .entry)) (now (map .entry)) n (now (out .entry)) ⌝ }
+{
+    framed(export::step(hive, map, n, out))
+}
+
+fn stands(answer: HiveAnswer, state: u64, c: Cursor) -> HiveExport
+    ensures { λ r. ⌜ r ≡ exportWith answer state c 0 0 ⌝ }
+{
+    HiveExport {
+        answer,
+        state,
+        depth: c.depth as u64,
+        due: c.due as u64,
+        frames: 0,
+        bytes: 0,
+    }
+}
+
+fn begun(b: Begun) -> HiveExport
+    ensures { λ r. ⌜ r ≡ begunIn b ⌝ }
+{
+    match b {
+        Begun::At(c) => stands(granted(0), WRITTEN, c),
+        Begun::Refused(f) => stands(refused(f), REFUSED, Cursor { depth: 0, due: 0 }),
+    }
+}
+
+// Starts an export in runs: checks the hive, with a work map as of hive_check, and opens the root. levels are 1,539 words that the caller
+// lends: with fewer it is 20. A refusal leaves the words as they were.
+#[no_mangle]
+pub extern "C" fn hive_export_begin(hive: &[u8], map: &mut [u8], levels: &mut [u32]) -> HiveExport
+    ensures { λ r. ⌜ r ≡ begunIn (exportAnswer (now (hive .entry)) (now (map .entry)) (now (levels .entry))) ⌝ }
+    ensures { λ _. ⌜ now (map .exit) ≡ mapLeft (now (hive .entry)) (now (map .entry)) ⌝ }
+    ensures { λ _. ⌜ now (levels .exit) ≡ exportLevels (now (hive .entry)) (now (map .entry)) (now (levels .entry)) ⌝ }
+{
+    begun(export::begin(hive, map, levels))
+}
+
+fn ran(r: Ran, c: Cursor) -> HiveExport
+    ensures { λ x. ⌜ x ≡ exportIn r c ⌝ }
+{
+    match r {
+        Ran::Written(p) => {
+            let next = p.next;
+            HiveExport {
+                answer: granted(0),
+                state: WRITTEN,
+                depth: next.depth as u64,
+                due: next.due as u64,
+                frames: p.frames as u64,
+                bytes: p.bytes as u64,
+            }
+        }
+        Ran::Done => stands(granted(0), NO_MORE, c),
+        Ran::Refused(f) => stands(refused(f), REFUSED, c),
+    }
+}
+
+// As many whole frames as out has room for, one after the other, from where the last run or hive_export_begin ended: its depth and due, and
+// the words as they were left. Go on until HIVE_NO_MORE; all runs together wrote what hive_export_step gives frame by frame. Where not
+// even one frame fits it is 20, with the frame's key: ask again with more room.
+//
+// The hive is not checked again: that would read all of it for each run. In a hive that was accepted, and with words, depth and due as they
+// were left, there is no other refusal. With any others the stream is wrong, or a run refuses 1 to 7, 20 where there are fewer than 1,539
+// or 3 x depth words, 11, 12 and 15; but nothing outside is read or written, whatever they are. HIVE_NO_MORE and refusals leave out and
+// the words.
+#[no_mangle]
+pub extern "C" fn hive_export_run(
+    hive: &[u8],
+    levels: &mut [u32],
+    depth: usize,
+    due: usize,
+    out: &mut [u8],
+) -> HiveExport
+    ensures { λ r. ⌜ r ≡ exportIn (runAnswer (now (hive .entry)) (now (levels .entry)) (cursorAt depth due) (length (now (out .entry)))) (cursorAt depth due) ⌝ }
+    ensures { λ _. ⌜ now (levels .exit) ≡ runLevels (now (hive .entry)) (now (levels .entry)) (cursorAt depth due) (length (now (out .entry))) ⌝ }
+    ensures { λ _. ⌜ now (out .exit) ≡ runOut (now (hive .entry)) (now (levels .entry)) (cursorAt depth due) (now (out .entry)) ⌝ }
+{
+    let c = Cursor { depth, due };
+    ran(export::run(hive, levels, c, out), c)
 }
 
 fn kind_of(k: Kind) -> u64

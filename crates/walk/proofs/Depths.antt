@@ -17,15 +17,17 @@ use Rattle.records.specs.Keys.{keyFault, keyOf}
 use Rattle.tree.specs.Tree.{levels, hiveOf}
 use Rattle.listing.specs.declared.Entry.{Entry}
 use Rattle.listing.specs.Members.{entryOf}
+use Rattle.walk.specs.declared.Offer.{Offer}
+use Rattle.walk.specs.declared.Offer.the-variants as ahead
 use Rattle.walk.specs.declared.Mark.{Mark}
 use Rattle.walk.specs.declared.Next.{Next}
 use Rattle.walk.specs.declared.Next.the-variants.{Comes, End, Faulty}
 use Rattle.walk.specs.declared.Walked.the-variants.{Over}
-use Rattle.walk.specs.Steps.{keyAt, markAt, nextBelow, Step, stays, opens, stepWhere, stepOn, roomFault, entering, opening, stepAt, stepIn, stepOf, answerOf, stepAnswer, beginFault, begunWhere, beginAnswer}
+use Rattle.walk.specs.Steps.{keyAt, markAt, nextBelow, stepWhere, stepOn, roomFault, entering, opening, stepAt, stepIn, stepOf, answerOf, stepAnswer, beginFault, begunWhere, beginAnswer}
 use Rattle.walk.specs.Events.{keepsCount}
 
 -- tests before a step keep it
-where-keeps : (k : Offset) (v : Verdict) (s : Step) (n : ℕ) → keepsCount (answerOf s) n ≡ true → keepsCount (answerOf (stepWhere k v s)) n ≡ true
+where-keeps : (k : Offset) (v : Verdict) (s : Offer) (n : ℕ) → keepsCount (answerOf s) n ≡ true → keepsCount (answerOf (stepWhere k v s)) n ≡ true
 where-keeps k Sound s n p = p
 where-keeps k (Flawed f) s n p = refl
 
@@ -34,8 +36,8 @@ unfolding entering
 enter-keeps ws n k e m = by (ltb n levels) refl
   where
     by : (b : Bool) → ltb n levels ≡ b
-        → keepsCount (answerOf (stepWhere (e .at) (unless b (flaw Level (e .at))) (stepWhere k (roomFault ws (n + 1)) (opens e m)))) n ≡ true
-    by true q = where-keeps k (roomFault ws (n + 1)) (opens e m) n q
+        → keepsCount (answerOf (stepWhere (e .at) (unless b (flaw Level (e .at))) (stepWhere k (roomFault ws (n + 1)) (ahead.Opens e m)))) n ≡ true
+    by true q = where-keeps k (roomFault ws (n + 1)) (ahead.Opens e m) n q
     by false q = refl
 
 open-keeps : (d ws : List ℕ) (n : ℕ) (k c : Offset) (m : Mark) → keepsCount (answerOf (opening d ws n k c m)) n ≡ true
@@ -59,7 +61,7 @@ in-keeps : (d ws : List ℕ) (n : ℕ) → keepsCount (answerOf (stepIn d ws n))
 unfolding stepIn
 in-keeps d ws n = by (eqb n 0) refl
   where
-    by : (b : Bool) → eqb n 0 ≡ b → keepsCount (answerOf (cond b (stays Over) (stepWhere noKey (roomFault ws n) (stepAt d ws n)))) n ≡ true
+    by : (b : Bool) → eqb n 0 ≡ b → keepsCount (answerOf (cond b ahead.Over (stepWhere noKey (roomFault ws n) (stepAt d ws n)))) n ≡ true
     by true q = refl
     by false q =
         let z = eqb-false n 0 q in

@@ -1,4 +1,5 @@
 pub mod Ways
+pub mod Moves
 pub mod Among
 pub mod Lists
 pub mod Refusals

@@ -26,12 +26,13 @@ use Rattle.tree.specs.Tree.{levels, hiveOf, keysOf}
 use Rattle.tree.specs.WellFormed.{KeyStands, TreeStands, key, CleanAndWellFormed}
 use Rattle.search.proofs.Finds.{key-good}
 use Rattle.listing.specs.Members.{entryOf}
+use Rattle.walk.specs.declared.Offer.{Offer}
 use Rattle.walk.specs.declared.Mark.{Mark}
 use Rattle.walk.specs.declared.Next.{Next}
 use Rattle.walk.specs.declared.Next.the-variants.{Comes, End}
 use Rattle.walk.specs.declared.Walked.{Walked}
 use Rattle.walk.specs.declared.Walked.the-variants.{Opens, Closes, Over, Refused}
-use Rattle.walk.specs.Steps.{keyAt, markAt, nextBelow, Step, stepAt, answerOf, levelsAfter, stepAnswer, stepLevels, beginAnswer, beginLevels}
+use Rattle.walk.specs.Steps.{keyAt, markAt, nextBelow, stepAt, answerOf, levelsAfter, stepAnswer, stepLevels, beginAnswer, beginLevels}
 use Rattle.walk.specs.Events.{eventsOver, eventsIn, eventsOf, opened, childrenLeft, coming, depthAfter, stepsFrom, walkOf}
 use Rattle.walk.proofs.Ways.{enter-on, open-on, at-end, at-on, in-over, in-on, step-on, root-on, begin-on}
 use Rattle.walk.proofs.Among.{Inside, NextIs, no-more, one-more, inside-first, below-good, next-stands}
@@ -90,7 +91,7 @@ set-below : (vs ws : List ℕ) (i j : ℕ) → j < i → getD (sets ws i vs) j 0
 set-below [] ws i j p = refl
 set-below (v ∷ vs) ws i j p = set-below vs (set ws i v) (suc i) j (omega arith) ∙ getD-set-other ws i j v 0 (λ q. omega arith)
 
-set-at : (vs ws : List ℕ) (i k x : ℕ) → x ≡ i + k → k < length vs → i + k < length ws → getD (sets ws i vs) x 0 ≡ getD vs k 0
+pub set-at : (vs ws : List ℕ) (i k x : ℕ) → x ≡ i + k → k < length vs → i + k < length ws → getD (sets ws i vs) x 0 ≡ getD vs k 0
 set-at [] ws i k x e p q = absurd (omega arith)
 set-at (v ∷ vs) ws i zero x e p q =
     let z : x ≡ i = omega arith in
@@ -199,6 +200,7 @@ module _ (h : List ℕ) where
     pub gives : coming (binsData h) ws n ≡ stepAnswer h ws n ∷ coming (binsData h) (stepLevels h ws n) (depthAfter (stepAnswer h ws n) n)
     pub stands : Standing (stepLevels h ws n) (depthAfter (stepAnswer h ws n) n)
     pub fine : (r : Refusal) → stepAnswer h ws n ≡ Refused r → ⊥
+    pub on : stepAnswer h ws n ≡ Over → ⊥
 
   -- an open key is told by its words
   open-same : (ws ws′ : List ℕ) (n : ℕ) → getD ws′ (place n) 0 ≡ getD ws (place n) 0 → getD ws′ (place n + 1) 0 ≡ getD ws (place n + 1) 0
@@ -238,7 +240,7 @@ module _ (h : List ℕ) (w : CleanAndWellFormed h) where
       }
 
   -- from a step as it is said of the last open key
-  step-is : (ws : List ℕ) (n : ℕ) → 3 * suc n ≤ length ws → {s : Step} → stepAt (binsData h) ws (suc n) ≡ s
+  step-is : (ws : List ℕ) (n : ℕ) → 3 * suc n ≤ length ws → {s : Offer} → stepAt (binsData h) ws (suc n) ≡ s
       → (stepAnswer h ws (suc n) ≡ answerOf s) × (stepLevels h ws (suc n) ≡ levelsAfter ws (suc n) s)
   step-is ws n p {s} e =
       let a = step-on h ws (suc n) base in
@@ -255,7 +257,7 @@ module _ (h : List ℕ) (w : CleanAndWellFormed h) where
     closes : childrenLeft (binsData h) (keyAt ws (suc n)) (markAt ws (suc n)) ≡ []
         → nextBelow (binsData h) (keyOf (binsData h) (keyAt ws (suc n))) (markAt ws (suc n)) ≡ End → Stepped h ws (suc n)
     closes e q =
-        let s = step-is ws n room (at-end (binsData h) ws (suc n) (keyAt ws (suc n)) refl (whole (suc (top .below)) (top .tree)) refl q) in
+        let s = step-is ws n room (at-end (binsData h) ws (suc n) (keyAt ws (suc n)) refl (key-good (binsData h) (hiveOf h) (w .formed .tiled) (suc (top .below)) (keyAt ws (suc n)) (top .tree)) refl q) in
         let z : n ≡ suc n - 1 = omega arith in
         record {
           gives =
@@ -264,6 +266,7 @@ module _ (h : List ℕ) (w : CleanAndWellFormed h) where
               (close-coming (binsData h) ws n e));
           stands = rw (s .0, s .1) (subst (λ (x : ℕ). Standing h ws x) z (record { words = st .words; each = λ i p. st .each i (omega arith) }));
           fine = λ r f. let g : Closes (keyAt ws (suc n)) ≡ Refused r = sym (s .0) ∙ f in let y : _≡_ {A = ℕ} 0 1 = cc in omega arith;
+          on = λ f. let g : Closes (keyAt ws (suc n)) ≡ Over = sym (s .0) ∙ f in let y : _≡_ {A = ℕ} 0 1 = cc in omega arith;
         }
 
     -- the levels after a child opened
@@ -311,7 +314,7 @@ module _ (h : List ℕ) (w : CleanAndWellFormed h) where
           let l = top .level in
           let wd = st .words in
           let x = entryOf (c .at) (keyOf d (c .at) .name) in
-          let a = at-on d ws (suc n) (keyAt ws (suc n)) refl (whole (suc (top .below)) (top .tree)) refl q in
+          let a = at-on d ws (suc n) (keyAt ws (suc n)) refl (key-good (binsData h) (hiveOf h) (w .formed .tiled) (suc (top .below)) (keyAt ws (suc n)) (top .tree)) refl q in
           let o = open-on d ws (suc n) (keyAt ws (suc n)) (c .at) m (whole (suc b) tree-below) in
           let g = enter-on ws (suc n) (keyAt ws (suc n)) x m (omega arith) (omega arith) in
           let s = step-is ws n room (a ∙ o ∙ g) in
@@ -323,6 +326,7 @@ module _ (h : List ℕ) (w : CleanAndWellFormed h) where
             gives = rw (s .0, s .1) (subst (λ (y : ℕ). coming d ws (suc n) ≡ Opens x ∷ coming d ws′ y) z (open-coming d ws n ws′ c m b lv′ e mv));
             stands = rw (s .0, s .1) (subst (λ (y : ℕ). Standing h ws′ y) z (standing ws′ mv));
             fine = λ r f. let g′ : Opens x ≡ Refused r = sym (s .0) ∙ f in let y : _≡_ {A = ℕ} 0 1 = cc in omega arith;
+            on = λ f. let g′ : Opens x ≡ Over = sym (s .0) ∙ f in let y : _≡_ {A = ℕ} 0 1 = cc in omega arith;
           }
 
     by-next : {x : Next} → nextBelow (binsData h) (keyOf (binsData h) (keyAt ws (suc n))) (markAt ws (suc n)) ≡ x
@@ -387,7 +391,7 @@ module _ (h : List ℕ) (w : CleanAndWellFormed h) where
     abbrev root : Offset
     root = hiveOf h .root
 
-    begun : List ℕ
+    unfoldable pub begun : List ℕ
     begun = sets ws 0 (root .0 ∷ 0 ∷ 0 ∷ [])
 
     begins : (beginAnswer h ws ≡ Opens (entryOf root (keyOf (binsData h) root .name))) × (beginLevels h ws ≡ begun)
@@ -397,7 +401,7 @@ module _ (h : List ℕ) (w : CleanAndWellFormed h) where
         let g = root-on (binsData h) ws root (whole levels (w .formed .tree)) (omega arith) in
         (a .0 ∙ rw g, a .1 ∙ rw g)
 
-    begun-stands : Standing h begun 1
+    pub begun-stands : Standing h begun 1
     unfolding begun
     begun-stands =
         let us = root .0 ∷ 0 ∷ 0 ∷ [] in
@@ -411,7 +415,7 @@ module _ (h : List ℕ) (w : CleanAndWellFormed h) where
               (set-at us ws 0 2 (place 0 + 2) (omega arith) (omega arith) (omega arith)) (omega arith) (w .formed .tree));
         }
 
-    begun-coming : eventsOf h ≡ Opens (entryOf root (keyOf (binsData h) root .name)) ∷ coming (binsData h) begun 1
+    pub begun-coming : eventsOf h ≡ Opens (entryOf root (keyOf (binsData h) root .name)) ∷ coming (binsData h) begun 1
     unfolding eventsIn coming childrenBelow begun
     begun-coming =
         let us = root .0 ∷ 0 ∷ 0 ∷ [] in

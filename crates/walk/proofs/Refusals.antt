@@ -31,19 +31,23 @@ use Rattle.tree.specs.Tree.{levels, hiveOf}
 use Rattle.search.proofs.Refusals.{in-leaves, in-children}
 use Rattle.listing.specs.declared.Entry.{Entry}
 use Rattle.listing.specs.Members.{entryOf}
+use Rattle.walk.specs.declared.Offer.{Offer}
+use Rattle.walk.specs.declared.Offer.the-variants as ahead
 use Rattle.walk.specs.declared.Mark.{Mark}
 use Rattle.walk.specs.declared.Next.{Next}
 use Rattle.walk.specs.declared.Next.the-variants.{Comes, End, Faulty}
 use Rattle.walk.specs.declared.Walked.{Walked}
 use Rattle.walk.specs.declared.Walked.the-variants.{Over, Refused}
-use Rattle.walk.specs.Steps.{keyAt, markAt, nextWhere, nextOf, nextIn, nextBelow, Step, stays, opens, stepWhere, stepOn, roomFault, entering, opening, stepAt, stepIn, stepOf, answerOf, levelsAfter, stepAnswer, stepLevels, rootFault, beginFault, begunWhere, begunLevels, beginAnswer, beginLevels}
+use Rattle.walk.specs.Steps.{keyAt, markAt, nextWhere, nextOf, nextIn, nextBelow, stepWhere, stepOn, roomFault, entering, opening, stepAt, stepIn, stepOf, answerOf, levelsAfter, stepAnswer, stepLevels, rootFault, beginFault, begunWhere, begunLevels, beginAnswer, beginLevels}
 use Rattle.walk.specs.Refused.{OfBegin, begin-base, of-root, no-start, OfStep, of-base, no-words, of-key, of-named, too-deep, no-room}
 
 -- ---- a refusal leaves the words
 
-stays-so : (s : Step) (ws : List ℕ) (n : ℕ) {r : Refusal} → answerOf s ≡ Refused r → levelsAfter ws n s ≡ ws
-stays-so (stays w) ws n e = refl
-stays-so (opens x m) ws n e = absurd (let z : _≡_ {A = ℕ} 0 1 = cc in omega arith)
+stays-so : (s : Offer) (ws : List ℕ) (n : ℕ) {r : Refusal} → answerOf s ≡ Refused r → levelsAfter ws n s ≡ ws
+stays-so (ahead.Closes k) ws n e = refl
+stays-so ahead.Over ws n e = refl
+stays-so (ahead.Refused x) ws n e = refl
+stays-so (ahead.Opens x m) ws n e = absurd (let z : _≡_ {A = ℕ} 0 1 = cc in omega arith)
 
 pub step-stays : (h ws : List ℕ) (n : ℕ) {r : Refusal} → stepAnswer h ws n ≡ Refused r → stepLevels h ws n ≡ ws
 unfolding stepAnswer stepLevels
@@ -131,14 +135,14 @@ module _ (h ws : List ℕ) (n : ℕ) where
         (λ s. leaf-tells z s m))
 
   -- all refusals of a step
-  abbrev Why : Step → Type 0
+  abbrev pub Why : Offer → Type 0
   Why s = (r : Refusal) → answerOf s ≡ Refused r → Because (OfStep h ws n) r
 
-  why-where : (o : Offset) (v : Verdict) (s : Step) → Every (OfStep h ws n o) v → (v ≡ Sound → Why s) → Why (stepWhere o v s)
+  why-where : (o : Offset) (v : Verdict) (s : Offer) → Every (OfStep h ws n o) v → (v ≡ Sound → Why s) → Why (stepWhere o v s)
   why-where o Sound s p q = q refl
   why-where o (Flawed g) s p q = λ r e. (o, g, let z : refusalOf o g ≡ r = cc in sym z, p g refl)
 
-  why-opens : (e : Entry) (m : Mark) → Why (opens e m)
+  why-opens : (e : Entry) (m : Mark) → Why (ahead.Opens e m)
   why-opens e m r q = absurd (let z : _≡_ {A = ℕ} 0 1 = cc in omega arith)
 
   short : (i : ℕ) (P : Flaw → Type 0) → (length ws < 3 * i → P (flaw OutputShort nowhere)) → Every P (roomFault ws i)
@@ -170,11 +174,11 @@ module _ (h ws : List ℕ) (n : ℕ) where
       why-where noKey (keyFault Header d [] k) _ (λ f e. of-key (key-unfit Header d [] ruled k f e))
       (λ s. let fit = key-fit Header d [] ruled k s in on-why fit (nextBelow d (keyOf d k) (markAt ws n)) (next-tells fit (markAt ws n)))
 
-  in-why : Why (stepIn d ws n)
+  pub in-why : Why (stepIn d ws n)
   unfolding stepIn
   in-why = by (eqb n 0)
     where
-      by : (t : Bool) → Why (cond t (stays Over) (stepWhere noKey (roomFault ws n) (stepAt d ws n)))
+      by : (t : Bool) → Why (cond t ahead.Over (stepWhere noKey (roomFault ws n) (stepAt d ws n)))
       by true = λ r e. absurd (let z : _≡_ {A = ℕ} 0 1 = cc in omega arith)
       by false = why-where noKey (roomFault ws n) (stepAt d ws n) (short n (OfStep h ws n noKey) (λ p. no-words p)) (λ s. at-why)
 

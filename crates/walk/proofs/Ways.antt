@@ -14,7 +14,6 @@ use Rattle.fields.specs.Faults.{flaw, nowhere, noKey, refusalOf, _next_}
 use Rattle.fields.proofs.Firsts.{on, stop}
 use Rattle.base.specs.Block.{binsData, baseFault}
 use Rattle.cells.specs.declared.Rule.the-variants.{Header}
-use Rattle.cells.specs.Named.{dataAt}
 use Rattle.cells.proofs.Parts.{data-small}
 use Rattle.records.specs.declared.Called.the-variants as name
 use Rattle.records.specs.declared.Headed.the-variants as head
@@ -27,16 +26,16 @@ use Rattle.records.specs.Keys.{keyIn, keyFault, keyOf, called}
 use Rattle.records.specs.Lists.{leafFault, headFault}
 use Rattle.records.specs.Steps.{leafIn, leafOf, leafed, ElementsLie, elementsOf, childNamed, leafNamed, leavesAt, headed, LeavesLie, leavesNamed}
 use Rattle.records.proofs.LawsAnswer.{called-whole, called-flawed, leafed-whole, leafed-flawed, headed-whole, headed-flawed}
-use Rattle.records.proofs.LawsKey.{key-room}
 use Rattle.records.proofs.LawsElements.{elements-length, element-at, elements-are}
 use Rattle.records.proofs.LawsPlaces.{named-length, named-at, leaf-tested, elements-lie, leaves-are}
 use Rattle.tree.specs.Tree.{hiveOf}
 use Rattle.listing.specs.declared.Entry.{Entry}
 use Rattle.listing.specs.Members.{entryOf}
+use Rattle.walk.specs.declared.Offer.the-variants as ahead
 use Rattle.walk.specs.declared.Mark.{Mark}
 use Rattle.walk.specs.declared.Next.the-variants.{Comes, End, Faulty}
 use Rattle.walk.specs.declared.Walked.the-variants.{Closes, Over, Refused}
-use Rattle.walk.specs.Steps.{keyAt, markAt, markAfter, nextOf, nextIn, nextBelow, stays, opens, roomFault, entering, opening, stepAt, stepIn, stepOf, answerOf, levelsAfter, stepAnswer, stepLevels, rootFault, beginFault, begunWhere, begunLevels, beginAnswer, beginLevels}
+use Rattle.walk.specs.Steps.{keyAt, markAt, markAfter, nextOf, nextIn, nextBelow, roomFault, entering, opening, stepAt, stepIn, stepOf, answerOf, levelsAfter, stepAnswer, stepLevels, rootFault, beginFault, begunWhere, begunLevels, beginAnswer, beginLevels}
 
 -- words that are set one after the other
 pub put-two : (l : List ℕ) (i a b : ℕ) → set (set l i a) (i + 1) b ≡ sets l i (a ∷ b ∷ [])
@@ -119,33 +118,30 @@ module _ (d : List ℕ) (k : Key) (m : Mark) where
 
 -- a child that opens
 module _ (ws : List ℕ) (n : ℕ) (k : Offset) (e : Entry) (m : Mark) where
-  pub enter-deep : 513 ≤ n → entering ws n k e m ≡ stays (Refused (refusalOf (e .at) (flaw Level (e .at))))
+  pub enter-deep : 513 ≤ n → entering ws n k e m ≡ ahead.Refused (refusalOf (e .at) (flaw Level (e .at)))
   unfolding entering
   enter-deep p = rw (le-ltb n 513 p)
 
   module _ (p : n < 513) where
-    pub enter-short : length ws < 3 * (n + 1) → entering ws n k e m ≡ stays (Refused (refusalOf k (flaw OutputShort nowhere)))
+    pub enter-short : length ws < 3 * (n + 1) → entering ws n k e m ≡ ahead.Refused (refusalOf k (flaw OutputShort nowhere))
     unfolding entering roomFault
     enter-short q = rw (lt-ltb n 513 p, lt-leb (3 * (n + 1)) (length ws) q)
 
-    pub enter-on : 3 * (n + 1) ≤ length ws → entering ws n k e m ≡ opens e m
+    pub enter-on : 3 * (n + 1) ≤ length ws → entering ws n k e m ≡ ahead.Opens e m
     unfolding entering roomFault
     enter-on q = rw (lt-ltb n 513 p, le-leb (3 * (n + 1)) (length ws) q)
 
 -- a key that was tested, by its name alone
 module _ (d : List ℕ) (o : Offset) {x : Name} (e : called (keyFault Header d [] o) (keyOf d o .name) ≡ name.Whole x) where
-  tested : (keyFault Header d [] o ≡ Sound) × (x ≡ keyOf d o .name)
+  pub tested : (keyFault Header d [] o ≡ Sound) × (x ≡ keyOf d o .name)
   tested = called-whole (keyFault Header d [] o) _ e
 
   pub name-small : x .at < 4294967296
   unfolding keyOf keyIn
   name-small = rw (tested .1) (omega arith)
 
-  pub fields-room : 76 ≤ length (dataAt d o)
-  fields-room = key-room Header d [] o (tested .0)
-
 module _ (d ws : List ℕ) (n : ℕ) (k c : Offset) (m : Mark) where
-  pub open-bad : {f : Flaw} → called (keyFault Header d [] c) (keyOf d c .name) ≡ name.Flawed f → opening d ws n k c m ≡ stays (Refused (refusalOf k f))
+  pub open-bad : {f : Flaw} → called (keyFault Header d [] c) (keyOf d c .name) ≡ name.Flawed f → opening d ws n k c m ≡ ahead.Refused (refusalOf k f)
   unfolding opening
   open-bad e = rw (called-flawed (keyFault Header d [] c) _ e)
 
@@ -156,29 +152,29 @@ module _ (d ws : List ℕ) (n : ℕ) (k c : Offset) (m : Mark) where
 -- a step at the last open key
 module _ (d ws : List ℕ) (n : ℕ) where
   module _ (o : Offset) (is : o ≡ keyAt ws n) where
-    pub at-bad : {f : Flaw} → called (keyFault Header d [] o) (keyOf d o .name) ≡ name.Flawed f → stepAt d ws n ≡ stays (Refused (refusalOf noKey f))
+    pub at-bad : {f : Flaw} → called (keyFault Header d [] o) (keyOf d o .name) ≡ name.Flawed f → stepAt d ws n ≡ ahead.Refused (refusalOf noKey f)
     unfolding stepAt
     at-bad e = rw (← is, called-flawed (keyFault Header d [] o) _ e)
 
-    module _ {x : Name} (e : called (keyFault Header d [] o) (keyOf d o .name) ≡ name.Whole x) {k : Key} (are : k ≡ keyOf d o) where
-      pub at-faulty : {f : Flaw} → nextBelow d k (markAt ws n) ≡ Faulty f → stepAt d ws n ≡ stays (Refused (refusalOf o f))
+    module _ (e : keyFault Header d [] o ≡ Sound) {k : Key} (are : k ≡ keyOf d o) where
+      pub at-faulty : {f : Flaw} → nextBelow d k (markAt ws n) ≡ Faulty f → stepAt d ws n ≡ ahead.Refused (refusalOf o f)
       unfolding stepAt
-      at-faulty p = rw (← is, tested d o e .0, ← are, p)
+      at-faulty p = rw (← is, e, ← are, p)
 
-      pub at-end : nextBelow d k (markAt ws n) ≡ End → stepAt d ws n ≡ stays (Closes o)
+      pub at-end : nextBelow d k (markAt ws n) ≡ End → stepAt d ws n ≡ ahead.Closes o
       unfolding stepAt
-      at-end p = rw (← is, tested d o e .0, ← are, p)
+      at-end p = rw (← is, e, ← are, p)
 
       pub at-on : {c : Offset} {m : Mark} → nextBelow d k (markAt ws n) ≡ Comes c m → stepAt d ws n ≡ opening d ws n o c m
       unfolding stepAt
-      at-on p = rw (← is, tested d o e .0, ← are, p)
+      at-on p = rw (← is, e, ← are, p)
 
-  pub in-over : n ≡ 0 → stepIn d ws n ≡ stays Over
+  pub in-over : n ≡ 0 → stepIn d ws n ≡ ahead.Over
   unfolding stepIn
   in-over e = rw (eq-eqb n 0 e)
 
   module _ (z : n ≡ 0 → ⊥) where
-    pub in-short : length ws < 3 * n → stepIn d ws n ≡ stays (Refused (refusalOf noKey (flaw OutputShort nowhere)))
+    pub in-short : length ws < 3 * n → stepIn d ws n ≡ ahead.Refused (refusalOf noKey (flaw OutputShort nowhere))
     unfolding stepIn roomFault
     in-short p = rw (ne-eqb n 0 z, lt-leb (3 * n) (length ws) p)
 

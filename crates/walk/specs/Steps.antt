@@ -23,6 +23,8 @@ use Rattle.records.specs.Steps.{noChild}
 use Rattle.tree.specs.Tree.{levels, hiveOf}
 use Rattle.listing.specs.declared.Entry.{Entry}
 use Rattle.listing.specs.Members.{entryOf}
+use Rattle.walk.specs.declared.Offer.{Offer}
+use Rattle.walk.specs.declared.Offer.the-variants as ahead
 use Rattle.walk.specs.declared.Mark.{Mark}
 use Rattle.walk.specs.declared.Next.{Next}
 use Rattle.walk.specs.declared.Next.the-variants.{Comes, End, Faulty}
@@ -62,55 +64,56 @@ nextBelow d k m = cond (eqb (k .subkeys) 0) End (nextWhere (headFault Header d [
 
 -- ---- a step
 
--- what a step does: it gives an answer and leaves the words, or it opens a child and marks what comes next of its key
-pub data Step : Type 0 where
-  stays : Walked → Step
-  opens : Entry → Mark → Step
+-- `Offer` is what a step would do: it gives an answer and leaves the words, or it opens a child and marks what comes next of its key
 
 -- tests, in the examination of a key, then what follows them
-abbrev pub stepWhere : Offset → Verdict → Step → Step
+abbrev pub stepWhere : Offset → Verdict → Offer → Offer
 stepWhere k Sound s = s
-stepWhere k (Flawed f) s = stays (Refused (refusalOf k f))
+stepWhere k (Flawed f) s = ahead.Refused (refusalOf k f)
 
 -- "fewer than 3 x depth words: 20"
 unfoldable pub roomFault : List ℕ → ℕ → Verdict
 roomFault ws n = unless (leb (3 * n) (length ws)) (flaw OutputShort nowhere)
 
 -- "depth 513 or more: 15 at c (key c); fewer than 3 x (depth + 1) words: 20 (key k); else Opens c"
-unfoldable pub entering : List ℕ → ℕ → Offset → Entry → Mark → Step
-entering ws n k e m = stepWhere (e .at) (unless (ltb n levels) (flaw Level (e .at))) (stepWhere k (roomFault ws (n + 1)) (opens e m))
+unfoldable pub entering : List ℕ → ℕ → Offset → Entry → Mark → Offer
+entering ws n k e m = stepWhere (e .at) (unless (ltb n levels) (flaw Level (e .at))) (stepWhere k (roomFault ws (n + 1)) (ahead.Opens e m))
 
 -- "the child c's 11, 12 (key k)", then these
-unfoldable pub opening : List ℕ → List ℕ → ℕ → Offset → Offset → Mark → Step
+unfoldable pub opening : List ℕ → List ℕ → ℕ → Offset → Offset → Mark → Offer
 opening d ws n k c m = stepWhere k (keyFault Header d [] c) (entering ws n k (entryOf c (keyOf d c .name)) m)
 
-abbrev pub stepOn : Offset → Next → (Offset → Mark → Step) → Step
+abbrev pub stepOn : Offset → Next → (Offset → Mark → Offer) → Offer
 stepOn k (Comes c m) go = go c m
-stepOn k End go = stays (Closes k)
-stepOn k (Faulty f) go = stays (Refused (refusalOf k f))
+stepOn k End go = ahead.Closes k
+stepOn k (Faulty f) go = ahead.Refused (refusalOf k f)
 
 -- "the open key k = words 3(depth - 1): its own 11, 12 (none)", then what comes next of it
-unfoldable pub stepAt : List ℕ → List ℕ → ℕ → Step
+unfoldable pub stepAt : List ℕ → List ℕ → ℕ → Offer
 stepAt d ws n =
     let k = keyAt ws n in
     stepWhere noKey (keyFault Header d [] k) (stepOn k (nextBelow d (keyOf d k) (markAt ws n)) (opening d ws n k))
 
 -- "depth 0: Over; fewer than 3 x depth words: 20 (none [..])"
-unfoldable pub stepIn : List ℕ → List ℕ → ℕ → Step
-stepIn d ws n = cond (eqb n 0) (stays Over) (stepWhere noKey (roomFault ws n) (stepAt d ws n))
+unfoldable pub stepIn : List ℕ → List ℕ → ℕ → Offer
+stepIn d ws n = cond (eqb n 0) ahead.Over (stepWhere noKey (roomFault ws n) (stepAt d ws n))
 
 -- "1 to 7 (key none)"
-unfoldable pub stepOf : List ℕ → List ℕ → ℕ → Step
+unfoldable pub stepOf : List ℕ → List ℕ → ℕ → Offer
 stepOf h ws n = stepWhere noKey (baseFault h) (stepIn (binsData h) ws n)
 
-abbrev pub answerOf : Step → Walked
-answerOf (stays w) = w
-answerOf (opens e m) = Opens e
+abbrev pub answerOf : Offer → Walked
+answerOf (ahead.Closes k) = Closes k
+answerOf ahead.Over = Over
+answerOf (ahead.Refused r) = Refused r
+answerOf (ahead.Opens e m) = Opens e
 
 -- "with the words of k moved on [..] and c, 0, 0 behind them. Every other answer leaves `levels`."
-abbrev pub levelsAfter : List ℕ → ℕ → Step → List ℕ
-levelsAfter ws n (stays w) = ws
-levelsAfter ws n (opens e m) = sets (sets ws (3 * (n - 1) + 1) (m .leaf ∷ m .element ∷ [])) (3 * n) (e .at .0 ∷ 0 ∷ 0 ∷ [])
+abbrev pub levelsAfter : List ℕ → ℕ → Offer → List ℕ
+levelsAfter ws n (ahead.Closes k) = ws
+levelsAfter ws n ahead.Over = ws
+levelsAfter ws n (ahead.Refused r) = ws
+levelsAfter ws n (ahead.Opens e m) = sets (sets ws (3 * (n - 1) + 1) (m .leaf ∷ m .element ∷ [])) (3 * n) (e .at .0 ∷ 0 ∷ 0 ∷ [])
 
 -- step, and the words afterwards
 unfoldable pub stepAnswer : List ℕ → List ℕ → ℕ → Walked

@@ -19,14 +19,24 @@ ghost use mathlib.Core.List.{[], _∷_};
 ghost use Prim.Native.Nat.{_+_, _*_, _≤_, _<_};
 ghost use lib.ListN.{length};
 ghost use lib.Seq.{sets};
+ghost use Rattle.fields.specs.declared.Verdict.the-variants.{Sound};
 ghost use Rattle.fields.specs.Faults.{flaw, nowhere, refusalOf};
 ghost use Rattle.records.specs.Steps.{LeavesLie, leavesNamed, ElementsLie, elementsOf};
 ghost use Rattle.listing.specs.Members.{entryOf};
-ghost use Rattle.records.specs.Keys.{keyOf};
-ghost use Rattle.walk.specs.Steps.{markAfter, nextOf, nextIn, nextBelow, entering, opening, stepAt, stepIn, answerOf, levelsAfter, stepAnswer, stepLevels, rootFault, begunWhere, begunLevels, beginAnswer, beginLevels};
+ghost use Rattle.cells.specs.declared.Rule.the-variants.{Header};
+ghost use Rattle.records.specs.Keys.{keyFault, keyOf};
+ghost use Rattle.walk.specs.Steps.{keyAt, markAfter, nextOf, nextIn, nextBelow, entering, opening, stepAt, stepIn, answerOf, levelsAfter, stepAnswer, stepLevels, rootFault, begunWhere, begunLevels, beginAnswer, beginLevels};
 
 pub enum Walked {
     Opens(Entry),
+    Closes(Offset),
+    Over,
+    Refused(Refusal),
+}
+
+// What a step would do: of a child that it opens, with the mark behind it; all else leaves the words.
+pub enum Offer {
+    Opens(Entry, Mark),
     Closes(Offset),
     Over,
     Refused(Refusal),
@@ -105,7 +115,7 @@ fn next_below(bins: &[u8], k: Key, m: Mark) -> Next
 }
 
 // The words of a key that opens: nothing of it has come.
-fn put_key(levels: &mut [u32], i: usize, o: Offset)
+pub fn put_key(levels: &mut [u32], i: usize, o: Offset)
     requires { ⌜ i + 3 ≤ length (now levels) ⌝ }
     ensures { λ _. ⌜ now (levels .exit) ≡ sets (now (levels .entry)) i (o .0 ∷ 0 ∷ 0 ∷ []) ⌝ }
 {
@@ -122,27 +132,25 @@ fn put_mark(levels: &mut [u32], i: usize, m: Mark)
     levels[i + 1] = m.element;
 }
 
-fn short(key: Offset) -> Walked
-    ensures { λ r. ⌜ r ≡ Walked.Refused (refusalOf key (flaw Fault.OutputShort nowhere)) ⌝ }
+fn short(key: Offset) -> Refusal
+    ensures { λ r. ⌜ r ≡ refusalOf key (flaw Fault.OutputShort nowhere) ⌝ }
 {
-    Walked::Refused(fields::refused(
+    fields::refused(
         key,
         Flaw {
             fault: Fault::OutputShort,
             place: Offset(0),
         },
-    ))
+    )
 }
 
 // The words are divided by three and the depth is not multiplied, so that nothing wraps.
-fn enter(levels: &mut [u32], depth: usize, key: Offset, e: Entry, m: Mark) -> Walked
-    requires { ⌜ (0 < depth) × (3 * depth ≤ length (now levels)) ⌝ }
-    ensures { λ r. ⌜ r ≡ answerOf (entering (now (levels .entry)) depth key e m) ⌝ }
-    ensures { λ _. ⌜ now (levels .exit) ≡ levelsAfter (now (levels .entry)) depth (entering (now (levels .entry)) depth key e m) ⌝ }
+fn enter(levels: &[u32], depth: usize, key: Offset, e: Entry, m: Mark) -> Offer
+    ensures { λ r. ⌜ r ≡ entering (now (levels .entry)) depth key e m ⌝ }
 {
     let at = e.at;
     if 513 <= depth {
-        return Walked::Refused(fields::refused(
+        return Offer::Refused(fields::refused(
             at,
             Flaw {
                 fault: Fault::Level,
@@ -151,30 +159,26 @@ fn enter(levels: &mut [u32], depth: usize, key: Offset, e: Entry, m: Mark) -> Wa
         ));
     }
     if levels.len() / 3 < depth + 1 {
-        return short(key);
+        return Offer::Refused(short(key));
     }
-    put_mark(levels, 3 * (depth - 1) + 1, m);
-    put_key(levels, 3 * depth, at);
-    Walked::Opens(e)
+    Offer::Opens(e, m)
 }
 
 // The child's own record is tested on behalf of the key that lists it.
-fn open(bins: &[u8], levels: &mut [u32], depth: usize, key: Offset, c: Offset, m: Mark) -> Walked
-    requires { ⌜ (0 < depth) × (3 * depth ≤ length (now levels)) ⌝ }
-    ensures { λ r. ⌜ r ≡ answerOf (opening (now (bins .entry)) (now (levels .entry)) depth key c m) ⌝ }
-    ensures { λ _. ⌜ now (levels .exit) ≡ levelsAfter (now (levels .entry)) depth (opening (now (bins .entry)) (now (levels .entry)) depth key c m) ⌝ }
+fn open(bins: &[u8], levels: &[u32], depth: usize, key: Offset, c: Offset, m: Mark) -> Offer
+    ensures { λ r. ⌜ r ≡ opening (now (bins .entry)) (now (levels .entry)) depth key c m ⌝ }
 {
     match records::name_at(bins, c) {
-        Called::Flawed(f) => Walked::Refused(fields::refused(key, f)),
+        Called::Flawed(f) => Offer::Refused(fields::refused(key, f)),
         Called::Whole(name) => enter(levels, depth, key, listing::entry_of(c, name), m),
     }
 }
 
-// A step at the last open key.
-fn step_at(bins: &[u8], levels: &mut [u32], depth: usize) -> Walked
+// What a step would do at the last open key, of a caller who has tested its record.
+pub fn ahead_of(bins: &[u8], levels: &[u32], depth: usize) -> Offer
     requires { ⌜ (0 < depth) × (3 * depth ≤ length (now levels)) ⌝ }
-    ensures { λ r. ⌜ r ≡ answerOf (stepAt (now (bins .entry)) (now (levels .entry)) depth) ⌝ }
-    ensures { λ _. ⌜ now (levels .exit) ≡ levelsAfter (now (levels .entry)) depth (stepAt (now (bins .entry)) (now (levels .entry)) depth) ⌝ }
+    requires { ⌜ keyFault Header (now bins) [] (keyAt (now levels) depth) ≡ Sound ⌝ }
+    ensures { λ r. ⌜ r ≡ stepAt (now (bins .entry)) (now (levels .entry)) depth ⌝ }
 {
     let i = 3 * (depth - 1);
     let key = Offset(levels[i]);
@@ -182,30 +186,62 @@ fn step_at(bins: &[u8], levels: &mut [u32], depth: usize) -> Walked
         leaf: levels[i + 1],
         element: levels[i + 2],
     };
-    match records::name_at(bins, key) {
-        Called::Flawed(f) => Walked::Refused(fields::refused(Offset(fields::NO_KEY), f)),
-        Called::Whole(_) => {
-            let k = records::key_fields(bins, key);
-            match next_below(bins, k, m) {
-                Next::Faulty(f) => Walked::Refused(fields::refused(key, f)),
-                Next::End => Walked::Closes(key),
-                Next::Comes(c, after) => open(bins, levels, depth, key, c, after),
-            }
-        }
+    let k = records::key_fields(bins, key);
+    match next_below(bins, k, m) {
+        Next::Faulty(f) => Offer::Refused(fields::refused(key, f)),
+        Next::End => Offer::Closes(key),
+        Next::Comes(c, after) => open(bins, levels, depth, key, c, after),
     }
+}
+
+// The same, with the key's own test before it.
+fn ahead_at(bins: &[u8], levels: &[u32], depth: usize) -> Offer
+    requires { ⌜ (0 < depth) × (3 * depth ≤ length (now levels)) ⌝ }
+    ensures { λ r. ⌜ r ≡ stepAt (now (bins .entry)) (now (levels .entry)) depth ⌝ }
+{
+    let i = 3 * (depth - 1);
+    match records::name_at(bins, Offset(levels[i])) {
+        Called::Flawed(f) => Offer::Refused(fields::refused(Offset(fields::NO_KEY), f)),
+        Called::Whole(_) => ahead_of(bins, levels, depth),
+    }
+}
+
+// What a step would do, in a hive whose base block was tested: its answer without the move.
+fn ahead(bins: &[u8], levels: &[u32], depth: usize) -> Offer
+    ensures { λ r. ⌜ r ≡ stepIn (now (bins .entry)) (now (levels .entry)) depth ⌝ }
+{
+    if depth == 0 {
+        return Offer::Over;
+    }
+    if levels.len() / 3 < depth {
+        return Offer::Refused(short(Offset(fields::NO_KEY)));
+    }
+    ahead_at(bins, levels, depth)
+}
+
+// The move: the mark behind a child, and the child's own words.
+pub fn go_below(levels: &mut [u32], depth: usize, e: Entry, m: Mark)
+    requires { ⌜ (0 < depth) × (3 * (depth + 1) ≤ length (now levels)) ⌝ }
+    ensures { λ _. ⌜ now (levels .exit) ≡ levelsAfter (now (levels .entry)) depth (Offer.Opens e m) ⌝ }
+{
+    let at = e.at;
+    put_mark(levels, 3 * (depth - 1) + 1, m);
+    put_key(levels, 3 * depth, at);
 }
 
 fn step_in(bins: &[u8], levels: &mut [u32], depth: usize) -> Walked
     ensures { λ r. ⌜ r ≡ answerOf (stepIn (now (bins .entry)) (now (levels .entry)) depth) ⌝ }
     ensures { λ _. ⌜ now (levels .exit) ≡ levelsAfter (now (levels .entry)) depth (stepIn (now (bins .entry)) (now (levels .entry)) depth) ⌝ }
 {
-    if depth == 0 {
-        return Walked::Over;
+    match ahead(bins, levels, depth) {
+        Offer::Refused(r) => Walked::Refused(r),
+        Offer::Over => Walked::Over,
+        Offer::Closes(k) => Walked::Closes(k),
+        Offer::Opens(e, m) => {
+            go_below(levels, depth, e, m);
+            Walked::Opens(e)
+        }
     }
-    if levels.len() / 3 < depth {
-        return short(Offset(fields::NO_KEY));
-    }
-    step_at(bins, levels, depth)
 }
 
 // The next event of a walk: the words and the depth are as the last call left them, or as the caller pleases.
@@ -227,7 +263,7 @@ fn begin_in(bins: &[u8], root: Offset, levels: &mut [u32]) -> Walked
         Called::Flawed(f) => Walked::Refused(fields::refused(Offset(fields::NO_KEY), f)),
         Called::Whole(name) => {
             if levels.len() < 3 {
-                return short(Offset(fields::NO_KEY));
+                return Walked::Refused(short(Offset(fields::NO_KEY)));
             }
             put_key(levels, 0, root);
             Walked::Opens(listing::entry_of(root, name))

@@ -30,7 +30,7 @@ returns : tie.Need-returns
 returns c =
     let a = c .before .before .before .before .before .before .before .before .args in
     let q = root-short (a .bins .now) (now (a .levels)) (a .root) (sym (c .before .before .before .before .before .name-at .ensures) ∙ c .before .before .before .name .given .1) (omega arith) in
-    (c .short .ensures ∙ sym (ap (λ (v : Verdict). begunWhere v (entryOf (a .root) (keyOf (a .bins .now) (a .root) .name))) q), sym (ap (begunLevels (now (a .levels)) (a .root)) q))
+    (ap Refused (c .short .ensures) ∙ sym (ap (λ (v : Verdict). begunWhere v (entryOf (a .root) (keyOf (a .bins .now) (a .root) .name))) q), sym (ap (begunLevels (now (a .levels)) (a .root)) q))
 
 put-key-requires : tie.Need-put-key-requires
 put-key-requires c κs = search needs

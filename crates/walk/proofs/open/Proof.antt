@@ -1,8 +1,7 @@
 use Rattle.walk.proofs.Ways.{name-small, open-bad, open-on}
-use Rattle.walk.specs.Steps.{entering, answerOf, levelsAfter}
-use Rattle.walk.specs.declared.Walked.the-variants.{Refused}
+use Rattle.walk.specs.Steps.{entering}
+use Rattle.walk.specs.declared.Offer.the-variants as ahead
 use Rattle.listing.specs.declared.Entry.{Entry}
-use denote.Ref.{now}
 use mathlib.Core.Path.{sym, ap, _∙_}
 use borrow.Author.Needs.{needs}
 use Rattle.walk.proofs.open.Statement.{statement}
@@ -21,27 +20,19 @@ enum-known-name : tie.Need-enum-known-name
 enum-known-name c = search needs
 
 entry-of-requires : tie.Need-entry-of-requires
-entry-of-requires c κs = name-small _ _ (sym (c .before .before .before .before .name-at .ensures) ∙ c .before .before .name .given .1)
+entry-of-requires c κs = name-small _ _ (sym (c .before .before .before .name-at .ensures) ∙ c .before .name .given .1)
 
 enter-requires : tie.Need-enter-requires
 enter-requires c κs = search needs
 
 returns : tie.Need-returns
-returns c =
-    let a = c .before .before .before .before .before .before .before .args in
-    let q = open-bad (a .bins .now) (now (a .levels)) (a .depth) (a .key) (a .c) (a .m) (sym (c .before .before .before .before .name-at .ensures) ∙ c .before .before .f .given .1) in
-    (ap Refused (c .refused .ensures) ∙ sym (ap answerOf q), sym (ap (levelsAfter (now (a .levels)) (a .depth)) q))
-
-same-length : tie.Need-same-length
-same-length c = search needs
+returns c = ap ahead.Refused (c .refused .ensures) ∙ sym (open-bad _ _ _ _ _ _ (sym (c .before .before .before .before .name-at .ensures) ∙ c .before .before .f .given .1))
 
 returns-2 : tie.Need-returns-2
 returns-2 c =
-    let a = c .before .before .before .before .before .before .before .before .before .before .before .args in
-    let q =
-    open-on (a .bins .now) (now (a .levels)) (a .depth) (a .key) (a .c) (a .m) (sym (c .before .before .before .before .before .before .before .before .name-at .ensures) ∙ c .before .before .before .before .before .before .name .given .1)
-    ∙ ap (λ (x : Entry). entering (now (a .levels)) (a .depth) (a .key) x (a .m)) (sym (c .before .before .before .entry-of .ensures)) in
-    (c .before .before .enter .ensures .0 ∙ sym (ap answerOf q), c .before .before .enter .ensures .1 ∙ sym (ap (levelsAfter (now (a .levels)) (a .depth)) q))
+    let a = c .before .before .before .before .before .before .before .before .args in
+    c .enter .ensures ∙ ap (λ (x : Entry). entering (a .levels .now) (a .depth) (a .key) x (a .m)) (c .before .entry-of .ensures)
+    ∙ sym (open-on _ _ _ _ _ _ (sym (c .before .before .before .before .before .name-at .ensures) ∙ c .before .before .before .name .given .1))
 
 pub open-spec : {M : Type 1} → statement M
 open-spec =
@@ -54,5 +45,4 @@ open-spec =
     entry-of-requires
     enter-requires
     returns
-    same-length
     returns-2)

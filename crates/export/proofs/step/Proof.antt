@@ -1,0 +1,68 @@
+use mathlib.Core.Path.{_≡_, refl, sym, ap, ap₂, _∙_, subst}
+use denote.Ref.{now}
+use Rattle.export.proofs.Calls.{accepted-base}
+use Rattle.export.proofs.Exports.{accepted-formed, step-is}
+use Rattle.export.proofs.Refusals.{step-unread}
+use borrow.Author.Needs.{needs}
+use Rattle.export.proofs.step.Statement.{statement}
+use Rattle.export.proofs.step.Tie as tie
+
+check-requires : tie.Need-check-requires
+check-requires c κs = search needs
+
+enum-known-r : tie.Need-enum-known-r
+enum-known-r c = search needs
+
+enum-told : tie.Need-enum-told
+enum-told c = search needs
+
+bins-of-requires : tie.Need-bins-of-requires
+bins-of-requires c κs = accepted-base _ _ (sym (c .before .before .before .before .check .ensures .0) ∙ c .enum-told .given .1)
+
+minor-of-requires : tie.Need-minor-of-requires
+minor-of-requires c κs = accepted-base _ _ (sym (c .before .before .before .before .before .check .ensures .0) ∙ c .before .enum-told .given .1)
+
+root-of-requires : tie.Need-root-of-requires
+root-of-requires c κs = accepted-base _ _ (sym (c .before .before .before .before .before .before .check .ensures .0) ∙ c .before .before .enum-told .given .1)
+
+step-in-requires : tie.Need-step-in-requires
+step-in-requires c κs = search needs
+
+same-length : tie.Need-same-length
+same-length c = search needs
+
+returns : tie.Need-returns
+returns c =
+    let a = c .before .before .before .before .before .before .before .before .before .before .args in
+    let q = step-unread (a .hive .now) (now (a .map)) (sym (c .before .before .before .before .before .check .ensures .0) ∙ c .before .r .given .1) (a .n) (now (a .out)) in
+    (sym (q .0), (c .before .before .before .before .before .check .ensures .1, sym (q .1)))
+
+same-length-2 : tie.Need-same-length-2
+same-length-2 c = search needs
+
+same-length-3 : tie.Need-same-length-3
+same-length-3 c = search needs
+
+returns-2 : tie.Need-returns-2
+returns-2 c =
+    let a = c .before .before .before .before .before .before .before .before .before .before .before .before .before .before .before .before .args in
+    let e = sym (c .before .before .before .before .before .before .before .before .before .before .before .check .ensures .0) ∙ c .before .before .before .before .before .before .before .enum-told .given .1 in
+    let q = step-is (a .hive .now) (accepted-formed (a .hive .now) (now (a .map)) e) (now (a .out)) (now (a .map)) e (a .n) in
+    (c .before .before .step-in .ensures .0 ∙ rw (c .before .before .before .before .before .before .bins-of .ensures, c .before .before .before .before .before .minor-of .ensures, c .before .before .before .before .root-of .ensures) (q .0), (c .before .before .before .before .before .before .before .before .before .before .before .check .ensures .1, c .before .before .step-in .ensures .1 ∙ rw (c .before .before .before .before .before .before .bins-of .ensures, c .before .before .before .before .before .minor-of .ensures, c .before .before .before .before .root-of .ensures) (q .1)))
+
+pub step-spec : {M : Type 1} → statement M
+step-spec =
+    tie.close
+    (tie.spec
+    check-requires
+    enum-known-r
+    enum-told
+    bins-of-requires
+    minor-of-requires
+    root-of-requires
+    step-in-requires
+    same-length
+    returns
+    same-length-2
+    same-length-3
+    returns-2)

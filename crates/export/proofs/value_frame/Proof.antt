@@ -1,0 +1,71 @@
+use mathlib.Core.Path.{_≡_, refl, sym, ap, ap₂, _∙_, subst}
+use Rattle.export.specs.declared.Due.the-variants as due
+use Rattle.export.proofs.Ways.{value-bad, value-few, value-small, data-bad, value-good}
+use borrow.Author.Needs.{needs}
+use Rattle.export.proofs.value_frame.Statement.{statement}
+use Rattle.export.proofs.value_frame.Tie as tie
+
+slice-aggregate-value-at : tie.Need-slice-aggregate-value-at
+slice-aggregate-value-at c = search needs
+
+value-at-requires : tie.Need-value-at-requires
+value-at-requires c κs = search needs
+
+enum-known-f : tie.Need-enum-known-f
+enum-known-f c = search needs
+
+refused-requires : tie.Need-refused-requires
+refused-requires c κs = search needs
+
+enum-known-x : tie.Need-enum-known-x
+enum-known-x c = search needs
+
+slice-aggregate-data-flaw : tie.Need-slice-aggregate-data-flaw
+slice-aggregate-data-flaw c = search needs
+
+data-flaw-requires : tie.Need-data-flaw-requires
+data-flaw-requires c κs = search needs
+
+enum-known-f-2 : tie.Need-enum-known-f-2
+enum-known-f-2 c = search needs
+
+refused-requires-2 : tie.Need-refused-requires-2
+refused-requires-2 c κs = search needs
+
+enum-told : tie.Need-enum-told
+enum-told c = search needs
+
+value-len-requires : tie.Need-value-len-requires
+value-len-requires c κs =
+    let a = c .before .before .before .before .before .before .before .before .before .before .args in
+    let e = sym (c .before .before .before .before .before .before .before .value-at .ensures) ∙ c .before .before .before .before .before .x .given .1 in
+    let s = sym (c .before .before .data-flaw .ensures) ∙ c .enum-told .given .1 in
+    (value-few (a .bins .now) (a .minor) (a .key) (a .v) (a .due) e, value-small (a .bins .now) (a .minor) (a .key) (a .v) (a .due) e s)
+
+returns : tie.Need-returns
+returns c = ap due.Refused (c .refused .ensures) ∙ sym (value-bad _ _ _ _ _ (sym (c .before .before .before .before .value-at .ensures) ∙ c .before .before .f .given .1))
+
+returns-2 : tie.Need-returns-2
+returns-2 c = ap due.Refused (c .refused2 .ensures) ∙ sym (data-bad _ _ _ _ _ (sym (c .before .before .before .before .before .before .before .before .before .value-at .ensures) ∙ c .before .before .before .before .before .before .before .x .given .1) (sym (c .before .before .before .before .data-flaw .ensures) ∙ c .before .before .f2 .given .1))
+
+returns-3 : tie.Need-returns-3
+returns-3 c = sym (value-good _ _ _ _ _ (sym (c .before .before .before .before .before .before .before .before .value-at .ensures) ∙ c .before .before .before .before .before .before .x .given .1) (sym (c .before .before .before .data-flaw .ensures) ∙ c .before .enum-told .given .1) (c .value-len .ensures))
+
+pub value-frame-spec : {M : Type 1} → statement M
+value-frame-spec =
+    tie.close
+    (tie.spec
+    slice-aggregate-value-at
+    value-at-requires
+    enum-known-f
+    refused-requires
+    enum-known-x
+    slice-aggregate-data-flaw
+    data-flaw-requires
+    enum-known-f-2
+    refused-requires-2
+    enum-told
+    value-len-requires
+    returns
+    returns-2
+    returns-3)

@@ -1,0 +1,60 @@
+use mathlib.Core.Path.{_≡_, refl, sym, ap, ap₂, _∙_, subst}
+use native.Mathlib.Omega.{arith}
+use Rattle.export.specs.Due.{walkDue}
+use Rattle.export.proofs.Ways.{step-so, closes-is, child-few, opens-is}
+use borrow.Author.Needs.{needs}
+use Rattle.export.proofs.walk_due.Statement.{statement}
+use Rattle.export.proofs.walk_due.Tie as tie
+
+ahead-of-requires : tie.Need-ahead-of-requires
+ahead-of-requires c κs = search needs
+
+enum-known-r : tie.Need-enum-known-r
+enum-known-r c = search needs
+
+enum-told : tie.Need-enum-told
+enum-told c = search needs
+
+enum-known-k : tie.Need-enum-known-k
+enum-known-k c = search needs
+
+enum-known-e : tie.Need-enum-known-e
+enum-known-e c = search needs
+
+characters-requires : tie.Need-characters-requires
+characters-requires c κs = search needs
+
+mul-len : tie.Need-mul-len
+mul-len c = omega (arith, c .characters .ensures, child-few _ _ _ (step-so _ _ _ (c .before .before .before .before .before .before .before .before .pre .0 .0) (c .before .before .before .before .before .before .before .before .pre .0 .1) (c .before .before .before .before .before .ahead-of .ensures) (c .before .before .before .e .given .1)))
+
+add-len : tie.Need-add-len
+add-len c = omega (arith, c .characters .ensures, child-few _ _ _ (step-so _ _ _ (c .before .before .before .before .before .before .before .before .pre .0 .0) (c .before .before .before .before .before .before .before .before .pre .0 .1) (c .before .before .before .before .before .ahead-of .ensures) (c .before .before .before .e .given .1)))
+
+returns : tie.Need-returns
+returns c = sym (ap (walkDue (c .before .before .before .before .before .before .args .bins .now)) (step-so _ _ _ (c .before .before .before .before .before .before .pre .0 .0) (c .before .before .before .before .before .before .pre .0 .1) (c .before .before .before .ahead-of .ensures) (c .before .r .given .1)))
+
+returns-2 : tie.Need-returns-2
+returns-2 c = sym (ap (walkDue (c .before .before .before .before .before .args .bins .now)) (step-so _ _ _ (c .before .before .before .before .before .pre .0 .0) (c .before .before .before .before .before .pre .0 .1) (c .before .before .ahead-of .ensures) (c .enum-told .given .1)))
+
+returns-3 : tie.Need-returns-3
+returns-3 c = sym (closes-is _ _ _ (step-so _ _ _ (c .before .before .before .before .before .before .pre .0 .0) (c .before .before .before .before .before .before .pre .0 .1) (c .before .before .before .ahead-of .ensures) (c .before .k .given .1)))
+
+returns-4 : tie.Need-returns-4
+returns-4 c = sym (opens-is _ _ _ (step-so _ _ _ (c .before .before .before .before .before .before .before .before .pre .0 .0) (c .before .before .before .before .before .before .before .before .pre .0 .1) (c .before .before .before .before .before .ahead-of .ensures) (c .before .before .before .e .given .1)) (omega (arith, c .characters .ensures)))
+
+pub walk-due-spec : {M : Type 1} → statement M
+walk-due-spec =
+    tie.close
+    (tie.spec
+    ahead-of-requires
+    enum-known-r
+    enum-told
+    enum-known-k
+    enum-known-e
+    characters-requires
+    mul-len
+    add-len
+    returns
+    returns-2
+    returns-3
+    returns-4)

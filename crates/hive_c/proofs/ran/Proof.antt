@@ -1,0 +1,60 @@
+use Rattle.hive_c.specs.Flat.{exportWith, exportIn}
+use Rattle.hive_c.specs.declared.HiveAnswer.{HiveAnswer}
+use Rattle.export.specs.declared.Ran.{Ran}
+use mathlib.Core.Path.{_≡_, refl, sym, ap, ap₂, _∙_, subst}
+use borrow.Author.Needs.{needs}
+use Rattle.hive_c.proofs.ran.Statement.{statement}
+use Rattle.hive_c.proofs.ran.Tie as tie
+
+enum-known-r : tie.Need-enum-known-r
+enum-known-r c = search needs
+
+granted-requires : tie.Need-granted-requires
+granted-requires c κs = search needs
+
+enum-told : tie.Need-enum-told
+enum-told c = search needs
+
+granted-requires-2 : tie.Need-granted-requires-2
+granted-requires-2 c κs = search needs
+
+stands-requires : tie.Need-stands-requires
+stands-requires c κs = search needs
+
+enum-known-r-2 : tie.Need-enum-known-r-2
+enum-known-r-2 c = search needs
+
+refused-requires : tie.Need-refused-requires
+refused-requires c κs = search needs
+
+stands-requires-2 : tie.Need-stands-requires-2
+stands-requires-2 c κs = search needs
+
+returns : tie.Need-returns
+returns c = let g = c .before .before .before .r .given in let p = g .0 .0 in ap (λ (a : HiveAnswer). exportWith a 2 (p .next) (p .frames) (p .bytes)) (c .granted .ensures) ∙ sym (ap (λ (x : Ran). exportIn x (c .before .before .before .before .before .args .c)) (g .1))
+
+returns-2 : tie.Need-returns-2
+returns-2 c =
+    let k = c .before .before .before .before .args .c in
+    c .stands .ensures ∙ ap (λ (a : HiveAnswer). exportWith a 1 k 0 0) (c .before .granted2 .ensures) ∙ sym (ap (λ (x : Ran). exportIn x k) (c .before .before .enum-told .given .1))
+
+returns-3 : tie.Need-returns-3
+returns-3 c =
+    let k = c .before .before .before .before .before .args .c in
+    c .stands2 .ensures ∙ ap (λ (a : HiveAnswer). exportWith a 0 k 0 0) (c .before .refused .ensures) ∙ sym (ap (λ (x : Ran). exportIn x k) (c .before .before .before .r2 .given .1))
+
+pub ran-spec : {M : Type 1} → statement M
+ran-spec =
+    tie.close
+    (tie.spec
+    enum-known-r
+    granted-requires
+    enum-told
+    granted-requires-2
+    stands-requires
+    enum-known-r-2
+    refused-requires
+    stands-requires-2
+    returns
+    returns-2
+    returns-3)

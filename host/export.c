@@ -1,0 +1,95 @@
+/* The tree as frames, to a new file or to standard output. */
+#include <stdlib.h>
+#include <string.h>
+#include <unistd.h>
+
+#include "host.h"
+
+/* Three words for each key that is open at once, and room for any one frame. */
+enum { WORDS = 3 * (LEVELS + 1), ROOM = 1 << 21 };
+
+typedef struct {
+    const Hive *h;
+    HiveExport e;
+    uint64_t keys, frames, bytes;
+} Export;
+
+static uint32_t levels[WORDS];
+static uint8_t buffer[ROOM];
+
+static int begin(const Hive *h, Export *out)
+{
+    size_t length = h->bytes.length / 64;
+    uint8_t *map = malloc(length + 1);
+    if (map == NULL)
+        return trouble(h->file, "no memory for the work map");
+    work_starts("checking", 0);
+    *out = (Export){.h = h, .e = hive_export_begin(h->bytes.at, h->bytes.length, map, length, levels, WORDS)};
+    work_ends();
+    free(map);
+    return out->e.answer.number != 0 ? refusal(h, out->e.answer, NULL) : GOOD;
+}
+
+/* The next run's frames; none when all were written. */
+static int next(void *of, Bytes *piece)
+{
+    Export *x = of;
+    Bytes b = x->h->bytes;
+    x->e = hive_export_run(b.at, b.length, levels, WORDS, x->e.depth, x->e.due, buffer, ROOM);
+    if (x->e.state == HIVE_REFUSED)
+        return refusal(x->h, x->e.answer, NULL);
+    *piece = (Bytes){buffer, x->e.bytes};
+    x->frames += x->e.frames;
+    x->bytes += x->e.bytes;
+    work_did(x->frames);
+    return GOOD;
+}
+
+static int to_file(const char *path, Export *x)
+{
+    work_starts("exporting frames", 0);
+    int status = pieces_new(path, next, x);
+    work_ends();
+    if (status != GOOD)
+        return status;
+    say(x->h->file, "exported");
+    say_number("frames", x->frames);
+    say_number("bytes", x->bytes);
+    say_end();
+    return GOOD;
+}
+
+static int to_output(FILE *to, Export *x)
+{
+    Bytes piece;
+    int status = next(x, &piece);
+    for (; status == GOOD && piece.length > 0; status = next(x, &piece))
+        if (fwrite(piece.at, 1, piece.length, to) != piece.length)
+            return trouble("standard output", "it cannot be written");
+    return fflush(to) != 0 && status == GOOD ? trouble("standard output", "it cannot be written") : status;
+}
+
+/* Standard output carries frames alone: whatever else there is to say goes to standard error. */
+static FILE *output_for_frames(void)
+{
+    int fd = dup(1);
+    FILE *to = fd < 0 ? NULL : fdopen(fd, "wb");
+    return to != NULL && dup2(2, 1) == 1 ? to : NULL;
+}
+
+int export_verb(const Order *o)
+{
+    Hive h;
+    Export x;
+    FILE *to = NULL;
+    if (o->count == 1 && isatty(1))
+        return trouble("standard output", "frames are no text for a terminal; give OUT, or direct them to a file");
+    if (o->count == 1 && (to = output_for_frames()) == NULL)
+        return trouble("standard output", "it cannot be written");
+    int status = read_hive(o, o->words[0], &h);
+    if (status == GOOD)
+        status = begin(&h, &x);
+    if (status != GOOD)
+        return status;
+    return to == NULL ? to_file(o->words[1], &x) : to_output(to, &x);
+}
