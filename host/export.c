@@ -8,16 +8,10 @@
 /* Three words for each key that is open at once, and room for any one frame. */
 enum { WORDS = 3 * (LEVELS + 1), ROOM = 1 << 21 };
 
-typedef struct {
-    const Hive *h;
-    HiveExport e;
-    uint64_t keys, frames, bytes;
-} Export;
-
 static uint32_t levels[WORDS];
 static uint8_t buffer[ROOM];
 
-static int begin(const Hive *h, Export *out)
+int export_begin(const Hive *h, Export *out)
 {
     size_t length = h->bytes.length / 64;
     uint8_t *map = malloc(length + 1);
@@ -30,8 +24,16 @@ static int begin(const Hive *h, Export *out)
     return out->e.answer.number != 0 ? refusal(h, out->e.answer, NULL) : GOOD;
 }
 
+void export_below(Export *x, uint32_t key)
+{
+    levels[0] = key;
+    levels[1] = levels[2] = 0;
+    x->e.depth = 1;
+    x->e.due = 0;
+}
+
 /* The next run's frames; none when all were written. */
-static int next(void *of, Bytes *piece)
+int export_next(void *of, Bytes *piece)
 {
     Export *x = of;
     Bytes b = x->h->bytes;
@@ -48,7 +50,7 @@ static int next(void *of, Bytes *piece)
 static int to_file(const char *path, Export *x)
 {
     work_starts("exporting frames", 0);
-    int status = pieces_new(path, next, x);
+    int status = pieces_new(path, export_next, x);
     work_ends();
     if (status != GOOD)
         return status;
@@ -62,15 +64,14 @@ static int to_file(const char *path, Export *x)
 static int to_output(FILE *to, Export *x)
 {
     Bytes piece;
-    int status = next(x, &piece);
-    for (; status == GOOD && piece.length > 0; status = next(x, &piece))
+    int status = export_next(x, &piece);
+    for (; status == GOOD && piece.length > 0; status = export_next(x, &piece))
         if (fwrite(piece.at, 1, piece.length, to) != piece.length)
             return trouble("standard output", "it cannot be written");
     return fflush(to) != 0 && status == GOOD ? trouble("standard output", "it cannot be written") : status;
 }
 
-/* Standard output carries frames alone: whatever else there is to say goes to standard error. */
-static FILE *output_for_frames(void)
+FILE *own_output(void)
 {
     int fd = dup(1);
     FILE *to = fd < 0 ? NULL : fdopen(fd, "wb");
@@ -84,11 +85,11 @@ int export_verb(const Order *o)
     FILE *to = NULL;
     if (o->count == 1 && isatty(1))
         return trouble("standard output", "frames are no text for a terminal; give OUT, or direct them to a file");
-    if (o->count == 1 && (to = output_for_frames()) == NULL)
+    if (o->count == 1 && (to = own_output()) == NULL)
         return trouble("standard output", "it cannot be written");
     int status = read_hive(o, o->words[0], &h);
     if (status == GOOD)
-        status = begin(&h, &x);
+        status = export_begin(&h, &x);
     if (status != GOOD)
         return status;
     return to == NULL ? to_file(o->words[1], &x) : to_output(to, &x);

@@ -9,8 +9,8 @@
 
 #include "../include/kiweamotu.h"
 
-/* Exit statuses. UNSOUND: repaired, or it would be, but the check refuses what comes out. */
-enum { GOOD = 0, REFUSED = 1, TROUBLE = 2, UNSOUND = 3 };
+/* Exit statuses. UNSOUND: repaired, or it would be, but the check refuses what comes out. UNSAID: done, but the text could not say all of it. */
+enum { GOOD = 0, REFUSED = 1, TROUBLE = 2, UNSOUND = 3, UNSAID = 4 };
 
 typedef struct {
     uint8_t *at;
@@ -35,10 +35,10 @@ enum Style { VALUE_NAME, KEY_NAME };
 typedef struct {
     char **words;
     int count;
-    const char *logs[2], *backup;
+    const char *logs[2], *backup, *prefix;
     int log_count;
     size_t nth; /* 0: none was given */
-    bool json, wide, dry, anyway, grow;
+    bool json, wide, dry, anyway, grow, utf8;
 } Order;
 
 /* A hive in memory, and the log that it is read or repaired with; log is its name, NULL where none was given, and started what hive_recover_start says of the two.
@@ -62,7 +62,7 @@ typedef int Verb(const Order *);
 int read_order(int count, char **words, Order *out, Verb **verb);
 
 /* The verbs. */
-Verb check_verb, key_verb, list_verb, keys_verb, value_verb, export_verb, deleted_verb, repair_verb, explain_verb;
+Verb check_verb, key_verb, list_verb, keys_verb, value_verb, export_verb, reg_verb, deleted_verb, repair_verb, explain_verb;
 
 /* say.c: answers on standard output, as a line or as a JSON object; messages on standard error. Those that answer an int answer TROUBLE. */
 void say_as(bool json, bool many);
@@ -115,6 +115,19 @@ void put_key(FILE *to, const Hive *h, uint32_t key);
 
 /* hints.c */
 void put_hints(FILE *to, const Hive *h, const Path *path, uint32_t number);
+
+/* export.c: the frames in runs, from the root on or, after export_below, of a key and what is below it. The hive is checked first. */
+typedef struct {
+    const Hive *h;
+    HiveExport e;
+    uint64_t frames, bytes;
+} Export;
+int export_begin(const Hive *h, Export *out);
+void export_below(Export *x, uint32_t key);
+int export_next(void *of, Bytes *piece);
+
+/* Standard output for one kind of bytes alone: whatever else there is to say goes to standard error from here on. NULL where it cannot be had. */
+FILE *own_output(void);
 
 /* files.c. Those that answer an int answer GOOD or TROUBLE, after a message. */
 int read_file(const char *path, Bytes *out);

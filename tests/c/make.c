@@ -162,18 +162,20 @@ static void write_hint(void)
     write_file("wrong-hint", m.file, made_length(&m));
 }
 
-/* A chain that is a level too deep. */
-static void write_chain(void)
+/* A chain of so many levels, with the longest name at its end: as deep as it may be, and a level too deep. */
+static void write_chain(const char *name, int levels)
 {
+    char last[256] = "";
+    memset(last, '.', 255);
     Made m = made(32 * 4096, 5);
     uint32_t key = m.root = new_key(&m, "R", 0);
-    for (int i = 0; i < 513; i++) {
-        uint32_t child = new_key(&m, "n", key);
+    for (int i = 1; i <= levels; i++) {
+        uint32_t child = new_key(&m, i == levels ? last : "n", key);
         hang_keys(&m, key, new_leaf(&m, "lh", &child, 1), 1);
         key = child;
     }
     finish(&m);
-    write_file("chain", m.file, made_length(&m));
+    write_file(name, m.file, made_length(&m));
 }
 
 /* Logs for the spoilt sample: one whose pages hold a bin without its signature, and one of type 6 that has no entry. */
@@ -349,6 +351,138 @@ static void write_left_many(const char *name, uint32_t count)
     write_file(name, m.file, made_length(&m));
 }
 
+/* Values of a key, each with its type and data. */
+typedef struct {
+    const char *name;
+    uint32_t type;
+    const char *data;
+    size_t length;
+} Plan;
+
+static void hang_planned(Made *m, uint32_t key, const Plan *plans, size_t count)
+{
+    uint32_t values[32];
+    for (size_t i = 0; i < count; i++)
+        values[i] = new_value(m, plans[i].name, plans[i].type, (const uint8_t *)plans[i].data, plans[i].length);
+    hang_values(m, key, values, count);
+}
+
+/* Each kind of value that a text of regedit's has, at its bounds. */
+static void hang_kinds(Made *m, uint32_t key)
+{
+    static const Plan plans[] = {
+        {"", 1, "x\0y\0\0", 6},          {"escaped", 1, "\"\0\\\0]\0\0", 8}, {"end", 1, "\0", 2},           {"open", 1, "x\0y\0", 4},
+        {"odd", 1, "x\0\0\0\0", 5},      {"byte", 1, "\0", 1},               {"two ends", 1, "x\0\0\0\0", 6}, {"inner", 1, "x\0\0\0y\0\0", 8},
+        {"feed", 1, "x\0\n\0\0", 6},     {"return", 1, "\r\0\0", 4},         {"near", 1, "\x0a\x01\x0d\x0a\0", 6}, {"pair", 1, "\x3d\xd8\0\xde\0", 6},
+        {"half", 1, "\x3d\xd8!\0\0", 6}, {"order", 1, "\x1b\0c\0\0", 6},     {"dword", 4, "\1\xab\0\xff", 4}, {"dword 3", 4, "\1\2\3", 3},
+        {"dword 5", 4, "\1\2\3\4\5", 5}, {"binary", 3, "\xfe", 1},           {"expand", 2, "%\0\0", 4},      {"several", 7, "a\0\0\0\0", 6},
+        {"qword", 11, "\1\0\0\0\0\0\0\x80", 8}, {"type 16", 16, "x", 1},     {"type last", 0xffffffff, "x", 1}, {"none 0", 0, "", 0},
+        {"none 1", 1, "", 0},            {"none 3", 3, "", 0},               {"none 4", 4, "", 0},           {"none 7", 7, "", 0},
+    };
+    hang_planned(m, key, plans, sizeof plans / sizeof plans[0]);
+}
+
+/* Names that stand in quotation marks, and three that no line can hold. */
+static void hang_named(Made *m, uint32_t key)
+{
+    static const char *const named[] = {"a\"b", "a\\b", "]", "@", "a=b", "[", "ffff", "hhhh", "a\nb", "nnnn", "\r"};
+    uint32_t values[11];
+    for (int i = 0; i < 11; i++)
+        values[i] = new_value(m, named[i], 4, (const uint8_t[]){(uint8_t)i, 0, 0, 0}, 4);
+    rename_value(m, values[6], "\x3d\xd8\0\xde", 4);
+    rename_value(m, values[7], "\x3d\xd8g\0", 4);
+    rename_value(m, values[9], "n\0\0\0", 4);
+    hang_values(m, key, values, 11);
+}
+
+/* Lines that are just long enough or just too long: below `bytes` so many bytes behind @=hex:, and in `first` names so long that the first line has two bytes
+ * or one, of which the last is a character less than it is units. */
+static void hang_lines(Made *m, uint32_t bytes, uint32_t first)
+{
+    static const char *const counts[] = {"24", "25", "26", "48", "49", "51"};
+    static const struct {
+        size_t name, length;
+    } lines[] = {{64, 3}, {65, 2}, {65, 3}, {66, 2}, {67, 3}, {68, 1}, {68, 2}, {90, 2}};
+    uint32_t keys[6], values[9];
+    uint8_t data[51];
+    for (int i = 0; i < 51; i++)
+        data[i] = (uint8_t)(5 * i);
+    for (int i = 0; i < 6; i++) {
+        keys[i] = new_key(m, counts[i], bytes);
+        uint32_t value = new_value(m, "", 3, data, (size_t)strtol(counts[i], NULL, 10));
+        hang_values(m, keys[i], &value, 1);
+    }
+    hang_keys(m, bytes, new_leaf(m, "lh", keys, 6), 6);
+    for (int i = 0; i < 8; i++) {
+        char name[100] = {(char)('a' + i)};
+        memset(name + 1, '.', lines[i].name - 1);
+        values[i] = new_value(m, name, 3, data, lines[i].length);
+    }
+    char wide[133] = "\x3d\xd8 \xde"; /* a pair, and 64 points: 66 units */
+    for (int i = 4; i < 132; i++)
+        wide[i] = i % 2 == 0 ? '.' : ' ';
+    values[8] = new_value(m, wide, 3, data, 2);
+    for (int i = 2; i < 132; i++)
+        wide[i] = wide[i] == ' ' ? 0 : wide[i];
+    rename_value(m, values[8], wide, 132);
+    hang_values(m, first, values, 9);
+}
+
+/* What a text of regedit's can say and cannot, key by key. */
+static void write_reg(void)
+{
+    static const char *const named[] = {"\"q\"", "@", "a\nb", "a]b", "bytes", "first", "kinds", "names", "hhhh", "wwww"};
+    Made m = made(4 * 4096, 5);
+    uint32_t keys[10], value;
+    m.root = new_key(&m, "R\n", 0);
+    for (int i = 0; i < 10; i++)
+        keys[i] = new_key(&m, named[i], m.root);
+    rename_key(&m, keys[8], "\x3d\xd8g\0", 4);
+    rename_key(&m, keys[9], "\x3d\xd8\0\xde", 4);
+    hang_keys(&m, m.root, new_leaf(&m, "li", keys, 10), 10);
+    uint32_t below = new_key(&m, "below", keys[2]), leaf = new_key(&m, "leaf", keys[9]);
+    hang_keys(&m, keys[2], new_leaf(&m, "lh", &below, 1), 1);
+    hang_keys(&m, keys[9], new_leaf(&m, "lh", &leaf, 1), 1);
+    for (int i = 0; i < 2; i++) {
+        value = new_value(&m, "v", 4, (const uint8_t *)"\1\0\0", 4);
+        hang_values(&m, (uint32_t[]){below, leaf}[i], &value, 1);
+    }
+    hang_lines(&m, keys[4], keys[5]);
+    hang_kinds(&m, keys[6]);
+    hang_named(&m, keys[7]);
+    finish(&m);
+    write_file("reg", m.file, made_length(&m));
+}
+
+/* 60,000 subkeys, in leaves of 1,000. */
+static void write_wide(void)
+{
+    enum { LEAVES = 60, EACH = 1000 };
+    static uint32_t keys[EACH], leaves[LEAVES];
+    Made m = made(2048 * 4096, 5);
+    m.root = new_key(&m, "R", 0);
+    for (int i = 0; i < LEAVES; i++) {
+        for (int k = 0; k < EACH; k++) {
+            char name[12];
+            snprintf(name, sizeof name, "k%05d", i * EACH + k);
+            keys[k] = new_key(&m, name, m.root);
+        }
+        leaves[i] = new_leaf(&m, "lh", keys, EACH);
+    }
+    hang_keys(&m, m.root, new_index(&m, leaves, LEAVES), LEAVES * EACH);
+    finish(&m);
+    write_file("wide", m.file, made_length(&m));
+}
+
+static void write_trees(void)
+{
+    write_hint();
+    write_chain("deep", 512);
+    write_chain("chain", 513);
+    write_reg();
+    write_wide();
+}
+
 int main(int count, char **words)
 {
     static const uint32_t pages[] = {0, 3, 4, 17, 30, 31, 64, 127};
@@ -380,8 +514,7 @@ int main(int count, char **words)
     write_sources();
     write_letters();
     write_longest();
-    write_hint();
-    write_chain();
+    write_trees();
     write_left();
     write_left_many("left-4096", 4096);
     write_left_many("left-4097", 4097);

@@ -147,7 +147,7 @@ END
 
 # The manual pages, as they are written and as man shows them.
 verbs=$(sed -n 's/^    {"\([a-z]*\)", .*_verb},$/\1/p' "$top/host/order.c")
-options=$(sed -n '/ OPTIONS\[\] = {/,/^};/p' "$top/host/order.c" | grep -o '{"-[-a-z]*"' | tr -d '{"')
+options=$(sed -n '/ OPTIONS\[\] = {/,/^};/p' "$top/host/order.c" | grep -o '{"-[-a-z0-9]*"' | tr -d '{"')
 right 'man: there are verbs and options' [ "$(echo $verbs $options | wc -w)" -ge 13 ]
 # told PAGE NAME..: each verb, option or call stands in it
 told() {
@@ -197,7 +197,11 @@ else
     try 'coming from: ls' 0 "$(printf 'value %s\n' 'REG_EXPAND_SZ 70 EventMessageFile' 'REG_DWORD 4 TypesSupported' 'REG_MULTI_SZ 18 Sources' 'REG_BINARY 40 Blob')" '' hive ls SYSTEM "$P"
     try 'coming from: key' 0 'key at 488 subkeys 0 values 4 written 2024-02-29T16:47:36.8485888Z' '' hive key -l SYSTEM "$P"
     try 'coming from: all keys' 0 7 '' lines keys SYSTEM
-    try 'coming from: export' 0 'exported frames 19 bytes 552' '' hive export SYSTEM frames
+    try 'coming from: frames' 0 'exported frames 19 bytes 552' '' hive export SYSTEM SYSTEM.frames
+    try 'coming from: text' 0 7 '' eval 'hive reg --utf8 SYSTEM | grep -c "^\["'
+    sed '1,/^\$ hive reg /d; /^```/,$d' "$top/README.md" >wanted
+    hive reg --utf8 SYSTEM "$P" | tail -n +3 | sed '$d' >found
+    same "coming from: text, README's example" found wanted
     try 'coming from: with its log' 0 'accepted bins 1 keys 7 values 5 used 1152 free 2912' '' hive check --log TORN.LOG TORN
     try 'coming from: damaged' 1 "$(printf '%s\n' 'TORN: refused 7 at 0' 'BAD: refused 10 at 32' 'CUT: refused 6 at 0')" 'differ' hive check TORN BAD CUT
     try 'coming from: deleted records' 0 "$(printf '%s\n' 'key at 208 length 4 gone' 'value at 312 length 6 secret')" '' hive deleted DELETED
