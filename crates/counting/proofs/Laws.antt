@@ -184,8 +184,17 @@ module _ (d table : List ℕ) (w : Pass) where
       unfolding soughtIn countedAll
       one t e ks = (rw e, rw q)
 
-      pub key-on : ends d m w at ≡ false → OnTo cs (keysIn d levels at) ds (joined (keysIn d (levels - 1)) (children d at))
+      key-on : ends d m w at ≡ false → OnTo cs (keysIn d levels at) ds (joined (keysIn d (levels - 1)) (children d at))
       key-on e = rw keys-on (let o = one false e (joined (keysIn d (levels - 1)) (children d at)) in record { sought = o .0; counts = o .1 })
+
+      -- the key alone, where it has no children, or with them
+      pub key-alone : ends d m w at ≡ false → children d at ≡ [] → Over cs (keysIn d levels at) Nothing ds
+      unfolding joined
+      key-alone e n = none-left (key-on e) (ap (joined (keysIn d (levels - 1))) n)
+
+      pub key-below : ends d m w at ≡ false → {s : Sought} {es : List ℕ} → s ≡ soughtIn d m w (joined (keysIn d (levels - 1)) (children d at))
+          → es ≡ countedAll d table w ds (joined (keysIn d (levels - 1)) (children d at)) → Over cs (keysIn d levels at) s es
+      key-below e p r = record { sought = p ∙ sym (key-on e .sought); counts = r ∙ sym (key-on e .counts) }
 
       pub key-stop : ends d m w at ≡ true → Over cs (keysIn d levels at) (At at) ds
       key-stop e =

@@ -67,7 +67,7 @@ fn visit(
     false
 }
 
-// A key, then those below it: the levels left fall with each key.
+// A key, then those below it.
 pub fn count_key(
     bins: &[u8],
     map: &[u8],
@@ -90,7 +90,7 @@ pub fn count_key(
     count_list(bins, map, table, older, heads, w, at, levels - 1, counts)
 }
 
-// The children of a key, leaf by leaf.
+// The children of a key, leaf by leaf: the levels left fall with each key that has some.
 fn count_list(
     bins: &[u8],
     map: &[u8],
@@ -125,7 +125,7 @@ fn count_list(
     Sought::Nothing
 }
 
-// The keys of a leaf, each wholly before the next.
+// The keys of a leaf, each wholly before the next. Most keys have no subkeys, and are counted in the loop itself: a call would lend all tables again.
 fn count_leaf(
     bins: &[u8],
     map: &[u8],
@@ -146,10 +146,16 @@ fn count_leaf(
     let mut i: usize = 0;
     while i < leaf.count {
         let at = records::child_offset(bins, leaf, i);
-        let s = count_key(bins, map, table, older, heads, w, at, levels, counts);
-        match s {
-            Sought::At(f) => return Sought::At(f),
-            Sought::Nothing => {}
+        if visit(bins, map, table, older, heads, w, at, counts) {
+            return Sought::At(at);
+        }
+        let k = records::key_fields(bins, at);
+        if k.subkeys != 0 {
+            let s = count_list(bins, map, table, older, heads, w, at, levels - 1, counts);
+            match s {
+                Sought::At(f) => return Sought::At(f),
+                Sought::Nothing => {}
+            }
         }
         i += 1;
     }

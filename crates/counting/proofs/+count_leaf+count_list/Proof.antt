@@ -1,5 +1,5 @@
--- The proof of the cycle of calls {count_key, count_leaf, count_list}. A key has three times the levels left, a leaf one more than its keys, a list one
--- more than its leaves; along a list and along a leaf the loops' own measures fall. Assumes nothing.
+-- The proof of the cycle of calls {count_leaf, count_list}. A leaf has twice the levels left, a list one more than its leaves; along a list and along a
+-- leaf the loops' own measures fall. Assumes nothing.
 use borrow.Author.Needs.{needs}
 use borrow.Fn.Kinds.{In}
 use borrow.Fn.PlainCycle.{Measures, is, falls, and}
@@ -7,6 +7,7 @@ use Prim.Native.Nat.{ℕ, _+_, _-_, _*_, _<_, _≤_}
 use native.Mathlib.Omega.{arith}
 use mathlib.Core.Path.{_≡_, refl, sym, ap, _∙_}
 use mathlib.Core.List.{List·Memᴰ}
+use mathlib.Core.Logic.{⊎-elim}
 use denote.Ref.{now}
 use lib.ListN.{length, drop}
 use Rattle.fields.specs.declared.Offset.{Offset}
@@ -17,35 +18,30 @@ use Rattle.records.specs.Steps.{leavesNamed, LeavesLie, elementsOf, ElementsLie
 use Rattle.records.proofs.LawsPlaces.{named-length}
 use Rattle.records.proofs.LawsElements.{elements-length, elements-are}
 use Rattle.records.proofs.Elements.{leaf-there, leaf-in}
+use Rattle.counting.specs.declared.Sought.the-variants.{Nothing}
 use Rattle.counting.specs.Counting.{Legible, LegibleLeaf}
-use Rattle.counting.proofs.Laws.{length-visited, length-counted, ready-still, OnTo, at-start, none-left, part-on, part-stop, key-on, key-stop, leaf-parts, leaf-over, list-parts, list-over, no-keys}
+use Rattle.counting.proofs.Laws.{length-visited, length-counted, ready-still, OnTo, Over, at-start, none-left, part-on, part-stop, key-alone, key-below, key-stop, leaf-parts, leaf-over, list-parts, list-over, no-keys}
 use Rattle.counting.proofs.Rooms.{some-level, key-room, level-again, list-none, list-room, list-lies, list-is, list-leaf, leaf-room, leaf-lies, leaf-child, offset-at, offset-legible}
-use Rattle.counting.proofs.count_key.Reads as key
-use Rattle.counting.proofs.count_key.Kinds as key-kinds
-use Rattle.counting.proofs.+count_key+count_leaf+count_list.Lts-count_key as key-lts
 use Rattle.counting.proofs.count_leaf.Reads as leaf
 use Rattle.counting.proofs.count_leaf.Kinds as leaf-kinds
-use Rattle.counting.proofs.+count_key+count_leaf+count_list.Lts-count_leaf as leaf-lts
+use Rattle.counting.proofs.+count_leaf+count_list.Lts-count_leaf as leaf-lts
 use Rattle.counting.proofs.count_list.Reads as list
 use Rattle.counting.proofs.count_list.Kinds as list-kinds
-use Rattle.counting.proofs.+count_key+count_leaf+count_list.Lts-count_list as list-lts
+use Rattle.counting.proofs.+count_leaf+count_list.Lts-count_list as list-lts
 use Rattle.counting.proofs.visit.Reads as visit
 use Rattle.records.proofs.child_offset.Reads as child-offset
 use Rattle.records.proofs.key_fields.Reads as key-fields
 use Rattle.records.proofs.leaf_fields.Reads as leaf-fields
 use Rattle.records.proofs.leaf_offset.Reads as leaf-offset
 use Rattle.records.proofs.leaves_fields.Reads as leaves-fields
-use Rattle.counting.proofs.+count_key+count_leaf+count_list.{statement}
-use Rattle.counting.proofs.+count_key+count_leaf+count_list.Tie.{close}
-
-abbrev μ-key : Measures 6 key-kinds.ps ℕ
-μ-key κs a = 3 * a .1 .1 .1 .1 .1 .1 .1 .0
+use Rattle.counting.proofs.+count_leaf+count_list.{statement}
+use Rattle.counting.proofs.+count_leaf+count_list.Tie.{close}
 
 abbrev μ-leaf : Measures 6 leaf-kinds.ps ℕ
-μ-leaf κs a = 3 * a .1 .1 .1 .1 .1 .1 .1 .0 + 1
+μ-leaf κs a = 2 * a .1 .1 .1 .1 .1 .1 .1 .0
 
 abbrev μ-list : Measures 6 list-kinds.ps ℕ
-μ-list κs a = 3 * a .1 .1 .1 .1 .1 .1 .1 .0 + 2
+μ-list κs a = 2 * a .1 .1 .1 .1 .1 .1 .1 .0 + 1
 
 -- what is left of a leaf comes to what the whole does
 abbrev Inv-leaf : leaf-lts.InvT-loop
@@ -68,12 +64,6 @@ abbrev μ-list-loop : list-lts.MeasureT-loop
 μ-list-loop bins map table older heads w levels counts₀ ls j₀ counts j = ls .count - j
 
 module _ (t : ℕ) where
-  abbrev key-asks : In 6 key-kinds.ps
-  key-asks = and 6 key-kinds.ps (is 6 key-kinds.ps μ-key t) key.Pre
-
-  abbrev key-below : In 6 key-kinds.ps
-  key-below = and 6 key-kinds.ps (falls 6 key-kinds.ps _<_ μ-key t) key.Pre
-
   abbrev leaf-asks : In 6 leaf-kinds.ps
   leaf-asks = and 6 leaf-kinds.ps (is 6 leaf-kinds.ps μ-leaf t) leaf.Pre
 
@@ -86,49 +76,11 @@ module _ (t : ℕ) where
   abbrev list-below : In 6 list-kinds.ps
   list-below = and 6 list-kinds.ps (falls 6 list-kinds.ps _<_ μ-list t) list.Pre
 
-  abbrev K : key-lts.Claims
-  K = (visit.Asked, visit.Learnt, list-below, list.Post)
-
   abbrev F : leaf-lts.Claims
-  F = (leaf-fields.Asked, leaf-fields.Learnt, child-offset.Asked, child-offset.Learnt, key-below, key.Post)
+  F = (leaf-fields.Asked, leaf-fields.Learnt, child-offset.Asked, child-offset.Learnt, visit.Asked, visit.Learnt, key-fields.Asked, key-fields.Learnt, list-below, list.Post)
 
   abbrev L : list-lts.Claims
   L = (key-fields.Asked, key-fields.Learnt, leaves-fields.Asked, leaves-fields.Learnt, leaf-offset.Asked, leaf-offset.Learnt, leaf-below, leaf.Post)
-
-  -- count_key
-  k-visit : key-lts.Need-visit-requires K key-asks key.Post
-  k-visit c κs = let p = c .before .before .before .before .before .before .before .pre .1 in (key-room (p .0), p .1)
-
-  k-same : key-lts.Need-same-length K key-asks key.Post
-  k-same c = search needs
-
-  k-returns : key-lts.Need-returns K key-asks key.Post
-  k-returns c =
-      let a = c .before .before .before .before .before .before .before .before .before .before .before .args in
-      let v = c .before .before .before .visit .ensures in
-      let s = key-stop _ _ _ _ (a .levels) _ _ _ (some-level (c .before .before .before .before .before .before .before .before .before .before .before .pre .1 .0)) (v .1) (sym (v .0) ∙ c .if1 .taken) in
-      (s .sought, s .counts)
-
-  k-sub : key-lts.Need-sub-count-list K key-asks key.Post
-  k-sub c = let f = some-level (c .before .before .before .before .before .before .before .before .before .before .before .pre .1 .0) in omega arith
-
-  k-list : key-lts.Need-count-list-requires K key-asks key.Post
-  k-list c κs =
-      let p = c .before .before .before .before .before .before .before .before .before .before .before .before .pre .1 in
-      let f = some-level (p .0) in
-      let v = c .before .before .before .before .visit .ensures in
-      (omega arith, (level-again (p .0), ready-still (p .1) (ap length (v .1) ∙ length-visited _ _ _ _ _)))
-
-  k-same-2 : key-lts.Need-same-length-2 K key-asks key.Post
-  k-same-2 c = search needs
-
-  k-returns-2 : key-lts.Need-returns-2 K key-asks key.Post
-  k-returns-2 c =
-      let a = c .before .before .before .before .before .before .before .before .before .before .before .before .before .before .before .args in
-      let v = c .before .before .before .before .before .before .before .visit .ensures in
-      let l = c .before .before .count-list .ensures in
-      let s = key-on _ _ _ _ (a .levels) _ _ _ (some-level (c .before .before .before .before .before .before .before .before .before .before .before .before .before .before .before .pre .1 .0)) (v .1) (sym (v .0) ∙ c .before .before .before .before .if1 .left) in
-      (l .0 ∙ sym (s .sought), l .1 ∙ sym (s .counts))
 
   -- count_leaf
   f-fields : leaf-lts.Need-leaf-fields-requires F leaf-asks leaf.Post Inv-leaf μ-leaf-loop
@@ -143,55 +95,104 @@ module _ (t : ℕ) where
   f-child : leaf-lts.Need-child-offset-requires F leaf-asks leaf.Post Inv-leaf μ-leaf-loop
   f-child c κs = (omega arith, c .before .before .loop .inv .1)
 
-  f-key : leaf-lts.Need-count-key-requires F leaf-asks leaf.Post Inv-leaf μ-leaf-loop
-  f-key c κs =
+  f-visit : leaf-lts.Need-visit-requires F leaf-asks leaf.Post Inv-leaf μ-leaf-loop
+  f-visit c κs =
       let o = c .before .before .before .before .loop in
-      (omega arith, (offset-legible _ _ (o .i) (c .before .before .if1 .taken) (o .inv .2) (c .before .child-offset .ensures), ready-still (c .before .before .before .before .before .before .before .before .before .before .before .before .pre .1 .1) (o .inv .3)))
+      let g = offset-legible _ _ (o .i) (c .before .before .if1 .taken) (o .inv .2) (c .before .child-offset .ensures) in
+      (key-room g, ready-still (c .before .before .before .before .before .before .before .before .before .before .before .before .pre .1 .1) (o .inv .3))
+
+  f-same : leaf-lts.Need-same-length F leaf-asks leaf.Post Inv-leaf μ-leaf-loop
+  f-same c = ap length (c .before .before .before .visit .ensures .1) ∙ length-visited _ _ _ _ _ ∙ c .before .before .before .before .before .before .before .before .loop .inv .3
+
+  f-returns : leaf-lts.Need-returns F leaf-asks leaf.Post Inv-leaf μ-leaf-loop
+  f-returns c =
+      let a = c .before .before .before .before .before .before .before .before .before .before .before .before .before .before .before .before .args in
+      let o = c .before .before .before .before .before .before .before .before .loop in
+      let l = c .before .before .before .before .before .before .before .before .before .leaf-fields in
+      let t = c .before .before .before .before .before .before .if1 .taken in
+      let h = c .before .before .before .before .before .child-offset .ensures in
+      let v = c .before .before .before .visit .ensures in
+      let n = elements-length (now (a .bins)) (l .result) in
+      let k = key-stop _ _ _ _ (a .levels) _ _ _ (some-level (offset-legible _ _ (o .i) t (o .inv .2) h)) (v .1) (sym (v .0) ∙ c .if2 .taken) in
+      let s = part-stop _ _ _ _ (o .inv .4) _ _ (leaf-parts (now (a .bins)) (a .levels) (elementsOf (now (a .bins)) (l .result)) (o .i) (omega arith) (offset-at _ _ (o .i) t h)) (k .sought) (k .counts) refl in
+      rw (elements-are _ _ (l .ensures)) (s .sought, s .counts)
+
+  f-key : leaf-lts.Need-key-fields-requires F leaf-asks leaf.Post Inv-leaf μ-leaf-loop
+  f-key c κs =
+      let o = c .before .before .before .before .before .before .before .before .loop in
+      key-room (offset-legible _ _ (o .i) (c .before .before .before .before .before .before .if1 .taken) (o .inv .2) (c .before .before .before .before .before .child-offset .ensures))
+
+  f-sub : leaf-lts.Need-sub-count-list F leaf-asks leaf.Post Inv-leaf μ-leaf-loop
+  f-sub c =
+      let o = c .before .before .before .before .before .before .before .before .before .before .before .loop in
+      let f = some-level (offset-legible _ _ (o .i) (c .before .before .before .before .before .before .before .before .before .if1 .taken) (o .inv .2) (c .before .before .before .before .before .before .before .before .child-offset .ensures)) in
+      omega arith
+
+  f-list : leaf-lts.Need-count-list-requires F leaf-asks leaf.Post Inv-leaf μ-leaf-loop
+  f-list c κs =
+      let o = c .before .before .before .before .before .before .before .before .before .before .before .before .loop in
+      let g = offset-legible _ _ (o .i) (c .before .before .before .before .before .before .before .before .before .before .if1 .taken) (o .inv .2) (c .before .before .before .before .before .before .before .before .before .child-offset .ensures) in
+      let f = some-level g in
+      (omega (arith, c .before .before .before .before .before .before .before .before .before .before .before .before .before .before .before .before .before .before .before .before .pre .0), (level-again g, ready-still (c .before .before .before .before .before .before .before .before .before .before .before .before .before .before .before .before .before .before .before .before .pre .1 .1) (ap length (c .before .before .before .before .before .before .before .visit .ensures .1) ∙ length-visited _ _ _ _ _ ∙ o .inv .3)))
 
   f-known : leaf-lts.Need-enum-known-s F leaf-asks leaf.Post Inv-leaf μ-leaf-loop
   f-known c = search needs
 
-  f-same : leaf-lts.Need-same-length F leaf-asks leaf.Post Inv-leaf μ-leaf-loop
-  f-same c = ap length (c .before .before .before .before .before .count-key .ensures .1) ∙ length-counted _ _ _ _ _ ∙ c .before .before .before .before .before .before .before .before .before .before .loop .inv .3
+  f-same-2 : leaf-lts.Need-same-length-2 F leaf-asks leaf.Post Inv-leaf μ-leaf-loop
+  f-same-2 c =
+      ap length (c .before .before .before .before .before .count-list .ensures .1) ∙ length-counted _ _ _ _ _ ∙ ap length (c .before .before .before .before .before .before .before .before .before .before .before .before .before .visit .ensures .1)
+      ∙ length-visited _ _ _ _ _
+      ∙ c .before .before .before .before .before .before .before .before .before .before .before .before .before .before .before .before .before .before .loop .inv .3
 
-  f-returns : leaf-lts.Need-returns F leaf-asks leaf.Post Inv-leaf μ-leaf-loop
-  f-returns c =
-      let a = c .before .before .before .before .before .before .before .before .before .before .before .before .before .before .before .before .before .before .args in
-      let o = c .before .before .before .before .before .before .before .before .before .before .loop in
-      let l = c .before .before .before .before .before .before .before .before .before .before .before .leaf-fields .result in
-      let e = c .before .before .before .before .before .count-key .ensures in
-      let n = elements-length (now (a .bins)) l in
-      let s = part-stop _ _ _ _ (o .inv .4) _ _ (leaf-parts (now (a .bins)) (a .levels) (elementsOf (now (a .bins)) l) (o .i) (omega arith) (offset-at _ _ (o .i) (c .before .before .before .before .before .before .before .before .if1 .taken) (c .before .before .before .before .before .before .before .child-offset .ensures))) (e .0) (e .1) (c .before .s .given .1) in
-      rw (elements-are _ _ (c .before .before .before .before .before .before .before .before .before .before .before .leaf-fields .ensures)) (s .sought, s .counts)
+  f-returns-2 : leaf-lts.Need-returns-2 F leaf-asks leaf.Post Inv-leaf μ-leaf-loop
+  f-returns-2 c =
+      let a = c .before .before .before .before .before .before .before .before .before .before .before .before .before .before .before .before .before .before .before .before .before .before .before .before .before .before .args in
+      let o = c .before .before .before .before .before .before .before .before .before .before .before .before .before .before .before .before .before .before .loop in
+      let l = c .before .before .before .before .before .before .before .before .before .before .before .before .before .before .before .before .before .before .before .leaf-fields in
+      let t = c .before .before .before .before .before .before .before .before .before .before .before .before .before .before .before .before .if1 .taken in
+      let h = c .before .before .before .before .before .before .before .before .before .before .before .before .before .before .before .child-offset .ensures in
+      let v = c .before .before .before .before .before .before .before .before .before .before .before .before .before .visit .ensures in
+      let e = c .before .before .before .before .before .count-list .ensures in
+      let n = elements-length (now (a .bins)) (l .result) in
+      let k = key-below _ _ _ _ (a .levels) _ _ _ (some-level (offset-legible _ _ (o .i) t (o .inv .2) h)) (v .1) (sym (v .0) ∙ c .before .before .before .before .before .before .before .before .before .before .if2 .left) (e .0) (e .1) in
+      let s = part-stop _ _ _ _ (o .inv .4) _ _ (leaf-parts (now (a .bins)) (a .levels) (elementsOf (now (a .bins)) (l .result)) (o .i) (omega arith) (offset-at _ _ (o .i) t h)) (k .sought) (k .counts) (c .before .s .given .1) in
+      rw (elements-are _ _ (l .ensures)) (s .sought, s .counts)
 
   f-told : leaf-lts.Need-enum-told F leaf-asks leaf.Post Inv-leaf μ-leaf-loop
   f-told c = search needs
 
   f-add : leaf-lts.Need-add-i F leaf-asks leaf.Post Inv-leaf μ-leaf-loop
-  f-add c = omega arith
+  f-add c = omega (arith, c .before .before .before .before .before .before .before .before .before .if1 .taken, c .before .before .before .before .before .before .before .before .before .before .before .before .leaf-fields .ok)
 
   f-less : leaf-lts.Need-loop-less F leaf-asks leaf.Post Inv-leaf μ-leaf-loop
   f-less c = omega arith
 
   f-again : leaf-lts.Need-loop-again F leaf-asks leaf.Post Inv-leaf μ-leaf-loop
   f-again c =
-      let a = c .before .before .before .before .before .before .before .before .before .before .before .before .before .before .before .before .before .args in
-      let o = c .before .before .before .before .before .before .before .before .before .loop in
-      let l = c .before .before .before .before .before .before .before .before .before .before .leaf-fields .result in
-      let e = c .before .before .before .before .count-key .ensures in
-      let n = elements-length (now (a .bins)) l in (
+      let a = c .before .before .before .before .before .before .before .before .before .before .before .before .before .before .before .before .before .before .before .args in
+      let o = c .before .before .before .before .before .before .before .before .before .before .before .loop in
+      let l = c .before .before .before .before .before .before .before .before .before .before .before .before .leaf-fields .result in
+      let t = c .before .before .before .before .before .before .before .before .before .if1 .taken in
+      let h = c .before .before .before .before .before .before .before .before .child-offset .ensures in
+      let v = c .before .before .before .before .before .before .visit .ensures in
+      let g = offset-legible _ _ (o .i) t (o .inv .2) h in
+      let n = elements-length (now (a .bins)) l in
+      let k : Over (now (a .bins)) (now (a .table)) (a .w) (now (a .map)) (o .counts) (keysIn (now (a .bins)) (a .levels) (c .before .before .before .before .before .before .before .before .child-offset .result)) Nothing (c .if3 .counts) =
+      ⊎-elim (λ p. rw (p .7) (key-below _ _ _ _ (a .levels) _ _ _ (some-level g) (v .1) (sym (v .0) ∙ c .before .before .before .if2 .left) (sym (p .6 .given .1) ∙ p .2 .ensures .0) (p .2 .ensures .1)))
+      (λ p. rw (p .1) (key-alone _ _ _ _ (a .levels) _ _ _ (some-level g) (v .1) (sym (v .0) ∙ c .before .before .before .if2 .left) (list-none (a .levels - 1) (level-again g) (c .before .before .key-fields .ensures) (p .0 .left))))
+      (c .if3 .came) in (
         omega arith,
         o .inv .1,
         o .inv .2,
-        ap length (e .1) ∙ length-counted _ _ _ _ _ ∙ o .inv .3,
-        part-on _ _ _ _ (o .inv .4) _ _ (leaf-parts (now (a .bins)) (a .levels) (elementsOf (now (a .bins)) l) (o .i) (omega arith) (offset-at _ _ (o .i) (c .before .before .before .before .before .before .before .if1 .taken) (c .before .before .before .before .before .before .child-offset .ensures))) (e .0) (e .1) (c .enum-told .given .1),
+        ap length (k .counts) ∙ length-counted _ _ _ _ _ ∙ o .inv .3,
+        part-on _ _ _ _ (o .inv .4) _ _ (leaf-parts (now (a .bins)) (a .levels) (elementsOf (now (a .bins)) l) (o .i) (omega arith) (offset-at _ _ (o .i) t h)) (k .sought) (k .counts) refl,
       )
 
-  f-same-2 : leaf-lts.Need-same-length-2 F leaf-asks leaf.Post Inv-leaf μ-leaf-loop
-  f-same-2 c = c .before .before .loop .inv .3
+  f-same-3 : leaf-lts.Need-same-length-3 F leaf-asks leaf.Post Inv-leaf μ-leaf-loop
+  f-same-3 c = c .before .before .loop .inv .3
 
-  f-returns-2 : leaf-lts.Need-returns-2 F leaf-asks leaf.Post Inv-leaf μ-leaf-loop
-  f-returns-2 c =
+  f-returns-3 : leaf-lts.Need-returns-3 F leaf-asks leaf.Post Inv-leaf μ-leaf-loop
+  f-returns-3 c =
       let a = c .before .before .before .before .before .before .before .before .before .before .args in
       let o = c .before .before .loop in
       let l = c .before .before .before .leaf-fields .result in
@@ -279,9 +280,8 @@ module _ (t : ℕ) where
       let s = none-left _ _ _ _ (o .inv .4) (list-over (now (a .bins)) (a .levels) (leavesNamed (now (a .bins)) l) (o .j) (omega arith)) in
       rw (list-is (a .levels) (c .before .before .before .before .before .before .before .before .before .before .before .before .before .pre .1 .0) (c .before .before .before .before .before .before .key-fields .ensures) (c .before .before .before .before .if1 .left) (c .before .before .before .leaves-fields .ensures)) (s .sought, s .counts)
 
-pub +count-key+count-leaf+count-list-spec : {M : Type 1} → statement M
-+count-key+count-leaf+count-list-spec =
-    close μ-key μ-leaf μ-list
-    (λ t. key-lts.spec (K t) (key-asks t) key.Post (k-visit t) (k-same t) (k-returns t) (k-sub t) (k-list t) (k-same-2 t) (k-returns-2 t))
-    (λ t. leaf-lts.spec (F t) (leaf-asks t) leaf.Post Inv-leaf μ-leaf-loop (f-fields t) (f-holds t) (f-child t) (f-key t) (f-known t) (f-same t) (f-returns t) (f-told t) (f-add t) (f-less t) (f-again t) (f-same-2 t) (f-returns-2 t))
+pub +count-leaf+count-list-spec : {M : Type 1} → statement M
++count-leaf+count-list-spec =
+    close μ-leaf μ-list
+    (λ t. leaf-lts.spec (F t) (leaf-asks t) leaf.Post Inv-leaf μ-leaf-loop (f-fields t) (f-holds t) (f-child t) (f-visit t) (f-same t) (f-returns t) (f-key t) (f-sub t) (f-list t) (f-known t) (f-same-2 t) (f-returns-2 t) (f-told t) (f-add t) (f-less t) (f-again t) (f-same-3 t) (f-returns-3 t))
     (λ t. list-lts.spec (L t) (list-asks t) list.Post Inv-list μ-list-loop (l-fields t) (l-returns t) (l-leaves t) (l-holds t) (l-offset t) (l-leaf t) (l-known t) (l-same t) (l-returns-2 t) (l-told t) (l-add t) (l-less t) (l-again t) (l-same-2 t) (l-returns-3 t))
