@@ -27,6 +27,7 @@ use Rattle.tree.specs.Tree.{hiveOf, keysOf, valuesIn, reportOf, walkChar
 use Rattle.tree.specs.WellFormed.{CleanAndWellFormed}
 use Rattle.tree.proofs.Accepted.{root-stands, root-free}
 use Rattle.tree.proofs.Charges.{accepted-free}
+use Rattle.tree.proofs.Roots.{check-is}
 
 -- what an accepted hive is
 pub record AcceptedAs (h m : List ℕ) (r : Report) : Type 0 where
@@ -44,8 +45,7 @@ module _ (h m : List ℕ) where
       by : (s : Surveyed) → surveyAnswer h (length m) ≡ s → AcceptedAs h m r
       by (Untiled f) p = absurd (let q = rw p at e in let z : _≡_ {A = ℕ} 0 1 = cc in omega arith)
       by (Tiled t) p =
-          let q = rw p at e in
-          let x = accepted-free (walkCharge h (mapLeft h m) after ringCharge h (mapLeft h m)) (reportOf h t) q in
+          let x = accepted-free (walkCharge h (mapLeft h m) after ringCharge h (mapLeft h m)) (reportOf h t) (sym (check-is h m p) ∙ e) in
           let c = both-free (walkCharge h (mapLeft h m)) _ (x .0) in
           record { tally = t; surveys = p; free = c .0; secure = c .1; report = sym (x .1) }
 
@@ -69,7 +69,6 @@ module _ (h m : List ℕ) where
   bins-length p = simp (length-take, length-drop) (omega arith)
 
   formed-accepted : CleanAndWellFormed h → binsOf (sector h) / 64 ≤ length m → (r : Report) × (checkAnswer h m ≡ Accepted r)
-  unfolding checkAnswer
   formed-accepted w room =
       let base = facts-base h (w .is-clean) (w .inside) in
       let b = base-facts h base in
@@ -80,7 +79,7 @@ module _ (h m : List ℕ) where
       let x = surveyed h m (t .0) q .1 in
       let f = root-free (binsData h) (mapLeft h m) (hiveOf h) (x .tiles) (x .mapped) (w .formed .tree) in
       let g = security-exactly (binsData h) (mapLeft h m) (x .tiles) (x .mapped) (keysOf h) (hiveOf h .root) .1 (w .formed .security) in
-      (reportOf h (t .0), rw (q, free _ _ f g))
+      (reportOf h (t .0), rw (check-is h m q, free _ _ f g))
 
   -- the theorem
   pub accepted-exactly : binsOf (sector h) / 64 ≤ length m → ((r : Report) × (checkAnswer h m ≡ Accepted r)) ↔ CleanAndWellFormed h

@@ -5,10 +5,10 @@ pub mod Accepted
 pub mod Once
 pub mod Counted
 pub mod Legible
-pub mod Exactly
 pub mod Tests
 pub mod Walks
 pub mod Roots
+pub mod Exactly
 pub mod Secures
 pub mod Tells
 pub mod Maps

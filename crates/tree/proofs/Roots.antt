@@ -69,16 +69,21 @@ module _ (h m : List ℕ) where
       record { base = front-facts h (length m) (s .0) .0; tiles = s .1 .tiles; mapped = s .1 .mapped }
 
   module _ {t : Tally} (e : surveyAnswer h (length m) ≡ Tiled t) where
+    -- a fault of the walk goes before one of the security items
+    pub check-is : checkAnswer h m ≡ answer (walkCharge h (mapLeft h m) after ringCharge h (mapLeft h m)) (reportOf h t)
+    unfolding checkAnswer
+    check-is = rw e
+
     -- the walk refuses
     pub check-stops : {r : Refusal} → walkAnswer h (mapLeft h m) t ≡ Refused r → checkAnswer h m ≡ Refused r
-    unfolding checkAnswer walkAnswer _after_
-    check-stops q = rw (e, refused-charge (walkCharge h (mapLeft h m)) (reportOf h t) q)
+    unfolding walkAnswer _after_
+    check-stops q = rw (check-is, refused-charge (walkCharge h (mapLeft h m)) (reportOf h t) q)
 
     -- the walk does not, and the security items answer
     module _ {r : Report} (q : walkAnswer h (mapLeft h m) t ≡ Accepted r) where
       pub check-on : checkAnswer h m ≡ answer (ringCharge h (mapLeft h m)) r
-      unfolding checkAnswer walkAnswer _after_
-      check-on = let x = accepted-free (walkCharge h (mapLeft h m)) (reportOf h t) q in rw (e, x .0, x .1)
+      unfolding walkAnswer _after_
+      check-on = let x = accepted-free (walkCharge h (mapLeft h m)) (reportOf h t) q in rw (check-is, x .0, x .1)
 
       pub check-walked : Walked h (mapLeft h m) (r .keys)
       unfolding walkAnswer
