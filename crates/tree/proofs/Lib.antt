@@ -7,6 +7,7 @@ pub mod Counted
 pub mod Legible
 pub mod Tests
 pub mod Walks
+pub mod Rows
 pub mod Roots
 pub mod Exactly
 pub mod Secures

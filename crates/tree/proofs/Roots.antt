@@ -18,27 +18,42 @@ use Rattle.cells.specs.Survey.{surveyAnswer, mapLeft}
 use Rattle.cells.proofs.Fronts.{front-facts, front-data, survey-on}
 use Rattle.cells.proofs.Cleared.{again, after-length}
 use Rattle.cells.proofs.Mapped.{surveyed}
+use Rattle.records.specs.declared.Leaf.{Leaf}
 use Rattle.records.specs.Listed.{keysIn}
 use Rattle.tree.specs.declared.Checked.the-variants.{Accepted, Refused}
 use Rattle.tree.specs.declared.Count.{Count}
 use Rattle.tree.specs.declared.Report.{Report}
 use Rattle.tree.specs.declared.Arrival.the-variants.{Start}
 use Rattle.tree.specs.declared.Walk.the-variants.{Counted, Refused as Stopped}
-use Rattle.tree.specs.Tree.{treeCharge, tallied, keyAnswer, levels, hiveOf, rootChild, keysOf, valuesIn, reportOf, walkCharge, ringCharge, answer, checkAnswer}
-use Rattle.tree.specs.Steps.{Ready, walkAnswer, Walked}
+use Rattle.tree.specs.Tree.{treeCharge, tallied, keyAnswer, listAnswer, levels, hiveOf, rootChild, keysOf, valuesIn, reportOf, walkCharge, ringCharge, answer, checkAnswer}
+use Rattle.tree.specs.Steps.{alone, rowChildren, RowLies, Ready, walkAnswer, Walked}
 use Rattle.tree.proofs.Accepted.{root-stands}
 use Rattle.tree.proofs.Counted.{counted}
 use Rattle.tree.proofs.Charges.{accepted-free, refused-charge}
-use Rattle.tree.proofs.Walks.{refused-of, counted-free}
+use Rattle.tree.proofs.Walks.{refused-of, counted-free, one-key}
+use Rattle.tree.proofs.Rows.{row-start}
 
 abbrev pub none : Count
 none = record { keys = 0; values = 0 }
 
 -- the walk's arguments, as they are read from the base block
-pub root-is : (h m : List ℕ) {minor : ℕ} {root : Offset} {bins : List ℕ} → minor ≡ minorOf (sector h) → root ≡ rootOf (sector h) → bins ≡ binsData h
+root-is : (h m : List ℕ) {minor : ℕ} {root : Offset} {bins : List ℕ} → minor ≡ minorOf (sector h) → root ≡ rootOf (sector h) → bins ≡ binsData h
     → keyAnswer bins m (record { minor = minor; root = root }) levels (record { at = root; hashed = false; hinted = false; beside = 0 }) Start none
     ≡ keyAnswer (binsData h) m (hiveOf h) levels (rootChild (hiveOf h)) Start none
 root-is h m p q r = rw (r, p, q)
+
+-- the root as a row of one
+abbrev pub rootRow : Offset → Leaf
+rootRow root = record { cell = root; count = 1; width = 0; hashed = false; hinted = false }
+
+pub root-row : (h m : List ℕ) {minor : ℕ} {root : Offset} {bins : List ℕ} → minor ≡ minorOf (sector h) → root ≡ rootOf (sector h) → bins ≡ binsData h
+    → listAnswer bins m (record { minor = minor; root = root }) levels root Start (rowChildren bins (rootRow root)) none
+    ≡ keyAnswer (binsData h) m (hiveOf h) levels (rootChild (hiveOf h)) Start none
+root-row h m {minor} {root} {bins} p q r =
+    rw (row-start bins (rootRow root) refl) (one-key bins m (record { minor = minor; root = root }) levels root Start (alone root) none ∙ root-is h m p q r)
+
+pub root-lies : (d : List ℕ) (root : Offset) → RowLies d (rootRow root)
+root-lies d root = record { one = λ e. refl; lies = λ f. absurd (f refl) }
 
 module _ (h m : List ℕ) (r : Ready h m) where
   pub bins-small : length (binsData h) ≤ binsLimit

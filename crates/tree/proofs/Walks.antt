@@ -28,6 +28,7 @@ use Rattle.tree.specs.declared.Count.{Count}
 use Rattle.tree.specs.declared.Hive.{Hive}
 use Rattle.tree.specs.declared.Arrival.{Arrival}
 use Rattle.tree.specs.declared.Arrival.the-variants.{First, After}
+use Rattle.tree.specs.declared.Walk.{Walk}
 use Rattle.tree.specs.declared.Walk.the-variants.{Counted, Refused}
 use Rattle.tree.specs.Tree.{holder, ownFault, keyCharge, listCharge, treeCharge, tally, tallied, walked, keyAnswer, listAnswer}
 use Rattle.tree.specs.Steps.{Fits, lastOf}
@@ -124,6 +125,14 @@ module _ (d m : List ℕ) (hive : Hive) where
     pub end-nil : (l : Arrival) (t : Count) → listAnswer d m hive n key l [] t ≡ Counted t
     unfolding listAnswer listCharge joined tallied
     end-nil l t = refl
+
+    -- a list of one
+    pub one-key : (l : Arrival) (c : Child) (t : Count) → listAnswer d m hive n key l (c ∷ []) t ≡ keyAnswer d m hive n c l t
+    one-key l c t = by (keyAnswer d m hive n c l t) refl
+      where
+        by : (w : Walk) → keyAnswer d m hive n c l t ≡ w → listAnswer d m hive n key l (c ∷ []) t ≡ w
+        by (Counted u) e = on-cons l c [] t e ∙ end-nil (After key (c .at)) u
+        by (Refused f) e = stop-cons l c [] t e
 
     -- one list after another
     stop-append : (l : Arrival) (cs es : List Child) (t : Count) {f : Refusal} → listAnswer d m hive n key l cs t ≡ Refused f

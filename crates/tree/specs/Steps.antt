@@ -1,7 +1,9 @@
 -- What the walk's functions ask of each other.
 use Prim.Native.Nat.{ℕ, _-_, _≤_}
 use mathlib.Core.Path.{_≡_}
-use mathlib.Core.List.{List}
+use mathlib.Core.Bool.{false, cond}
+use mathlib.Core.List.{List, [], _∷_}
+use lib.Dec.{eqb}
 use lib.ListN.{length, getD}
 use Rattle.fields.specs.declared.Offset.{Offset}
 use Rattle.fields.specs.declared.Verdict.{Verdict}
@@ -16,9 +18,11 @@ use Rattle.cells.specs.Tiling.{layout, surveyOf}
 use Rattle.cells.specs.Map.{mapAfter}
 use Rattle.cells.specs.Steps.{Data}
 use Rattle.cells.specs.Tiled.{BinsTile, Mapped}
+use Rattle.records.specs.declared.Child.{Child}
 use Rattle.records.specs.declared.Key.{Key}
+use Rattle.records.specs.declared.Leaf.{Leaf}
 use Rattle.records.specs.Keys.{keyOf, NameIn}
-use Rattle.records.specs.Steps.{noChild}
+use Rattle.records.specs.Steps.{elementsOf, ElementsLie, noChild}
 use Rattle.records.specs.Lists.{leafChildren, listsFault}
 use Rattle.namesakes.specs.Namesakes.{namesakeFault}
 use Rattle.tree.specs.declared.Arrival.{Arrival}
@@ -52,6 +56,18 @@ listedFault d m k at = namesakeFault d k next subkeysFault d m k at
 -- the last key of a leaf
 unfoldable pub lastOf : List ℕ → Offset → Offset
 lastOf d o = getD (leafChildren (dataAt d o)) (length (leafChildren (dataAt d o)) - 1) noChild .at
+
+-- The keys that one turn of the walk goes over: those of a leaf, by its elements; or the root alone, at the start, by a row whose elements have no width
+-- and which is at the root's own offset.
+abbrev pub alone : Offset → Child
+alone o = record { at = o; hashed = false; hinted = false; beside = 0 }
+
+unfoldable pub rowChildren : List ℕ → Leaf → List Child
+rowChildren d l = cond (eqb (l .width) 0) (alone (l .cell) ∷ []) (elementsOf d l)
+
+pub record RowLies (d : List ℕ) (l : Leaf) : Type 0 where
+  pub one : l .width ≡ 0 → l .count ≡ 1
+  pub lies : (l .width ≡ 0 → ⊥) → ElementsLie d l
 
 -- a hive whose bins and cells were surveyed, with its map
 pub record Ready (h m : List ℕ) : Type 0 where

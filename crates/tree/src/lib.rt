@@ -11,17 +11,21 @@ use names::Order;
 use records::Child;
 use records::Key;
 use records::Keyed;
+use records::Leaf;
 use records::Totalled;
 ghost use mathlib.Core.Path.{_≡_};
+ghost use Prim.Native.Nat.{_<_};
+ghost use lib.ListN.{getD};
 ghost use Rattle.cells.specs.Survey.{mapLeft};
 ghost use Rattle.cells.specs.Named.{dataAt};
 ghost use Rattle.cells.specs.declared.Rule.the-variants.{Map};
 ghost use Rattle.fields.specs.declared.Verdict.the-variants.{Sound};
+ghost use Rattle.records.specs.Steps.{noChild};
 ghost use Rattle.records.specs.Lists.{leafChildren, leafFault, childrenBelow, listsFault};
 ghost use Rattle.tree.specs.Tree.{parentFault, orderFault, placeFault, hashFault, hintFault, besideFault, restFault, ownFault, holder as holderOf, tally as tallyOf, keyAnswer, listAnswer, ringCharge, answer, checkAnswer};
 ghost use Rattle.values.specs.Lists.{valueEntries};
 ghost use Rattle.namesakes.specs.Steps.{NamesLie};
-ghost use Rattle.tree.specs.Steps.{NameLies, Fits, ArrivalFits, subkeysFault, listedFault, lastOf, Ready, walkAnswer, Walked};
+ghost use Rattle.tree.specs.Steps.{NameLies, Fits, ArrivalFits, subkeysFault, listedFault, lastOf, RowLies, rowChildren, Ready, walkAnswer, Walked};
 
 // "The check reports bins, keys reached, values (one for each value list element of those keys), used bytes and free bytes"
 pub struct Report {
@@ -319,11 +323,46 @@ fn check_leaf(
     ensures { λ r. ⌜ r ≡ listAnswer (now (bins .entry)) (now (map .entry)) hive levels key first (leafChildren (dataAt (now (bins .entry)) o)) from ⌝ }
 {
     let leaf = records::leaf_fields(bins, o);
+    check_row(bins, map, hive, key, leaf, first, levels, from)
+}
+
+// An element of a row.
+fn row_child(bins: &[u8], row: Leaf, i: usize) -> Child
+    requires { ⌜ (i < row .count) × RowLies (now bins) row ⌝ }
+    ensures { λ r. ⌜ r ≡ getD (rowChildren (now (bins .entry)) row) i noChild ⌝ }
+{
+    let at = row.cell;
+    if row.width == 0 {
+        return Child {
+            at,
+            hashed: false,
+            hinted: false,
+            beside: 0,
+        };
+    }
+    records::child_of(bins, row, i)
+}
+
+// The keys of a row, the root's or a leaf's. It is the one place that asks for a key's tests: so they are no call, but for a key that has subkeys.
+fn check_row(
+    bins: &[u8],
+    map: &[u8],
+    hive: Hive,
+    key: Offset,
+    row: Leaf,
+    first: Arrival,
+    levels: u32,
+    from: Count,
+) -> Walk
+    requires { ⌜ RowLies (now bins) row ⌝ }
+    requires { ⌜ ArrivalFits (now bins) first ⌝ }
+    ensures { λ r. ⌜ r ≡ listAnswer (now (bins .entry)) (now (map .entry)) hive levels key first (rowChildren (now (bins .entry)) row) from ⌝ }
+{
     let mut t = from;
     let mut l = first;
     let mut i: usize = 0;
-    while i < leaf.count {
-        let c = records::child_of(bins, leaf, i);
+    while i < row.count {
+        let c = row_child(bins, row, i);
         let w = check_key(bins, map, hive, c, l, levels, t);
         match w {
             Walk::Refused(f) => return Walk::Refused(f),
@@ -345,17 +384,19 @@ fn walk_tree(hive: &[u8], map: &[u8], t: Tally) -> Checked
 {
     let minor = base::minor_of(hive);
     let root = base::root_of(hive);
-    let start = Child {
-        at: root,
+    let start = Leaf {
+        cell: root,
+        count: 1,
+        width: 0,
         hashed: false,
         hinted: false,
-        beside: 0,
     };
     let none = Count { keys: 0, values: 0 };
-    match check_key(
+    match check_row(
         base::bins_of(hive),
         map,
         Hive { minor, root },
+        root,
         start,
         Arrival::Start,
         513,

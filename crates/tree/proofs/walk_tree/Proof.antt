@@ -1,5 +1,5 @@
 use denote.Ref.{now}
-use Rattle.tree.proofs.Roots.{root-is, walk-refused, walk-counted}
+use Rattle.tree.proofs.Roots.{root-row, root-lies, walk-refused, walk-counted}
 use mathlib.Core.Path.{sym, _∙_}
 use borrow.Author.Needs.{needs}
 use Rattle.tree.proofs.walk_tree.Statement.{statement}
@@ -14,8 +14,8 @@ root-of-requires c κs = c .before .before .before .pre .base
 bins-of-requires : tie.Need-bins-of-requires
 bins-of-requires c κs = c .before .before .before .before .pre .base
 
-check-key-requires : tie.Need-check-key-requires
-check-key-requires c κs = tt
+check-row-requires : tie.Need-check-row-requires
+check-row-requires c κs = (root-lies _ _, tt)
 
 enum-known-f : tie.Need-enum-known-f
 enum-known-f c = search needs
@@ -26,14 +26,14 @@ enum-known-n c = search needs
 returns : tie.Need-returns
 returns c =
     let a = c .before .before .before .before .before .before .before .before .before .args in
-    let e = root-is (now (a .hive)) (now (a .map)) (c .before .before .before .before .before .before .minor-of .ensures) (c .before .before .before .before .before .root-of .ensures) (c .before .before .before .before .bins-of .ensures) in
-    sym (walk-refused _ _ (c .before .before .before .before .before .before .before .before .before .pre) _ (sym e ∙ sym (c .before .before .before .check-key .ensures) ∙ c .before .f .given .1))
+    let e = root-row (now (a .hive)) (now (a .map)) (c .before .before .before .before .before .before .minor-of .ensures) (c .before .before .before .before .before .root-of .ensures) (c .before .before .before .before .bins-of .ensures) in
+    sym (walk-refused _ _ (c .before .before .before .before .before .before .before .before .before .pre) _ (sym e ∙ sym (c .before .before .before .check-row .ensures) ∙ c .before .f .given .1))
 
 returns-2 : tie.Need-returns-2
 returns-2 c =
     let a = c .before .before .before .before .before .before .before .before .before .args in
-    let e = root-is (now (a .hive)) (now (a .map)) (c .before .before .before .before .before .before .minor-of .ensures) (c .before .before .before .before .before .root-of .ensures) (c .before .before .before .before .bins-of .ensures) in
-    sym (walk-counted _ _ (c .before .before .before .before .before .before .before .before .before .pre) _ (sym e ∙ sym (c .before .before .before .check-key .ensures) ∙ c .before .n .given .1))
+    let e = root-row (now (a .hive)) (now (a .map)) (c .before .before .before .before .before .before .minor-of .ensures) (c .before .before .before .before .before .root-of .ensures) (c .before .before .before .before .bins-of .ensures) in
+    sym (walk-counted _ _ (c .before .before .before .before .before .before .before .before .before .pre) _ (sym e ∙ sym (c .before .before .before .check-row .ensures) ∙ c .before .n .given .1))
 
 pub walk-tree-spec : {M : Type 1} → statement M
 walk-tree-spec =
@@ -42,7 +42,7 @@ walk-tree-spec =
     minor-of-requires
     root-of-requires
     bins-of-requires
-    check-key-requires
+    check-row-requires
     enum-known-f
     enum-known-n
     returns

@@ -1,5 +1,5 @@
--- The proof of the cycle of calls {check_key, check_leaf, check_list}. A key has three times the levels left, a leaf one more than its keys, a list one
--- more than its leaves; along a list and along a leaf the loops' own measures fall. Assumes nothing.
+-- The proof of the cycle of calls {check_key, check_leaf, check_list, check_row}. A key has four times the levels left, a row one more than its keys, a
+-- leaf one more than its row, a list one more than its leaves; along a list and along a row the loops' own measures fall. Assumes nothing.
 use borrow.Author.Needs.{needs}
 use borrow.Fn.Kinds.{In}
 use borrow.Fn.PlainCycle.{Measures, is, falls, and}
@@ -14,27 +14,30 @@ use Rattle.fields.specs.declared.Verdict.the-variants.{Sound}
 use Rattle.cells.specs.declared.Rule.the-variants.{Map}
 use Rattle.records.specs.Keys.{keyFault, keyOf}
 use Rattle.records.specs.Lists.{leafFault, childrenIn}
-use Rattle.records.specs.Steps.{leavesNamed, LeavesLie, elementsOf, ElementsLie}
+use Rattle.records.specs.Steps.{leavesNamed, LeavesLie}
 use Rattle.records.proofs.LawsAnswer.{keyed-whole, keyed-flawed}
 use Rattle.records.proofs.LawsKey.{name-room}
 use Rattle.records.proofs.LawsPlaces.{leaf-tested, leaf-some, elements-lie, leaves-lie, named-length}
 use Rattle.tree.specs.Tree.{listAnswer}
-use Rattle.tree.specs.Steps.{ArrivalFits}
-use Rattle.records.proofs.LawsElements.{elements-length, element-at, elements-are}
+use Rattle.tree.specs.Steps.{ArrivalFits, RowLies, rowChildren}
+use Rattle.records.proofs.LawsElements.{elements-are}
 use Rattle.tree.proofs.Charges.{own-parts}
+use Rattle.tree.proofs.Rows.{row-length, leaf-row, leaf-children}
 use Rattle.tree.proofs.Walks.{key-record, key-own, level-left, key-on, end-nil, leaf-stop, leaf-on, leaf-end, leaves-stop, leaves-on, leaves-end, key-fits, leaf-fits}
 use Rattle.records.proofs.Elements.{leaf-there, leaf-in, no-children, head-sound, head-room, as-list, each-sound}
 use Rattle.tree.proofs.check_key.Reads as key
 use Rattle.tree.proofs.check_key.Kinds as key-kinds
-use Rattle.tree.proofs.+check_key+check_leaf+check_list.Lts-check_key as key-lts
+use Rattle.tree.proofs.+check_key+check_leaf+check_list+check_row.Lts-check_key as key-lts
 use Rattle.tree.proofs.check_leaf.Reads as leaf
 use Rattle.tree.proofs.check_leaf.Kinds as leaf-kinds
-use Rattle.tree.proofs.+check_key+check_leaf+check_list.Lts-check_leaf as leaf-lts
+use Rattle.tree.proofs.+check_key+check_leaf+check_list+check_row.Lts-check_leaf as leaf-lts
+use Rattle.tree.proofs.check_row.Reads as row
+use Rattle.tree.proofs.check_row.Kinds as row-kinds
+use Rattle.tree.proofs.+check_key+check_leaf+check_list+check_row.Lts-check_row as row-lts
 use Rattle.tree.proofs.check_list.Reads as list
 use Rattle.tree.proofs.check_list.Kinds as list-kinds
-use Rattle.tree.proofs.+check_key+check_leaf+check_list.Lts-check_list as list-lts
+use Rattle.tree.proofs.+check_key+check_leaf+check_list+check_row.Lts-check_list as list-lts
 use Rattle.fields.proofs.refused.Reads as refused
-use Rattle.records.proofs.child_of.Reads as child-of
 use Rattle.records.proofs.key_at.Reads as key-at
 use Rattle.records.proofs.leaf_fields.Reads as leaf-fields
 use Rattle.records.proofs.leaf_offset.Reads as leaf-offset
@@ -42,27 +45,31 @@ use Rattle.records.proofs.leaves_fields.Reads as leaves-fields
 use Rattle.tree.proofs.holder.Reads as holder
 use Rattle.tree.proofs.last_of.Reads as last-of
 use Rattle.tree.proofs.own_flaw.Reads as own-flaw
+use Rattle.tree.proofs.row_child.Reads as row-child
 use Rattle.tree.proofs.tally.Reads as tally
-use Rattle.tree.proofs.+check_key+check_leaf+check_list.{statement}
-use Rattle.tree.proofs.+check_key+check_leaf+check_list.Tie.{close}
+use Rattle.tree.proofs.+check_key+check_leaf+check_list+check_row.{statement}
+use Rattle.tree.proofs.+check_key+check_leaf+check_list+check_row.Tie.{close}
 
 abbrev μ-key : Measures 2 key-kinds.ps ℕ
-μ-key κs a = 3 * a .1 .1 .1 .1 .1 .0
+μ-key κs a = 4 * a .1 .1 .1 .1 .1 .0
 
 abbrev μ-leaf : Measures 2 leaf-kinds.ps ℕ
-μ-leaf κs a = 3 * a .1 .1 .1 .1 .1 .1 .0 + 1
+μ-leaf κs a = 4 * a .1 .1 .1 .1 .1 .1 .0 + 2
+
+abbrev μ-row : Measures 2 row-kinds.ps ℕ
+μ-row κs a = 4 * a .1 .1 .1 .1 .1 .1 .0 + 1
 
 abbrev μ-list : Measures 2 list-kinds.ps ℕ
-μ-list κs a = 3 * a .1 .1 .1 .1 .1 .0 + 2
+μ-list κs a = 4 * a .1 .1 .1 .1 .1 .0 + 3
 
--- what is left of a leaf answers as the whole does, and the sibling before was tested
-abbrev Inv-leaf : leaf-lts.InvT-loop
-Inv-leaf bins map hive key levels leaf t₀ l₀ i₀ t l i =
-    (i ≤ leaf .count) × ElementsLie bins leaf × ArrivalFits bins l
-    × (listAnswer bins map hive levels key l₀ (elementsOf bins leaf) t₀ ≡ listAnswer bins map hive levels key l (drop i (elementsOf bins leaf)) t)
+-- what is left of a row answers as the whole does, and the sibling before was tested
+abbrev Inv-row : row-lts.InvT-loop
+Inv-row bins map hive key row levels t₀ l₀ i₀ t l i =
+    (i ≤ row .count) × RowLies bins row × ArrivalFits bins l
+    × (listAnswer bins map hive levels key l₀ (rowChildren bins row) t₀ ≡ listAnswer bins map hive levels key l (drop i (rowChildren bins row)) t)
 
-abbrev μ-leaf-loop : leaf-lts.MeasureT-loop
-μ-leaf-loop bins map hive key levels leaf t₀ l₀ i₀ t l i = leaf .count - i
+abbrev μ-row-loop : row-lts.MeasureT-loop
+μ-row-loop bins map hive key row levels t₀ l₀ i₀ t l i = row .count - i
 
 abbrev Inv-list : list-lts.InvT-loop
 Inv-list bins map hive key levels ls t₀ l₀ j₀ t l j =
@@ -86,6 +93,12 @@ module _ (t : ℕ) where
   abbrev leaf-below : In 2 leaf-kinds.ps
   leaf-below = and 2 leaf-kinds.ps (falls 2 leaf-kinds.ps _<_ μ-leaf t) leaf.Pre
 
+  abbrev row-asks : In 2 row-kinds.ps
+  row-asks = and 2 row-kinds.ps (is 2 row-kinds.ps μ-row t) row.Pre
+
+  abbrev row-below : In 2 row-kinds.ps
+  row-below = and 2 row-kinds.ps (falls 2 row-kinds.ps _<_ μ-row t) row.Pre
+
   abbrev list-asks : In 2 list-kinds.ps
   list-asks = and 2 list-kinds.ps (is 2 list-kinds.ps μ-list t) list.Pre
 
@@ -96,7 +109,10 @@ module _ (t : ℕ) where
   K = (key-at.Asked, key-at.Learnt, holder.Asked, holder.Learnt, refused.Asked, refused.Learnt, own-flaw.Asked, own-flaw.Learnt, tally.Asked, tally.Learnt, list-below, list.Post)
 
   abbrev F : leaf-lts.Claims
-  F = (leaf-fields.Asked, leaf-fields.Learnt, child-of.Asked, child-of.Learnt, key-below, key.Post)
+  F = (leaf-fields.Asked, leaf-fields.Learnt, row-below, row.Post)
+
+  abbrev R : row-lts.Claims
+  R = (row-child.Asked, row-child.Learnt, key-below, key.Post)
 
   abbrev L : list-lts.Claims
   L = (leaves-fields.Asked, leaves-fields.Learnt, leaf-offset.Asked, leaf-offset.Learnt, leaf-below, leaf.Post, last-of.Asked, last-of.Learnt)
@@ -163,58 +179,68 @@ module _ (t : ℕ) where
       ∙ sym (key-on _ _ _ _ _ _ _ _ _ (w .1) (w .0) (sym (c .before .before .before .before .own-flaw .ensures) ∙ c .before .before .enum-told .given .1) (c .before .tally .ensures))
 
   -- check_leaf
-  f-fields : leaf-lts.Need-leaf-fields-requires F leaf-asks leaf.Post Inv-leaf μ-leaf-loop
+  f-fields : leaf-lts.Need-leaf-fields-requires F leaf-asks leaf.Post
   f-fields c κs = let t = leaf-tested Map _ _ _ (c .before .before .pre .1 .0) in omega (arith, t .holds .room)
 
-  f-holds : leaf-lts.Need-loop-holds F leaf-asks leaf.Post Inv-leaf μ-leaf-loop
-  f-holds c = (omega arith, rw (c .leaf-fields .ensures) (elements-lie Map _ _ _ (c .before .before .before .pre .1 .0)), c .before .before .before .pre .1 .1, refl)
+  f-row : leaf-lts.Need-check-row-requires F leaf-asks leaf.Post
+  f-row c κs =
+      let p = c .before .before .before .pre .1 in
+      (omega arith, (leaf-row _ _ (rw (c .leaf-fields .ensures) (elements-lie Map _ _ _ (p .0))), p .1))
 
-  f-child : leaf-lts.Need-child-of-requires F leaf-asks leaf.Post Inv-leaf μ-leaf-loop
-  f-child c κs = (omega arith, c .before .before .loop .inv .1)
-
-  f-key : leaf-lts.Need-check-key-requires F leaf-asks leaf.Post Inv-leaf μ-leaf-loop
-  f-key c κs = (omega arith, c .before .before .before .loop .inv .2)
-
-  f-refused : leaf-lts.Need-enum-known-w F leaf-asks leaf.Post Inv-leaf μ-leaf-loop
-  f-refused c = search needs
-
-  f-returns : leaf-lts.Need-returns F leaf-asks leaf.Post Inv-leaf μ-leaf-loop
+  f-returns : leaf-lts.Need-returns F leaf-asks leaf.Post
   f-returns c =
-      let a = c .before .before .before .before .before .before .before .before .before .before .before .args in
+      let e = c .before .before .before .before in
+      let q = c .before .leaf-fields .ensures in
+      let s = leaf-children (now (e .args .bins)) (c .before .leaf-fields .result) (rw q (elements-lie Map _ _ _ (e .pre .1 .0))) in
+      rw (elements-are _ _ q, ← s) (c .check-row .ensures)
+
+  -- check_row
+  r-holds : row-lts.Need-loop-holds R row-asks row.Post Inv-row μ-row-loop
+  r-holds c = let p = c .before .before .pre .1 in (omega arith, p .0, p .1, refl)
+
+  r-child : row-lts.Need-row-child-requires R row-asks row.Post Inv-row μ-row-loop
+  r-child c κs = (omega arith, c .before .before .loop .inv .1)
+
+  r-key : row-lts.Need-check-key-requires R row-asks row.Post Inv-row μ-row-loop
+  r-key c κs = (omega arith, c .before .before .before .loop .inv .2)
+
+  r-refused : row-lts.Need-enum-known-w R row-asks row.Post Inv-row μ-row-loop
+  r-refused c = search needs
+
+  r-returns : row-lts.Need-returns R row-asks row.Post Inv-row μ-row-loop
+  r-returns c =
+      let a = c .before .before .before .before .before .before .before .before .before .before .args in
       let o = c .before .before .before .before .before .before .before .loop in
-      let n = elements-length (now (a .bins)) (c .before .before .before .before .before .before .before .before .leaf-fields .result) in
-      rw (elements-are _ _ (c .before .before .before .before .before .before .before .before .leaf-fields .ensures))
-      (sym (leaf-stop _ _ _ _ _ _ _ (elementsOf (now (a .bins)) (c .before .before .before .before .before .before .before .before .leaf-fields .result)) (o .i) _ _ (o .inv .3) _ (omega arith)
-      (element-at _ _ (o .i) (c .before .before .before .before .before .if1 .taken) (c .before .before .before .before .child-of .ensures)) (sym (c .before .before .before .check-key .ensures) ∙ c .before .w .given .1)))
+      let n = row-length (now (a .bins)) (a .row) (o .inv .1) in
+      sym (leaf-stop _ _ _ _ _ _ _ (rowChildren (now (a .bins)) (a .row)) (o .i) _ _ (o .inv .3) _ (omega arith) (c .before .before .before .before .row-child .ensures) (sym (c .before .before .before .check-key .ensures) ∙ c .before .w .given .1))
 
-  f-counted : leaf-lts.Need-enum-known-w-2 F leaf-asks leaf.Post Inv-leaf μ-leaf-loop
-  f-counted c = search needs
+  r-counted : row-lts.Need-enum-known-w-2 R row-asks row.Post Inv-row μ-row-loop
+  r-counted c = search needs
 
-  f-add : leaf-lts.Need-add-i F leaf-asks leaf.Post Inv-leaf μ-leaf-loop
-  f-add c = omega arith
+  r-add : row-lts.Need-add-i R row-asks row.Post Inv-row μ-row-loop
+  r-add c = omega arith
 
-  f-less : leaf-lts.Need-loop-less F leaf-asks leaf.Post Inv-leaf μ-leaf-loop
-  f-less c = omega arith
+  r-less : row-lts.Need-loop-less R row-asks row.Post Inv-row μ-row-loop
+  r-less c = omega arith
 
-  f-again : leaf-lts.Need-loop-again F leaf-asks leaf.Post Inv-leaf μ-leaf-loop
-  f-again c =
-      let a = c .before .before .before .before .before .before .before .before .before .before .before .before .args in
+  r-again : row-lts.Need-loop-again R row-asks row.Post Inv-row μ-row-loop
+  r-again c =
+      let a = c .before .before .before .before .before .before .before .before .before .before .before .args in
       let o = c .before .before .before .before .before .before .before .before .loop in
-      let n = elements-length (now (a .bins)) (c .before .before .before .before .before .before .before .before .before .leaf-fields .result) in
+      let n = row-length (now (a .bins)) (a .row) (o .inv .1) in
       let w = sym (c .before .before .before .before .check-key .ensures) ∙ c .before .before .w2 .given .1 in (
         omega arith,
         o .inv .1,
         key-fits _ _ _ _ (a .key) _ _ _ w,
-        leaf-on _ _ _ _ _ _ _ (elementsOf (now (a .bins)) (c .before .before .before .before .before .before .before .before .before .leaf-fields .result)) (o .i) _ _ (o .inv .3) _ (omega arith) (element-at _ _ (o .i) (c .before .before .before .before .before .before .if1 .taken) (c .before .before .before .before .before .child-of .ensures)) w,
+        leaf-on _ _ _ _ _ _ _ (rowChildren (now (a .bins)) (a .row)) (o .i) _ _ (o .inv .3) _ (omega arith) (c .before .before .before .before .before .row-child .ensures) w,
       )
 
-  f-returns-2 : leaf-lts.Need-returns-2 F leaf-asks leaf.Post Inv-leaf μ-leaf-loop
-  f-returns-2 c =
-      let a = c .before .before .before .before .before .before .args in
+  r-returns-2 : row-lts.Need-returns-2 R row-asks row.Post Inv-row μ-row-loop
+  r-returns-2 c =
+      let a = c .before .before .before .before .before .args in
       let o = c .before .before .loop in
-      let n = elements-length (now (a .bins)) (c .before .before .before .leaf-fields .result) in
-      rw (elements-are _ _ (c .before .before .before .leaf-fields .ensures))
-      (sym (leaf-end _ _ _ _ _ _ _ (elementsOf (now (a .bins)) (c .before .before .before .leaf-fields .result)) (o .i) _ _ (o .inv .3) (omega arith)))
+      let n = row-length (now (a .bins)) (a .row) (o .inv .1) in
+      sym (leaf-end _ _ _ _ _ _ _ (rowChildren (now (a .bins)) (a .row)) (o .i) _ _ (o .inv .3) (omega arith))
 
   -- check_list
   l-returns : list-lts.Need-returns L list-asks list.Post Inv-list μ-list-loop
@@ -290,9 +316,10 @@ module _ (t : ℕ) where
       rw (as-list _ _ _ (c .before .before .before .before .before .before .before .before .pre .1) (c .before .before .before .before .if1 .left) (c .before .before .before .leaves-fields .ensures))
       (sym (leaves-end _ _ _ _ _ _ _ (leavesNamed (now (a .bins)) (c .before .before .before .leaves-fields .result)) (o .j) _ _ (o .inv .4) (omega arith)))
 
-pub +check-key+check-leaf+check-list-spec : {M : Type 1} → statement M
-+check-key+check-leaf+check-list-spec =
-    close μ-key μ-leaf μ-list
+pub +check-key+check-leaf+check-list+check-row-spec : {M : Type 1} → statement M
++check-key+check-leaf+check-list+check-row-spec =
+    close μ-key μ-leaf μ-list μ-row
     (λ t. key-lts.spec (K t) (key-asks t) key.Post (k-key-at t) (k-flawed t) (k-holder t) (k-refused t) (k-whole t) (k-own t) (k-flawed-2 t) (k-refused-2 t) (k-sound t) (k-tally t) (k-sub t) (k-list t) (k-returns t) (k-returns-2 t) (k-returns-3 t))
-    (λ t. leaf-lts.spec (F t) (leaf-asks t) leaf.Post Inv-leaf μ-leaf-loop (f-fields t) (f-holds t) (f-child t) (f-key t) (f-refused t) (f-returns t) (f-counted t) (f-add t) (f-less t) (f-again t) (f-returns-2 t))
+    (λ t. leaf-lts.spec (F t) (leaf-asks t) leaf.Post (f-fields t) (f-row t) (f-returns t))
     (λ t. list-lts.spec (L t) (list-asks t) list.Post Inv-list μ-list-loop (l-returns t) (l-fields t) (l-holds t) (l-offset t) (l-leaf t) (l-refused t) (l-returns-2 t) (l-counted t) (l-last t) (l-add t) (l-less t) (l-again t) (l-returns-3 t))
+    (λ t. row-lts.spec (R t) (row-asks t) row.Post Inv-row μ-row-loop (r-holds t) (r-child t) (r-key t) (r-refused t) (r-returns t) (r-counted t) (r-add t) (r-less t) (r-again t) (r-returns-2 t))
