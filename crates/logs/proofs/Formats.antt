@@ -16,7 +16,7 @@ use Rattle.old_log.specs.Layout as layout
 use Rattle.old_log.specs.Tests as tests
 use Rattle.logs.specs.declared.Read.{Read}
 use Rattle.logs.specs.declared.Read.the-variants.{Old, New}
-use Rattle.logs.specs.Logs.{isNew, readOf, headFault, logFault, logBins, isLogged, loggedCount, nextLogged, loggedPlace, logged, marksOf, applies, allIn, allPut, closingOf}
+use Rattle.logs.specs.Logs.{isNew, readOf, headFault, logFault, logBins, isLogged, loggedCount, countedOf, nextLogged, loggedPlace, logged, marksOf, applies, allIn, allPut, closingOf}
 
 module _ (l : List ℕ) where
   -- ---- what was read tells the format
@@ -63,6 +63,10 @@ module _ (l : List ℕ) where
     pub old-count : loggedCount l ≡ layout.loggedCount l
     unfolding loggedCount
     old-count = ap (λ (b : Bool). cond b (new-layout.loggedCount l) (layout.loggedCount l)) o
+
+    pub old-counted : countedOf l ≡ layout.loggedCount l
+    unfolding countedOf
+    old-counted = ap (λ (b : Bool). cond b 0 (layout.loggedCount l)) o
 
     pub old-next : (from : ℕ) → nextLogged l from ≡ layout.nextLogged l from
     unfolding nextLogged
@@ -120,6 +124,10 @@ module _ (l : List ℕ) where
     pub new-count : loggedCount l ≡ new-layout.loggedCount l
     unfolding loggedCount
     new-count = ap (λ (b : Bool). cond b (new-layout.loggedCount l) (layout.loggedCount l)) n
+
+    pub new-counted : countedOf l ≡ 0
+    unfolding countedOf
+    new-counted = ap (λ (b : Bool). cond b 0 (layout.loggedCount l)) n
 
     pub new-next : (from : ℕ) → nextLogged l from ≡ new-layout.nextLogged l from
     unfolding nextLogged

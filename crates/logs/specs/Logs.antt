@@ -84,10 +84,14 @@ logged l = cond (isNew l) (versions.logged l) (layout.logged l)
 unfoldable pub marksOf : List ℕ → List ℕ
 marksOf l = cond (isNew l) (new-layout.marksOf l) (layout.bitmap l)
 
--- all tests give its flaw, or what was read and the number of logged pages
-abbrev pub counted : Verdict → Read → ℕ → Tested
-counted verdict.Sound r n = Logged r n
-counted (verdict.Flawed f) r n = Flawed f
+-- how many of them its own tests count: all of an old one, which "22 for the pages" needs, and none of a new one
+unfoldable pub countedOf : List ℕ → ℕ
+countedOf l = cond (isNew l) 0 (layout.loggedCount l)
+
+-- all tests give its flaw, or what was read and what they counted
+abbrev pub tested : Verdict → Read → ℕ → Tested
+tested verdict.Sound r n = Logged r n
+tested (verdict.Flawed f) r n = Flawed f
 
 -- what it says of itself: how many entries count, the first and the last number, where the last entry ends, and the bins size that 24 reads
 abbrev pub factsIn : Read → ℕ → ℕ → Facts

@@ -15,12 +15,11 @@ ghost use Rattle.sectors.specs.Sector.{stored};
 ghost use Rattle.base.specs.Block.{sector};
 ghost use Rattle.fields.specs.Number.{u32At};
 ghost use Rattle.entries.specs.Entries.{chainOf};
-ghost use Rattle.new_log.specs.Layout as newLayout;
 ghost use Rattle.new_log.specs.Tests as newTests;
 ghost use Rattle.old_log.specs.Layout as oldLayout;
 ghost use Rattle.old_log.specs.Tests as oldTests;
 ghost use Rattle.logs.specs.declared.Read.the-variants as format;
-ghost use Rattle.logs.specs.Logs.{isNew, readOf, headFault, headed, logFault, logBins, pageCount, isLogged, loggedCount, nextLogged, loggedPlace, marksOf, factsOf, counted, applies as appliesTo, allIn, allPut, closingOf};
+ghost use Rattle.logs.specs.Logs.{isNew, readOf, headFault, headed, logFault, logBins, pageCount, isLogged, loggedCount, countedOf, nextLogged, loggedPlace, marksOf, factsOf, tested, applies as appliesTo, allIn, allPut, closingOf};
 
 // What one pass over a log finds that every question needs: its format, and the entries of a new one.
 pub enum Read {
@@ -34,9 +33,9 @@ pub enum Head {
     Flawed(Flaw),
 }
 
-// What all of its own tests give: the number of its logged pages, or its flaw.
+// What all of its own tests give: what was read, and how many pages they have counted, or its flaw.
 pub enum Tested {
-    Logged { read: Read, pages: usize },
+    Logged { read: Read, counted: usize },
     Flawed(Flaw),
 }
 
@@ -90,32 +89,32 @@ pub fn head_test(log: &[u8]) -> Head
 }
 
 fn old_test(log: &[u8]) -> Tested
-    ensures { λ r. ⌜ r ≡ counted (oldTests.logFault (now (log .entry))) format.Old (oldLayout.loggedCount (now (log .entry))) ⌝ }
+    ensures { λ r. ⌜ r ≡ tested (oldTests.logFault (now (log .entry))) format.Old (oldLayout.loggedCount (now (log .entry))) ⌝ }
 {
     match old_log::log_test(log) {
         old_log::Tested::Logged(n) => Tested::Logged {
             read: Read::Old,
-            pages: n,
+            counted: n,
         },
         old_log::Tested::Flawed(f) => Tested::Flawed(f),
     }
 }
 
 fn new_test(log: &[u8]) -> Tested
-    ensures { λ r. ⌜ r ≡ counted (newTests.logFault (now (log .entry))) (format.New (chainOf (now (log .entry)))) (newLayout.loggedCount (now (log .entry))) ⌝ }
+    ensures { λ r. ⌜ r ≡ tested (newTests.logFault (now (log .entry))) (format.New (chainOf (now (log .entry)))) 0 ⌝ }
 {
-    match new_log::log_test(log) {
-        new_log::Tested::Logged { chain, pages } => Tested::Logged {
+    match new_log::read(log) {
+        new_log::Head::Flawed(f) => Tested::Flawed(f),
+        new_log::Head::Good(chain) => Tested::Logged {
             read: Read::New(chain),
-            pages,
+            counted: 0,
         },
-        new_log::Tested::Flawed(f) => Tested::Flawed(f),
     }
 }
 
-// All of them; its pages are counted once.
+// All of them. An old log's tell how many pages it has, a new one's do not.
 pub fn log_test(log: &[u8]) -> Tested
-    ensures { λ r. ⌜ r ≡ counted (logFault (now (log .entry))) (readOf (now (log .entry))) (loggedCount (now (log .entry))) ⌝ }
+    ensures { λ r. ⌜ r ≡ tested (logFault (now (log .entry))) (readOf (now (log .entry))) (countedOf (now (log .entry))) ⌝ }
 {
     if is_new(log) {
         return new_test(log);
@@ -172,15 +171,32 @@ pub fn logged_place(log: &[u8], read: Read, page: usize) -> Place
     }
 }
 
-// Marks every logged page in a bitmap.
-pub fn mark(log: &[u8], read: Read, map: &mut [u8])
+// How many pages are logged: what the tests have counted, where they have.
+pub fn logged_count(log: &[u8], read: Read, counted: usize) -> usize
+    requires { ⌜ read ≡ readOf (now log) ⌝ }
+    requires { ⌜ counted ≡ countedOf (now log) ⌝ }
+    ensures { λ r. ⌜ r ≡ loggedCount (now (log .entry)) ⌝ }
+{
+    match read {
+        Read::Old => counted,
+        Read::New(chain) => new_log::logged_count(log, chain),
+    }
+}
+
+// Marks every logged page in a bitmap, and tells how many they are.
+pub fn mark(log: &[u8], read: Read, counted: usize, map: &mut [u8]) -> usize
     requires { ⌜ logFault (now log) ≡ Sound ⌝ }
     requires { ⌜ read ≡ readOf (now log) ⌝ }
+    requires { ⌜ counted ≡ countedOf (now log) ⌝ }
     requires { ⌜ pageCount (now log) / 8 ≤ length (now map) ⌝ }
+    ensures { λ r. ⌜ r ≡ loggedCount (now (log .entry)) ⌝ }
     ensures { λ _. ⌜ now (map .exit) ≡ marksOf (now (log .entry)) ++ drop (pageCount (now (log .entry)) / 8) (now (map .entry)) ⌝ }
 {
     match read {
-        Read::Old => old_log::mark(log, map),
+        Read::Old => {
+            old_log::mark(log, map);
+            counted
+        }
         Read::New(chain) => new_log::mark(log, chain, map),
     }
 }

@@ -7,17 +7,19 @@ use mathlib.Core.Path.{_≡_, refl, sym, ap, _∙_}
 use mathlib.Core.Bool.{Bool, true, false, cond}
 use mathlib.Core.List.{List, [], _∷_, _++_}
 use lib.Dec.{eqb}
-use lib.ListN.{length, getD, replicate, length-replicate, getD-replicate, length-append, length-drop}
+use lib.ListN.{length, getD, replicate, length-replicate, getD-replicate, length-append, length-drop, List·getD-append}
 use borrow.Author.Tests.{eqb-true, eqb-false}
+use Rattle.fields.specs.declared.Verdict.the-variants.{Sound}
 use Rattle.bitmap.specs.declared.Next.the-variants.{At, Nothing}
 use Rattle.bitmap.specs.Bits.{bit, isMarked, bitsBefore, nextAmong, nextMarked, mapOf, zeros}
 use Rattle.bitmap.proofs.Laws.{bit-past, marked-inside, next-least, next-none, among-least, among-none, among-at, among-nothing}
 use Rattle.bitmap.proofs.Made.{map-only}
 use Rattle.versions.specs.Versions.{versions, isLogged}
-use Rattle.new_log.specs.Layout.{pageCount, loggedBelow, nextLogged}
+use Rattle.new_log.specs.Layout.{pageCount, loggedBelow, loggedCount, nextLogged, marksOf}
+use Rattle.new_log.specs.Tests.{logFault}
 use Rattle.new_log.specs.Windows.{Windowed, always}
-use Rattle.new_log.proofs.Facts.{logged-below}
-use Rattle.new_log.proofs.Next.{past-pages}
+use Rattle.new_log.proofs.Facts.{bins-sized, logged-below}
+use Rattle.new_log.proofs.Next.{past-pages, marks-length, marks-logged}
 use Rattle.new_log.proofs.Windows.{last-is}
 
 pub zero-bit : (m : List ℕ) (k : ℕ) → getD m (k / 8) 0 ≡ 0 → isMarked m k ≡ false
@@ -39,6 +41,9 @@ pub front-bytes : (a b : List ℕ) → ((i : ℕ) → getD (a ++ b) i 0 < 256) �
 front-bytes [] b f i = omega arith
 front-bytes (x ∷ a) b f zero = f zero
 front-bytes (x ∷ a) b f (suc i) = front-bytes a b (λ k. f (suc k)) i
+
+pub front-bit : (a b : List ℕ) (k : ℕ) → k < 8 * length a → isMarked (a ++ b) k ≡ isMarked a k
+front-bit a b k g = ap (λ (x : ℕ). eqb (x / 2 ^ (k % 8) % 2) 1) (List·getD-append a b 0 (k / 8) (omega arith))
 
 pub one-bit : (m : List ℕ) (k : ℕ) → bit m k ≡ cond (isMarked m k) 1 0
 one-bit m k = by (isMarked m k) refl
@@ -73,6 +78,20 @@ module _ (l : List ℕ) where
     where
       step : (m : ℕ) → pageCount l ≤ m → loggedBelow l m ≡ loggedBelow l (pageCount l) → loggedBelow l (suc m) ≡ loggedBelow l (pageCount l)
       step m g e = let z : _≡_ {A = ℕ} (cond (isLogged l m) 1 0) 0 = ap (λ (t : Bool). cond t 1 0) (past-pages l m g) in omega (arith, e)
+
+  -- a map that starts with the marks has them to count
+  pub marks-counted : logFault l ≡ Sound → (rest : List ℕ) → bitsBefore (marksOf l ++ rest) (pageCount l) ≡ loggedCount l
+  unfolding loggedBelow
+  marks-counted e rest =
+      let m = marksOf l ++ rest in
+      let n = pageCount l in
+      let whole : n ≤ 8 * (n / 8) = omega (arith, bins-sized l e .pages) in
+      let start : n ≡ 0 + n = omega arith in
+      let none : loggedBelow l 0 + bitsBefore m n ≡ bitsBefore m n = omega arith in
+      sym
+      (ap (loggedBelow l) start
+      ∙ window-counts 0 m n (λ k g. front-bit (marksOf l) rest k (omega (arith, marks-length l)) ∙ marks-logged l e k ∙ ap (isLogged l) (let i : k ≡ 0 + k = omega arith in i))
+      ∙ none)
 
 -- ---- a window that was empty, once it is marked
 

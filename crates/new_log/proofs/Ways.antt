@@ -1,23 +1,18 @@
 -- The log's tests, a law for each way out.
 use Prim.Native.Nat.{ℕ, _<_, _≤_}
-use native.Mathlib.Omega.{arith}
 use mathlib.Core.Path.{_≡_, refl, ap, _∙_}
 use mathlib.Core.Bool.{true, false, not}
 use mathlib.Core.List.{List, [], _∷_}
 use lib.ListN.{length}
 use borrow.Author.Tests.{lt-leb, le-leb}
 use Rattle.fields.specs.declared.Fault.the-variants.{LogBase, LogShort}
-use Rattle.fields.specs.declared.Flaw.{Flaw}
-use Rattle.fields.specs.declared.Verdict.{Verdict}
 use Rattle.fields.specs.declared.Verdict.the-variants.{Sound, Flawed}
 use Rattle.fields.specs.Faults.{flaw, nowhere}
 use Rattle.fields.proofs.Firsts.{on, stop, holds, fails}
 use Rattle.base.specs.Block.{sector}
-use Rattle.entries.specs.declared.Chain.{Chain}
 use Rattle.entries.specs.Entries.{Entry, counted, chainOf}
 use Rattle.entries.proofs.Counted.{none-exactly}
-use Rattle.new_log.specs.declared.Head.the-variants as head
-use Rattle.new_log.specs.Tests.{isEmpty, isLogBase, logFault, headed}
+use Rattle.new_log.specs.Tests.{isEmpty, isLogBase, logFault}
 
 module _ (l : List ℕ) where
   pub short : length l < 512 → logFault l ≡ Flawed (flaw LogBase nowhere)
@@ -42,13 +37,3 @@ module _ (l : List ℕ) where
           some : (es : List Entry) → (es ≡ [] → ⊥) → not (isEmpty es) ≡ true
           some [] q = absurd (q refl)
           some (e ∷ es) q = refl
-
--- ---- what the answer says of the tests
-
-pub was-good : (v : Verdict) (c k : Chain) → headed v c ≡ head.Good k → (v ≡ Sound) × (k ≡ c)
-was-good Sound c k e = (refl, let q : k ≡ c = cc in q)
-was-good (Flawed f) c k e = absurd (let z : _≡_ {A = ℕ} 0 1 = cc in omega arith)
-
-pub was-flawed : (v : Verdict) (c : Chain) (f : Flaw) → headed v c ≡ head.Flawed f → v ≡ Flawed f
-was-flawed Sound c f e = absurd (let z : _≡_ {A = ℕ} 0 1 = cc in omega arith)
-was-flawed (Flawed g) c f e = let q : g ≡ f = cc in ap Flawed q

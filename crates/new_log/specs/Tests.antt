@@ -17,8 +17,6 @@ use Rattle.versions.specs.Versions.{versionsOf}
 use Rattle.entries.specs.declared.Chain.{Chain}
 use Rattle.new_log.specs.declared.Head.{Head}
 use Rattle.new_log.specs.declared.Head.the-variants as head
-use Rattle.new_log.specs.declared.Tested.{Tested}
-use Rattle.new_log.specs.declared.Tested.the-variants as of-test
 
 abbrev pub isEmpty : List Entry → Bool
 isEmpty [] = true
@@ -35,14 +33,10 @@ logFault l =
     next unless (isLogBase (sector l)) (flaw LogBase nowhere)
     next unless (not (isEmpty (counted l))) (flaw LogShort nowhere)
 
--- the log's tests give its flaw, or what one pass over its entries finds, and the number of logged pages
+-- the log's tests give its flaw, or what one pass over its entries finds
 abbrev pub headed : Verdict → Chain → Head
 headed verdict.Sound c = head.Good c
 headed (verdict.Flawed f) c = head.Flawed f
-
-abbrev pub tested : Verdict → Chain → ℕ → Tested
-tested verdict.Sound c n = of-test.Logged c n
-tested (verdict.Flawed f) c n = of-test.Flawed f
 
 -- every version bears the stamp s at 20
 unfoldable pub allStamped : ℕ → List (List ℕ) → Bool

@@ -21,18 +21,12 @@ ghost use Rattle.sectors.specs.Closing.{put32, closingSector};
 ghost use Rattle.entries.specs.Entries.{chainOf};
 ghost use Rattle.versions.specs.Versions.{versions as versionsIn, versionsOf, isLogged, loggedPlace, logged};
 ghost use Rattle.new_log.specs.Layout.{logBins, pageCount, loggedBelow, loggedCount, nextLogged, marksOf, allIn, allPut};
-ghost use Rattle.new_log.specs.Tests.{isLogBase, logFault, headed, tested, allStamped, applies as isOf, closingOf};
+ghost use Rattle.new_log.specs.Tests.{isLogBase, logFault, headed, allStamped, applies as isOf, closingOf};
 ghost use Rattle.new_log.specs.Windows.{hasPage, inWindow, Windowed, always, differs};
 
 // ---- its own tests
 
-// What the log's own tests give: what one pass over its entries finds, and how many pages it has.
-pub enum Tested {
-    Logged { chain: Chain, pages: usize },
-    Flawed(Flaw),
-}
-
-// The same without the count.
+// What the log's own tests give: what one pass over its entries finds.
 pub enum Head {
     Good(Chain),
     Flawed(Flaw),
@@ -112,7 +106,8 @@ fn window_count(log: &[u8], chain: Chain, base: usize) -> usize
     bitmap::bits_before(&window, 131072)
 }
 
-fn logged_count(log: &[u8], chain: Chain) -> usize
+// No test needs the count: it is made where it is asked.
+pub fn logged_count(log: &[u8], chain: Chain) -> usize
     requires { ⌜ chain ≡ chainOf (now log) ⌝ }
     ensures { λ r. ⌜ r ≡ loggedCount (now (log .entry)) ⌝ }
 {
@@ -124,19 +119,6 @@ fn logged_count(log: &[u8], chain: Chain) -> usize
         base += 131072;
     }
     count
-}
-
-// 21; 22; and the pages counted.
-pub fn log_test(log: &[u8]) -> Tested
-    ensures { λ r. ⌜ r ≡ tested (logFault (now (log .entry))) (chainOf (now (log .entry))) (loggedCount (now (log .entry))) ⌝ }
-{
-    match read(log) {
-        Head::Flawed(f) => Tested::Flawed(f),
-        Head::Good(chain) => {
-            let pages = logged_count(log, chain);
-            Tested::Logged { chain, pages }
-        }
-    }
 }
 
 // The least logged page among 131,072.
@@ -173,7 +155,7 @@ pub fn next_logged(log: &[u8], chain: Chain, from: usize) -> Next
 }
 
 // Writes the map of the logged pages to the first bytes of a lent one.
-pub fn mark(log: &[u8], chain: Chain, map: &mut [u8])
+fn write_marks(log: &[u8], chain: Chain, map: &mut [u8])
     requires { ⌜ chain ≡ chainOf (now log) ⌝ }
     requires { ⌜ pageCount (now log) / 8 ≤ length (now map) ⌝ }
     ensures { λ _. ⌜ now (map .exit) ≡ marksOf (now (log .entry)) ++ drop (pageCount (now (log .entry)) / 8) (now (map .entry)) ⌝ }
@@ -181,6 +163,18 @@ pub fn mark(log: &[u8], chain: Chain, map: &mut [u8])
     let n = chain.largest / 512 / 8;
     bitmap::clear(map, n);
     mark_window(log, chain, 0, &mut map[0..n]);
+}
+
+// The same, and how many they are: the map that is written has them to count.
+pub fn mark(log: &[u8], chain: Chain, map: &mut [u8]) -> usize
+    requires { ⌜ logFault (now log) ≡ Sound ⌝ }
+    requires { ⌜ chain ≡ chainOf (now log) ⌝ }
+    requires { ⌜ pageCount (now log) / 8 ≤ length (now map) ⌝ }
+    ensures { λ r. ⌜ r ≡ loggedCount (now (log .entry)) ⌝ }
+    ensures { λ _. ⌜ now (map .exit) ≡ marksOf (now (log .entry)) ++ drop (pageCount (now (log .entry)) / 8) (now (map .entry)) ⌝ }
+{
+    write_marks(log, chain, map);
+    bitmap::bits_before(map, chain.largest / 512)
 }
 
 // ---- one page

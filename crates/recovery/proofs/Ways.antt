@@ -18,7 +18,7 @@ use Rattle.base.specs.Block.{sector, clean}
 use Rattle.logs.specs.declared.Head.the-variants as head
 use Rattle.logs.specs.declared.Read.{Read}
 use Rattle.logs.specs.declared.Tested.the-variants as log
-use Rattle.logs.specs.Logs.{headed, logFault, logBins, pageCount, loggedCount, counted, applies}
+use Rattle.logs.specs.Logs.{headed, logFault, logBins, pageCount, loggedCount, tested, applies}
 use Rattle.recovery.specs.declared.Begun.the-variants as ready
 use Rattle.recovery.specs.declared.Started.{Started}
 use Rattle.recovery.specs.declared.Started.the-variants.{Clean, Pages, Refused}
@@ -28,11 +28,11 @@ use Rattle.recovery.specs.Calls.{hiveFault, testFault, started, startAns
 
 -- ---- the log's own tests
 
-pub logged-sound : (v : Verdict) (r x : Read) (n m : ℕ) → counted v r n ≡ log.Logged x m → (v ≡ Sound) × (r ≡ x) × (n ≡ m)
+pub logged-sound : (v : Verdict) (r x : Read) (n m : ℕ) → tested v r n ≡ log.Logged x m → (v ≡ Sound) × (r ≡ x) × (n ≡ m)
 logged-sound Sound r x n m e = (refl, cc, cc)
 logged-sound (Flawed f) r x n m e = absurd (let z : _≡_ {A = ℕ} 0 1 = cc in omega arith)
 
-pub flawed-log : (v : Verdict) (r : Read) (n : ℕ) (f : Flaw) → counted v r n ≡ log.Flawed f → v ≡ Flawed f
+pub flawed-log : (v : Verdict) (r : Read) (n : ℕ) (f : Flaw) → tested v r n ≡ log.Flawed f → v ≡ Flawed f
 flawed-log Sound r n f e = absurd (let z : _≡_ {A = ℕ} 0 1 = cc in omega arith)
 flawed-log (Flawed g) r n f e = cc
 
@@ -46,20 +46,21 @@ flawed-head (Flawed g) r f e = cc
 
 -- ---- what the first tests give to the rest of a call
 
-pub begun-clean : (s : Started) (r : Read) → begunBy s r ≡ ready.Clean → s ≡ Clean
-begun-clean Clean r e = refl
-begun-clean (Pages n) r e = absurd (let z : _≡_ {A = ℕ} 0 1 = cc in omega arith)
-begun-clean (Refused x) r e = absurd (let z : _≡_ {A = ℕ} 0 1 = cc in omega arith)
+module _ (r : Read) (k : ℕ) where
+  pub begun-clean : (s : Started) → begunBy s r k ≡ ready.Clean → s ≡ Clean
+  begun-clean Clean e = refl
+  begun-clean (Pages n) e = absurd (let z : _≡_ {A = ℕ} 0 1 = cc in omega arith)
+  begun-clean (Refused x) e = absurd (let z : _≡_ {A = ℕ} 0 1 = cc in omega arith)
 
-pub begun-ready : (s : Started) (r x : Read) (n : ℕ) → begunBy s r ≡ ready.Ready x n → (s ≡ Pages n) × (x ≡ r)
-begun-ready Clean r x n e = absurd (let z : _≡_ {A = ℕ} 0 1 = cc in omega arith)
-begun-ready (Pages m) r x n e = (cc, cc)
-begun-ready (Refused y) r x n e = absurd (let z : _≡_ {A = ℕ} 0 1 = cc in omega arith)
+  pub begun-ready : (s : Started) (x : Read) (n : ℕ) → begunBy s r k ≡ ready.Ready x n → (m : ℕ) × (s ≡ Pages m) × (x ≡ r) × (n ≡ k)
+  begun-ready Clean x n e = absurd (let z : _≡_ {A = ℕ} 0 1 = cc in omega arith)
+  begun-ready (Pages m) x n e = (m, refl, cc, cc)
+  begun-ready (Refused y) x n e = absurd (let z : _≡_ {A = ℕ} 0 1 = cc in omega arith)
 
-pub begun-refused : (s : Started) (r : Read) (x : Refusal) → begunBy s r ≡ ready.Refused x → s ≡ Refused x
-begun-refused Clean r x e = absurd (let z : _≡_ {A = ℕ} 0 1 = cc in omega arith)
-begun-refused (Pages n) r x e = absurd (let z : _≡_ {A = ℕ} 0 1 = cc in omega arith)
-begun-refused (Refused y) r x e = cc
+  pub begun-refused : (s : Started) (x : Refusal) → begunBy s r k ≡ ready.Refused x → s ≡ Refused x
+  begun-refused Clean x e = absurd (let z : _≡_ {A = ℕ} 0 1 = cc in omega arith)
+  begun-refused (Pages n) x e = absurd (let z : _≡_ {A = ℕ} 0 1 = cc in omega arith)
+  begun-refused (Refused y) x e = cc
 
 -- ---- 24, 25
 

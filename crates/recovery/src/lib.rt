@@ -15,7 +15,7 @@ ghost use lib.ListN.{length};
 ghost use Rattle.fields.specs.declared.Verdict.the-variants.{Sound};
 ghost use Rattle.fields.specs.Faults.{flaw, nowhere, noKey, refusalOf};
 ghost use Rattle.sectors.specs.Sector.{stored, pagePlace};
-ghost use Rattle.logs.specs.Logs.{readOf, headFault, logFault, loggedCount, logged, nextLogged, closingOf};
+ghost use Rattle.logs.specs.Logs.{readOf, headFault, logFault, loggedCount, countedOf, logged, nextLogged, closingOf};
 ghost use Rattle.recovery.specs.Steps.{begunBy};
 ghost use Rattle.recovery.specs.Calls.{hiveFault, testFault, started, startAnswer, installed, closed, changed, pageAnswer, pageHive, closeAnswer, closeHive, nextOf, nextAnswer};
 ghost use Rattle.recovery.specs.AtOnce.{allAnswer, allHive, markOf, markAnswer, markedAnswer, markedMap, factsAnswer};
@@ -65,7 +65,7 @@ pub enum LogFacts {
 // What the tests that every call makes first give to the rest of the call.
 enum Begun {
     Clean,
-    Ready { read: Read, pages: usize },
+    Ready { read: Read, counted: usize },
     Refused(Refusal),
 }
 
@@ -99,20 +99,20 @@ fn hive_flaw(hive: &[u8], log: &[u8], read: Read) -> Verdict
 
 // 21; 22 for the bitmap; 23; 22 for the pages; 24; 25.
 fn log_tests(hive: &[u8], log: &[u8]) -> Begun
-    ensures { λ r. ⌜ r ≡ begunBy (started (testFault (now (hive .entry)) (now (log .entry))) (loggedCount (now (log .entry)))) (readOf (now (log .entry))) ⌝ }
+    ensures { λ r. ⌜ r ≡ begunBy (started (testFault (now (hive .entry)) (now (log .entry))) (loggedCount (now (log .entry)))) (readOf (now (log .entry))) (countedOf (now (log .entry))) ⌝ }
 {
     match logs::log_test(log) {
         Tested::Flawed(f) => Begun::Refused(fields::refused(Offset(fields::NO_KEY), f)),
-        Tested::Logged { read, pages } => match hive_flaw(hive, log, read) {
+        Tested::Logged { read, counted } => match hive_flaw(hive, log, read) {
             Verdict::Flawed(f) => Begun::Refused(fields::refused(Offset(fields::NO_KEY), f)),
-            Verdict::Sound => Begun::Ready { read, pages },
+            Verdict::Sound => Begun::Ready { read, counted },
         },
     }
 }
 
 // The tests that every call makes first. The log is read once.
 fn begin(hive: &[u8], log: &[u8]) -> Begun
-    ensures { λ r. ⌜ r ≡ begunBy (startAnswer (now (hive .entry)) (now (log .entry))) (readOf (now (log .entry))) ⌝ }
+    ensures { λ r. ⌜ r ≡ begunBy (startAnswer (now (hive .entry)) (now (log .entry))) (readOf (now (log .entry))) (countedOf (now (log .entry))) ⌝ }
 {
     if hive.len() < 4096 {
         return Begun::Refused(refuse(Fault::HiveShort));
@@ -123,13 +123,13 @@ fn begin(hive: &[u8], log: &[u8]) -> Begun
     log_tests(hive, log)
 }
 
-// These tests alone.
+// These tests, and the count.
 pub fn start(hive: &[u8], log: &[u8]) -> Started
     ensures { λ r. ⌜ r ≡ startAnswer (now (hive .entry)) (now (log .entry)) ⌝ }
 {
     match begin(hive, log) {
         Begun::Clean => Started::Clean,
-        Begun::Ready { read: _, pages } => Started::Pages(pages),
+        Begun::Ready { read, counted } => Started::Pages(logs::logged_count(log, read, counted)),
         Begun::Refused(r) => Started::Refused(r),
     }
 }
@@ -171,7 +171,7 @@ pub fn page(hive: &mut [u8], log: &[u8], n: usize) -> Stepped
 {
     match begin(hive, log) {
         Begun::Clean => Stepped::Clean,
-        Begun::Ready { read, pages: _ } => install(hive, log, read, n),
+        Begun::Ready { read, counted: _ } => install(hive, log, read, n),
         Begun::Refused(r) => Stepped::Refused(r),
     }
 }
@@ -183,7 +183,7 @@ pub fn close(hive: &mut [u8], log: &[u8]) -> Stepped
 {
     match begin(hive, log) {
         Begun::Clean => Stepped::Clean,
-        Begun::Ready { read, pages: _ } => seal(hive, log, read),
+        Begun::Ready { read, counted: _ } => seal(hive, log, read),
         Begun::Refused(r) => Stepped::Refused(r),
     }
 }
@@ -209,7 +209,7 @@ pub fn next_page(log: &[u8], from: usize) -> NextPage
 {
     match logs::log_test(log) {
         Tested::Flawed(f) => NextPage::Refused(fields::refused(Offset(fields::NO_KEY), f)),
-        Tested::Logged { read, pages: _ } => next_of(log, read, from),
+        Tested::Logged { read, counted: _ } => next_of(log, read, from),
     }
 }
 
@@ -223,7 +223,7 @@ pub fn all_pages(hive: &mut [u8], log: &[u8]) -> Stepped
     match begin(hive, log) {
         Begun::Clean => Stepped::Clean,
         Begun::Refused(r) => Stepped::Refused(r),
-        Begun::Ready { read, pages: _ } => {
+        Begun::Ready { read, counted: _ } => {
             logs::put_all(hive, log, read);
             Stepped::Done
         }
@@ -261,12 +261,11 @@ pub fn mark_pages(log: &[u8], map: &mut [u8]) -> Marked
 {
     match logs::log_test(log) {
         Tested::Flawed(f) => Marked::Refused(fields::refused(Offset(fields::NO_KEY), f)),
-        Tested::Logged { read, pages } => {
+        Tested::Logged { read, counted } => {
             if map.len() < logs::bins_size(log, read) / 4096 {
                 return Marked::Refused(refuse(Fault::MapSmall));
             }
-            logs::mark(log, read, map);
-            Marked::Pages(pages)
+            Marked::Pages(logs::mark(log, read, counted, map))
         }
     }
 }
@@ -277,6 +276,6 @@ pub fn log_facts(log: &[u8]) -> LogFacts
 {
     match logs::log_test(log) {
         Tested::Flawed(f) => LogFacts::Refused(fields::refused(Offset(fields::NO_KEY), f)),
-        Tested::Logged { read, pages: _ } => LogFacts::Of(logs::facts_of(log, read)),
+        Tested::Logged { read, counted: _ } => LogFacts::Of(logs::facts_of(log, read)),
     }
 }

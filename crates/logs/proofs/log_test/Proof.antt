@@ -1,5 +1,5 @@
-use Rattle.logs.proofs.Formats.{old-read, old-fault, old-count, new-read, new-fault, new-count}
-use Rattle.logs.specs.Logs.{isNew, counted}
+use Rattle.logs.proofs.Formats.{old-read, old-fault, old-counted, new-read, new-fault, new-counted}
+use Rattle.logs.specs.Logs.{isNew, tested}
 use mathlib.Core.Bool.{true, false}
 use mathlib.Core.Path.{_≡_, sym, _∙_}
 use borrow.Author.Needs.{needs}
@@ -16,7 +16,7 @@ returns : tie.Need-returns
 returns c =
     let l = c .before .before .before .before .args .log .now in
     let n : isNew l ≡ true = sym (c .before .before .is-new .ensures) ∙ c .before .if1 .taken in
-    c .new-test .ensures ∙ sym (λ t. counted (new-fault l n t) (new-read l n t) (new-count l n t))
+    c .new-test .ensures ∙ sym (λ t. tested (new-fault l n t) (new-read l n t) (new-counted l n t))
 
 old-test-requires : tie.Need-old-test-requires
 old-test-requires c κs = search needs
@@ -25,7 +25,7 @@ returns-2 : tie.Need-returns-2
 returns-2 c =
     let l = c .before .before .before .before .args .log .now in
     let o : isNew l ≡ false = sym (c .before .before .is-new .ensures) ∙ c .before .if1 .left in
-    c .old-test .ensures ∙ sym (λ t. counted (old-fault l o t) (old-read l o t) (old-count l o t))
+    c .old-test .ensures ∙ sym (λ t. tested (old-fault l o t) (old-read l o t) (old-counted l o t))
 
 pub log-test-spec : {M : Type 1} → statement M
 log-test-spec = tie.close (tie.spec is-new-requires new-test-requires returns old-test-requires returns-2)

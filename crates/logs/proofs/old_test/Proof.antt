@@ -9,7 +9,7 @@ use Rattle.old_log.specs.Tests as tests
 use Rattle.logs.specs.declared.Read.the-variants.{Old}
 use Rattle.logs.specs.declared.Tested.{Tested}
 use Rattle.logs.specs.declared.Tested.the-variants.{Logged, Flawed}
-use Rattle.logs.specs.Logs.{counted}
+use Rattle.logs.specs.Logs.{tested}
 use borrow.Author.Needs.{needs}
 use Rattle.logs.proofs.old_test.Statement.{statement}
 use Rattle.logs.proofs.old_test.Tie as tie
@@ -19,7 +19,7 @@ abbrev retold : old.Tested → Tested
 retold (old-log.Logged n) = Logged Old n
 retold (old-log.Flawed f) = Flawed f
 
-same : (v : Verdict) (n : ℕ) → retold (tests.counted v n) ≡ counted v Old n
+same : (v : Verdict) (n : ℕ) → retold (tests.counted v n) ≡ tested v Old n
 same verdict.Sound n = refl
 same (verdict.Flawed f) n = refl
 

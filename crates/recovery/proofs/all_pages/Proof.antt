@@ -3,7 +3,7 @@ use Rattle.recovery.proofs.AtOnce.{all-put}
 use Rattle.recovery.proofs.Ways.{begun-clean, begun-ready, begun-refused}
 use Rattle.recovery.proofs.Within.{good}
 use Rattle.recovery.specs.Calls.{startAnswer}
-use Rattle.logs.specs.Logs.{readOf}
+use Rattle.logs.specs.Logs.{readOf, countedOf}
 use Rattle.recovery.specs.declared.Started.the-variants.{Clean, Pages, Refused}
 use mathlib.Core.Path.{sym, _∙_}
 use borrow.Author.Needs.{needs}
@@ -28,9 +28,9 @@ put-all-requires c κs =
     let h = s .args .hive .now in
     let l = s .args .log .now in
     let g = c .before .before .read .given in
-    let e = begun-ready (startAnswer h l) (readOf l) (g .0 .0) (g .0 .1 .0) (sym (c .before .before .before .before .begin .ensures) ∙ g .1) in
-    let k = good h l (g .0 .1 .0) (e .0) in
-    (k .log, (e .1, k .room))
+    let e = begun-ready (readOf l) (countedOf l) (startAnswer h l) (g .0 .0) (g .0 .1 .0) (sym (c .before .before .before .before .begin .ensures) ∙ g .1) in
+    let k = good h l (e .0) (e .1) in
+    (k .log, (e .2, k .room))
 
 same-length : tie.Need-same-length
 same-length c = search needs
@@ -38,7 +38,7 @@ same-length c = search needs
 returns : tie.Need-returns
 returns c =
     let s = c .before .before .before .before .before .before in
-    let e = begun-clean (startAnswer (s .args .hive .now) (s .args .log .now)) (readOf (s .args .log .now)) (sym (c .before .before .begin .ensures) ∙ c .enum-told .given .1) in
+    let e = begun-clean (readOf (s .args .log .now)) (countedOf (s .args .log .now)) (startAnswer (s .args .hive .now) (s .args .log .now)) (sym (c .before .before .begin .ensures) ∙ c .enum-told .given .1) in
     (sym (all-answer (s .args .hive .now) (s .args .log .now) Clean e), sym (all-hive (s .args .hive .now) (s .args .log .now) Clean e))
 
 same-length-2 : tie.Need-same-length-2
@@ -48,7 +48,7 @@ returns-2 : tie.Need-returns-2
 returns-2 c =
     let s = c .before .before .before .before .before .before .before in
     let g = c .before .r .given in
-    let e = begun-refused (startAnswer (s .args .hive .now) (s .args .log .now)) (readOf (s .args .log .now)) (g .0 .0) (sym (c .before .before .before .begin .ensures) ∙ g .1) in
+    let e = begun-refused (readOf (s .args .log .now)) (countedOf (s .args .log .now)) (startAnswer (s .args .hive .now) (s .args .log .now)) (g .0 .0) (sym (c .before .before .before .begin .ensures) ∙ g .1) in
     (sym (all-answer (s .args .hive .now) (s .args .log .now) (Refused (g .0 .0)) e), sym (all-hive (s .args .hive .now) (s .args .log .now) (Refused (g .0 .0)) e))
 
 same-length-3 : tie.Need-same-length-3
@@ -60,8 +60,8 @@ returns-3 c =
     let h = s .args .hive .now in
     let l = s .args .log .now in
     let g = c .before .before .before .before .before .read .given in
-    let e = begun-ready (startAnswer h l) (readOf l) (g .0 .0) (g .0 .1 .0) (sym (c .before .before .before .before .before .before .before .begin .ensures) ∙ g .1) .0 in
-    (sym (all-answer h l (Pages (g .0 .1 .0)) e), c .before .before .put-all .ensures ∙ all-put h l (g .0 .1 .0) e ∙ sym (all-hive h l (Pages (g .0 .1 .0)) e))
+    let e = begun-ready (readOf l) (countedOf l) (startAnswer h l) (g .0 .0) (g .0 .1 .0) (sym (c .before .before .before .before .before .before .before .begin .ensures) ∙ g .1) in
+    (sym (all-answer h l (Pages (e .0)) (e .1)), c .before .before .put-all .ensures ∙ all-put h l (e .0) (e .1) ∙ sym (all-hive h l (Pages (e .0)) (e .1)))
 
 pub all-pages-spec : {M : Type 1} → statement M
 all-pages-spec =

@@ -2,7 +2,7 @@ use Rattle.recovery.proofs.Ways.{short, is-clean, by-tests}
 use Rattle.recovery.specs.Steps.{begunBy}
 use Rattle.recovery.specs.declared.Begun.the-variants.{Refused}
 use Rattle.recovery.specs.declared.Started.{Started}
-use Rattle.logs.specs.Logs.{readOf}
+use Rattle.logs.specs.Logs.{readOf, countedOf}
 use mathlib.Core.Path.{sym, ap, _∙_}
 use borrow.Author.Needs.{needs}
 use Rattle.recovery.proofs.begin.Statement.{statement}
@@ -12,7 +12,7 @@ refuse-requires : tie.Need-refuse-requires
 refuse-requires c κs = search needs
 
 returns : tie.Need-returns
-returns c = let s = c .before .before .before .before in ap Refused (c .refuse .ensures) ∙ sym (ap (λ (a : Started). begunBy a (readOf (s .args .log .now))) (short (s .args .hive .now) (s .args .log .now) (c .before .if1 .taken)))
+returns c = let s = c .before .before .before .before in ap Refused (c .refuse .ensures) ∙ sym (ap (λ (a : Started). begunBy a (readOf (s .args .log .now)) (countedOf (s .args .log .now))) (short (s .args .hive .now) (s .args .log .now) (c .before .if1 .taken)))
 
 sub-clean : tie.Need-sub-clean
 sub-clean c = search needs
@@ -28,7 +28,7 @@ clean-requires c κs = search needs
 
 returns-2 : tie.Need-returns-2
 returns-2 c = let s = c .before .before .before .before .before .before in
-    sym (ap (λ (a : Started). begunBy a (readOf (s .args .log .now))) (is-clean (s .args .hive .now) (s .args .log .now) (c .before .before .before .if1 .left) (sym (c .before .clean .ensures) ∙ c .if2 .taken)))
+    sym (ap (λ (a : Started). begunBy a (readOf (s .args .log .now)) (countedOf (s .args .log .now))) (is-clean (s .args .hive .now) (s .args .log .now) (c .before .before .before .if1 .left) (sym (c .before .clean .ensures) ∙ c .if2 .taken)))
 
 log-tests-requires : tie.Need-log-tests-requires
 log-tests-requires c κs = search needs
@@ -36,7 +36,7 @@ log-tests-requires c κs = search needs
 returns-3 : tie.Need-returns-3
 returns-3 c = let s = c .before .before .before .before .before .before .before in
     c .log-tests .ensures
-    ∙ sym (ap (λ (a : Started). begunBy a (readOf (s .args .log .now))) (by-tests (s .args .hive .now) (s .args .log .now) (c .before .before .before .before .if1 .left) (sym (c .before .before .clean .ensures) ∙ c .before .if2 .left)))
+    ∙ sym (ap (λ (a : Started). begunBy a (readOf (s .args .log .now)) (countedOf (s .args .log .now))) (by-tests (s .args .hive .now) (s .args .log .now) (c .before .before .before .before .if1 .left) (sym (c .before .before .clean .ensures) ∙ c .before .if2 .left)))
 
 pub begin-spec : {M : Type 1} → statement M
 begin-spec =

@@ -2,7 +2,7 @@ use Rattle.recovery.proofs.Ways.{logged-sound, flawed-log, bad-log, by-
 use Rattle.recovery.specs.Calls.{testFault, started}
 use Rattle.recovery.specs.Steps.{begunBy}
 use Rattle.recovery.specs.declared.Begun.the-variants.{Ready, Refused}
-use Rattle.logs.specs.Logs.{readOf, logFault, loggedCount}
+use Rattle.logs.specs.Logs.{readOf, logFault, loggedCount, countedOf}
 use Rattle.logs.specs.declared.Read.{Read}
 use Rattle.fields.specs.declared.Verdict.{Verdict}
 use Rattle.fields.specs.declared.Verdict.the-variants.{Sound}
@@ -15,11 +15,11 @@ use Rattle.recovery.proofs.log_tests.Tie as tie
 
 -- what the log's own tests gave
 log-said : (c : tie.After-known-told2) → let l = c .before .before .before .before .before .before .args .log .now in
-    (logFault l ≡ Sound) × (readOf l ≡ c .before .read .given .0 .0) × (loggedCount l ≡ c .before .read .given .0 .1 .0)
+    (logFault l ≡ Sound) × (readOf l ≡ c .before .read .given .0 .0) × (countedOf l ≡ c .before .read .given .0 .1 .0)
 log-said c =
     let l = c .before .before .before .before .before .before .args .log .now in
     let g = c .before .read .given in
-    logged-sound (logFault l) (readOf l) (g .0 .0) (loggedCount l) (g .0 .1 .0) (sym (c .before .before .before .log-test .ensures) ∙ g .1)
+    logged-sound (logFault l) (readOf l) (g .0 .0) (countedOf l) (g .0 .1 .0) (sym (c .before .before .before .log-test .ensures) ∙ g .1)
 
 log-test-requires : tie.Need-log-test-requires
 log-test-requires c κs = search needs
@@ -49,8 +49,8 @@ returns : tie.Need-returns
 returns c =
     let s = c .before .before .before .before .before .before .before in
     let l = s .args .log .now in
-    let e = flawed-log (logFault l) (readOf l) (loggedCount l) (c .before .before .f .given .0 .0) (sym (c .before .before .before .before .log-test .ensures) ∙ c .before .before .f .given .1) in
-    ap Refused (c .refused .ensures) ∙ sym (ap (λ (v : Verdict). begunBy (started v (loggedCount l)) (readOf l)) (bad-log (s .args .hive .now) l e))
+    let e = flawed-log (logFault l) (readOf l) (countedOf l) (c .before .before .f .given .0 .0) (sym (c .before .before .before .before .log-test .ensures) ∙ c .before .before .f .given .1) in
+    ap Refused (c .refused .ensures) ∙ sym (ap (λ (v : Verdict). begunBy (started v (loggedCount l)) (readOf l) (countedOf l)) (bad-log (s .args .hive .now) l e))
 
 returns-2 : tie.Need-returns-2
 returns-2 c =
@@ -58,7 +58,7 @@ returns-2 c =
     let l = s .args .log .now in
     let e = log-said (c .before .before .before .before .before) .0 in
     ap Refused (c .refused2 .ensures)
-    ∙ sym (ap (λ (v : Verdict). begunBy (started v (loggedCount l)) (readOf l)) (by-hive (s .args .hive .now) l e ∙ sym (c .before .before .before .before .hive-flaw .ensures) ∙ c .before .before .f2 .given .1))
+    ∙ sym (ap (λ (v : Verdict). begunBy (started v (loggedCount l)) (readOf l) (countedOf l)) (by-hive (s .args .hive .now) l e ∙ sym (c .before .before .before .before .hive-flaw .ensures) ∙ c .before .before .f2 .given .1))
 
 returns-3 : tie.Need-returns-3
 returns-3 c =
@@ -66,7 +66,7 @@ returns-3 c =
     let l = s .args .log .now in
     let e = log-said (c .before .before .before) in
     sym (ap₂ Ready (e .1) (e .2))
-    ∙ sym (ap (λ (v : Verdict). begunBy (started v (loggedCount l)) (readOf l)) (by-hive (s .args .hive .now) l (e .0) ∙ sym (c .before .before .hive-flaw .ensures) ∙ c .enum-told .given .1))
+    ∙ sym (ap (λ (v : Verdict). begunBy (started v (loggedCount l)) (readOf l) (countedOf l)) (by-hive (s .args .hive .now) l (e .0) ∙ sym (c .before .before .hive-flaw .ensures) ∙ c .enum-told .given .1))
 
 pub log-tests-spec : {M : Type 1} → statement M
 log-tests-spec =

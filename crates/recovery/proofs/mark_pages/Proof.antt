@@ -1,7 +1,7 @@
 use Rattle.recovery.proofs.Ways.{logged-sound, flawed-log, unmarked, map-small, map-fits}
 use Rattle.recovery.specs.AtOnce.{markedBy, markedAnswer, whereMarked, markedMap}
 use Rattle.recovery.specs.declared.Marked.the-variants.{Pages, Refused}
-use Rattle.logs.specs.Logs.{readOf, logFault, pageCount, loggedCount, marksOf}
+use Rattle.logs.specs.Logs.{readOf, logFault, pageCount, loggedCount, countedOf, marksOf}
 use Rattle.fields.specs.declared.Verdict.{Verdict}
 use Rattle.fields.specs.declared.Verdict.the-variants.{Sound}
 use native.Mathlib.Omega.{arith}
@@ -15,11 +15,11 @@ use Rattle.recovery.proofs.mark_pages.Tie as tie
 
 -- what the log's own tests gave
 log-said : (c : tie.After-known-told2) → let l = c .before .before .before .before .before .before .args .log .now in
-    (logFault l ≡ Sound) × (readOf l ≡ c .before .read .given .0 .0) × (loggedCount l ≡ c .before .read .given .0 .1 .0)
+    (logFault l ≡ Sound) × (readOf l ≡ c .before .read .given .0 .0) × (countedOf l ≡ c .before .read .given .0 .1 .0)
 log-said c =
     let l = c .before .before .before .before .before .before .args .log .now in
     let g = c .before .read .given in
-    logged-sound (logFault l) (readOf l) (g .0 .0) (loggedCount l) (g .0 .1 .0) (sym (c .before .before .before .log-test .ensures) ∙ g .1)
+    logged-sound (logFault l) (readOf l) (g .0 .0) (countedOf l) (g .0 .1 .0) (sym (c .before .before .before .log-test .ensures) ∙ g .1)
 
 log-test-requires : tie.Need-log-test-requires
 log-test-requires c κs = search needs
@@ -53,7 +53,7 @@ returns c =
 mark-requires : tie.Need-mark-requires
 mark-requires c κs =
     let e = log-said (c .before .before .before) in
-    (e .0, (sym (e .1), omega (arith, c .before .if1 .left, c .before .before .bins-size .ensures .0)))
+    (e .0, (sym (e .1), (sym (e .2), omega (arith, c .before .if1 .left, c .before .before .bins-size .ensures .0))))
 
 returns-2 : tie.Need-returns-2
 unfolding markedAnswer markedMap
@@ -62,7 +62,7 @@ returns-2 c =
     let l = s .args .log .now in
     let m = s .args .map .now in
     let g = c .before .before .f .given in
-    let e = unmarked l (length m) (flawed-log (logFault l) (readOf l) (loggedCount l) (g .0 .0) (sym (c .before .before .before .before .log-test .ensures) ∙ g .1)) in (
+    let e = unmarked l (length m) (flawed-log (logFault l) (readOf l) (countedOf l) (g .0 .0) (sym (c .before .before .before .before .log-test .ensures) ∙ g .1)) in (
       ap Refused (c .refused .ensures) ∙ sym (ap (λ (v : Verdict). markedBy v (loggedCount l)) e),
       sym (ap (λ (v : Verdict). whereMarked (markedBy v (loggedCount l)) (marksOf l ++ drop (pageCount l / 8) m) m) e),
     )
@@ -77,9 +77,10 @@ returns-3 c =
     let l = s .args .log .now in
     let m = s .args .map .now in
     let said = log-said (c .before .before .before .before .before .before) in
-    let e = map-fits l (length m) (said .0) (omega (arith, c .before .before .before .before .if1 .left, c .before .before .before .before .before .bins-size .ensures .0)) in (
-      sym (ap Pages (said .2)) ∙ sym (ap (λ (v : Verdict). markedBy v (loggedCount l)) e),
-      c .before .before .mark .ensures ∙ sym (ap (λ (v : Verdict). whereMarked (markedBy v (loggedCount l)) (marksOf l ++ drop (pageCount l / 8) m) m) e),
+    let e = map-fits l (length m) (said .0) (omega (arith, c .before .before .before .before .if1 .left, c .before .before .before .before .before .bins-size .ensures .0)) in
+    let r = c .before .before .mark .ensures in (
+      ap Pages (r .0) ∙ sym (ap (λ (v : Verdict). markedBy v (loggedCount l)) e),
+      r .1 ∙ sym (ap (λ (v : Verdict). whereMarked (markedBy v (loggedCount l)) (marksOf l ++ drop (pageCount l / 8) m) m) e),
     )
 
 pub mark-pages-spec : {M : Type 1} → statement M

@@ -1,7 +1,7 @@
 use Rattle.recovery.proofs.Ways.{logged-sound, flawed-log}
 use Rattle.recovery.specs.Calls.{nextOf, nextTested, nextAnswer}
 use Rattle.recovery.specs.declared.NextPage.the-variants.{Refused}
-use Rattle.logs.specs.Logs.{readOf, logFault, loggedCount, nextLogged}
+use Rattle.logs.specs.Logs.{readOf, logFault, countedOf, nextLogged}
 use Rattle.fields.specs.declared.Verdict.{Verdict}
 use mathlib.Core.Path.{sym, ap, _∙_}
 use borrow.Author.Needs.{needs}
@@ -24,7 +24,7 @@ next-of-requires : tie.Need-next-of-requires
 next-of-requires c κs =
     let l = c .before .before .before .before .before .args .log .now in
     let g = c .before .read .given in
-    let e = logged-sound (logFault l) (readOf l) (g .0 .0) (loggedCount l) (g .0 .1 .0) (sym (c .before .before .before .log-test .ensures) ∙ g .1) in
+    let e = logged-sound (logFault l) (readOf l) (g .0 .0) (countedOf l) (g .0 .1 .0) (sym (c .before .before .before .log-test .ensures) ∙ g .1) in
     (e .0, sym (e .1))
 
 returns : tie.Need-returns
@@ -33,7 +33,7 @@ returns c =
     let s = c .before .before .before .before .before .before in
     let l = s .args .log .now in
     let g = c .before .before .f .given in
-    let e = flawed-log (logFault l) (readOf l) (loggedCount l) (g .0 .0) (sym (c .before .before .before .before .log-test .ensures) ∙ g .1) in
+    let e = flawed-log (logFault l) (readOf l) (countedOf l) (g .0 .0) (sym (c .before .before .before .before .log-test .ensures) ∙ g .1) in
     ap Refused (c .refused .ensures) ∙ sym (ap (λ (v : Verdict). nextTested v (nextOf l (nextLogged l (s .args .from)))) e)
 
 returns-2 : tie.Need-returns-2
@@ -42,7 +42,7 @@ returns-2 c =
     let s = c .before .before .before .before .before .before in
     let l = s .args .log .now in
     let g = c .before .before .read .given in
-    let e = logged-sound (logFault l) (readOf l) (g .0 .0) (loggedCount l) (g .0 .1 .0) (sym (c .before .before .before .before .log-test .ensures) ∙ g .1) .0 in
+    let e = logged-sound (logFault l) (readOf l) (g .0 .0) (countedOf l) (g .0 .1 .0) (sym (c .before .before .before .before .log-test .ensures) ∙ g .1) .0 in
     c .next-of .ensures ∙ sym (ap (λ (v : Verdict). nextTested v (nextOf l (nextLogged l (s .args .from)))) e)
 
 pub next-page-spec : {M : Type 1} → statement M

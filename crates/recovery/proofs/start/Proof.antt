@@ -1,7 +1,8 @@
-use Rattle.recovery.proofs.Ways.{begun-clean, begun-ready, begun-refused}
+use Rattle.recovery.proofs.Ways.{begun, begun-clean, begun-ready, begun-refused}
 use Rattle.recovery.specs.Calls.{startAnswer}
-use Rattle.logs.specs.Logs.{readOf}
-use mathlib.Core.Path.{sym, _∙_}
+use Rattle.recovery.specs.declared.Started.the-variants.{Pages}
+use Rattle.logs.specs.Logs.{readOf, countedOf}
+use mathlib.Core.Path.{sym, ap, _∙_}
 use borrow.Author.Needs.{needs}
 use Rattle.recovery.proofs.start.Statement.{statement}
 use Rattle.recovery.proofs.start.Tie as tie
@@ -12,8 +13,16 @@ begin-requires c κs = search needs
 enum-told : tie.Need-enum-told
 enum-told c = search needs
 
-enum-known-pages : tie.Need-enum-known-pages
-enum-known-pages c = search needs
+enum-known-read : tie.Need-enum-known-read
+enum-known-read c = search needs
+
+logged-count-requires : tie.Need-logged-count-requires
+logged-count-requires c κs =
+    let s = c .before .before .before .before .before .before in
+    let l = s .args .log .now in
+    let g = c .before .read .given in
+    let e = begun-ready (readOf l) (countedOf l) (startAnswer (s .args .hive .now) l) (g .0 .0) (g .0 .1 .0) (sym (c .before .before .before .begin .ensures) ∙ g .1) in
+    (e .2, e .3)
 
 enum-known-r : tie.Need-enum-known-r
 enum-known-r c = search needs
@@ -22,21 +31,23 @@ returns : tie.Need-returns
 returns c =
     let s = c .before .before .before .before .before in
     let l = s .args .log .now in
-    sym (begun-clean (startAnswer (s .args .hive .now) l) (readOf l) (sym (c .before .before .begin .ensures) ∙ c .enum-told .given .1))
+    sym (begun-clean (readOf l) (countedOf l) (startAnswer (s .args .hive .now) l) (sym (c .before .before .begin .ensures) ∙ c .enum-told .given .1))
 
 returns-2 : tie.Need-returns-2
 returns-2 c =
-    let s = c .before .before .before .before .before .before in
+    let s = c .before .before .before .before .before .before .before in
+    let h = s .args .hive .now in
     let l = s .args .log .now in
-    let g = c .before .pages .given in
-    sym (begun-ready (startAnswer (s .args .hive .now) l) (readOf l) (g .0 .0) (g .0 .1 .0) (sym (c .before .before .before .begin .ensures) ∙ g .1) .0)
+    let g = c .before .before .read .given in
+    let e = begun-ready (readOf l) (countedOf l) (startAnswer h l) (g .0 .0) (g .0 .1 .0) (sym (c .before .before .before .before .begin .ensures) ∙ g .1) in
+    ap Pages (c .logged-count .ensures ∙ begun h l (e .0) (e .1) .count) ∙ sym (e .1)
 
 returns-3 : tie.Need-returns-3
 returns-3 c =
     let s = c .before .before .before .before .before .before in
     let l = s .args .log .now in
     let g = c .before .r .given in
-    sym (begun-refused (startAnswer (s .args .hive .now) l) (readOf l) (g .0 .0) (sym (c .before .before .before .begin .ensures) ∙ g .1))
+    sym (begun-refused (readOf l) (countedOf l) (startAnswer (s .args .hive .now) l) (g .0 .0) (sym (c .before .before .before .begin .ensures) ∙ g .1))
 
 pub start-spec : {M : Type 1} → statement M
-start-spec = tie.close (tie.spec begin-requires enum-told enum-known-pages enum-known-r returns returns-2 returns-3)
+start-spec = tie.close (tie.spec begin-requires enum-told enum-known-read logged-count-requires enum-known-r returns returns-2 returns-3)
