@@ -71,6 +71,11 @@ module _ (s : List ℕ) (type : ℕ) where
   pub usable-sized : usable s type ≡ true → Sized (binsOf s)
   usable-sized e = sized (binsOf s) (usable-facts e .3)
 
+-- and what a clean one is
+pub facts-clean : (s : List ℕ) → isRegf s ≡ true → isSummed s ≡ true → isVersion s 0 ≡ true → isBinsSize (binsOf s) ≡ true → isSettled s ≡ true → clean s ≡ true
+unfolding clean
+facts-clean s p q r t e = and-both (facts-usable s 0 p q r t) e
+
 -- a hive that passes the tests 1 to 7
 pub record Base (h : List ℕ) : Type 0 where
   pub is-clean : clean (sector h) ≡ true

@@ -13,3 +13,4 @@ pub mod Free
 pub mod Gaps
 pub mod Mapped
 pub mod Refusals
+pub mod Written

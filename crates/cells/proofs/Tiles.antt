@@ -45,17 +45,17 @@ used-or-free : (b : Bool) (n : ℕ) → cond b n 0 + cond b 0 n ≡ n
 used-or-free true n = omega arith
 used-or-free false n = omega arith
 
-used-append : (xs ys : List Size) → usedBytes (xs ++ ys) ≡ usedBytes xs + usedBytes ys
+pub used-append : (xs ys : List Size) → usedBytes (xs ++ ys) ≡ usedBytes xs + usedBytes ys
 unfolding usedBytes
 used-append [] ys = omega arith
 used-append (z ∷ xs) ys = let e = used-append xs ys in omega arith
 
-free-append : (xs ys : List Size) → freeBytes (xs ++ ys) ≡ freeBytes xs + freeBytes ys
+pub free-append : (xs ys : List Size) → freeBytes (xs ++ ys) ≡ freeBytes xs + freeBytes ys
 unfolding freeBytes
 free-append [] ys = omega arith
 free-append (z ∷ xs) ys = let e = free-append xs ys in omega arith
 
-counts-same : {n u f n′ u′ f′ : ℕ} → n ≡ n′ → u ≡ u′ → f ≡ f′
+pub counts-same : {n u f n′ u′ f′ : ℕ} → n ≡ n′ → u ≡ u′ → f ≡ f′
     → _≡_ {A = Tally} (record { bins = n; used = u; free = f }) (record { bins = n′; used = u′; free = f′ })
 counts-same p q r = rw (p, q, r)
 
@@ -164,7 +164,7 @@ module _ (d : List ℕ) where
           (ih lt h u' f' (rw (bins-step d at lt (eqb-false n 0 g), s) at e))
 
   -- bins that tile are counted, and so are all their cells
-  survey-sums : {at : ℕ} (b : BinsTile d at) (c u f : ℕ)
+  pub survey-sums : {at : ℕ} (b : BinsTile d at) (c u f : ℕ)
       → surveyOf (layout d at) c u f ≡ Tiled (record { bins = c + binCount b; used = u + usedBytes (cellsIn b); free = f + freeBytes (cellsIn b) })
   unfolding surveyOf addRow cellsIn binCount usedBytes freeBytes
   survey-sums {at} (bins-end e) c u f = rw (bins-done d at (omega arith)) (ap Tiled (counts-same (omega arith) (omega arith) (omega arith)))

@@ -18,7 +18,7 @@ minus-one : (n : ℕ) → negsuc 0 -ℤ pos n ≡ negsuc n
 minus-one zero = refl
 minus-one (suc n) = ap (λ (k : ℕ). negsuc (suc k)) (omega arith)
 
-toZ-high : (v : ℕ) → 2 ^ 31 ≤ v → toZ w32 v ≡ negsuc (2 ^ 32 - suc v)
+pub toZ-high : (v : ℕ) → 2 ^ 31 ≤ v → toZ w32 v ≡ negsuc (2 ^ 32 - suc v)
 toZ-high v h = simp (le-ltb v (2 ^ 31) h)
 
 -- the code's -1 - (0xffff_ffff - v)

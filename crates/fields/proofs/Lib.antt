@@ -7,3 +7,4 @@ pub mod Little
 pub mod Loops
 pub mod Numbers
 pub mod Same_bytes
+pub mod Written

@@ -5,7 +5,7 @@ use mathlib.Core.Path.{_≡_, refl, sym, ap, ap₂, _∙_}
 use mathlib.Core.List.{List, [], _∷_, _++_, append-assoc}
 use lib.ListN.{length, getD, take, drop, set, length-append, length-take, length-drop}
 use lib.Seq.{sets, getD-append-add, getD-take, getD-drop, drop-drop, take-add}
-use Rattle.fields.specs.Number.{u16At, u32At, le16, le32}
+use Rattle.fields.specs.Number.{u16At, u32At, le16, le32, le64}
 
 pub length-le16 : (n : ℕ) → length (le16 n) ≡ 2
 unfolding le16
@@ -17,6 +17,14 @@ length-le32 n =
     let a = length-append (le16 (n % 65536)) (le16 (n / 65536)) in
     let b = length-le16 (n % 65536) in
     let c = length-le16 (n / 65536) in
+    omega arith
+
+pub length-le64 : (n : ℕ) → length (le64 n) ≡ 8
+unfolding le64
+length-le64 n =
+    let a = length-append (le32 (n % 0x1_0000_0000)) (le32 (n / 0x1_0000_0000)) in
+    let b = length-le32 (n % 0x1_0000_0000) in
+    let c = length-le32 (n / 0x1_0000_0000) in
     omega arith
 
 -- bytes that are set one part after the other

@@ -17,12 +17,15 @@ u32At s i = u16At s i + u16At s (i + 2) * 65536
 unfoldable pub u64At : List ℕ → ℕ → ℕ
 u64At s i = u32At s i + u32At s (i + 4) * 0x1_0000_0000
 
--- the bytes of a number, which `u16At` and `u32At` read back
+-- the bytes of a number, which `u16At`, `u32At` and `u64At` read back
 unfoldable pub le16 : ℕ → List ℕ
 le16 n = n % 256 ∷ n / 256 % 256 ∷ []
 
 unfoldable pub le32 : ℕ → List ℕ
 le32 n = le16 (n % 65536) ++ le16 (n / 65536)
+
+unfoldable pub le64 : ℕ → List ℕ
+le64 n = le32 (n % 0x1_0000_0000) ++ le32 (n / 0x1_0000_0000)
 
 -- "A cell starts with a signed 32-bit size, negative when in use; the absolute value is [its size]"
 -- `pos n` is n, and `negsuc n` is -(n + 1)

@@ -13,9 +13,10 @@ use Rattle.fields.specs.declared.Verdict.the-variants.{Sound}
 use Rattle.fields.specs.Bytes.{sameBytes, standsAt}
 use Rattle.fields.proofs.Firsts.{sound, holds}
 use Rattle.fields.proofs.Bools.{and-inv, and-both}
+use Rattle.fields.proofs.Written.{same-refl}
 use Rattle.base.specs.Block.{sector, typeOf, usable}
 use Rattle.sectors.specs.Sector.{page}
-use Rattle.sectors.proofs.Logged.{same-true, same-refl}
+use Rattle.sectors.proofs.Logged.{same-true}
 use Rattle.old_log.specs.Layout.{dirt, isLogged, loggedCount, pagesAt, logged}
 use Rattle.old_log.specs.Tests.{isLogType, isLogBase, pagesFit, headFault, logFault, stampOf, binStamp, zeroAgrees, stampsAgree}
 use Rattle.old_log.specs.Accepted.{Good, Stamped}

@@ -1,43 +1,28 @@
 -- The closing sector is a clean base block, and its fields but the type and the checksum are the log's.
-use Prim.Native.Nat.{ℕ, zero, suc, _+_, _*_, _^_, _≤_, _<_}
+use Prim.Native.Nat.{ℕ, _+_, _*_, _≤_}
 use native.Mathlib.Omega.{arith}
-use mathlib.Core.Path.{_≡_, refl, sym, ap, ap₂, _∙_}
+use mathlib.Core.Path.{_≡_, sym, ap, ap₂, _∙_}
 use mathlib.Core.Logic.{_⊎_, inl, inr}
 use mathlib.Core.Bool.{true, _&&_}
 use mathlib.Core.List.{List, [], _∷_}
-use lib.Bits.{bitXor, xor-lt}
 use lib.Dec.{eqb, leb, lit<}
 use lib.ListN.{length}
 use borrow.Author.Tests.{eq-eqb}
 use Rattle.fields.specs.Number.{u32At}
 use Rattle.fields.specs.Bytes.{sameBytes, standsAt}
 use Rattle.fields.proofs.Bools.{and-inv, and-both}
-use Rattle.base.specs.Block.{isRegf, xors, asStored, storedChecksum, isSummed, minorOf, typeOf, isVersion, binsOf, isBinsSize, usable, isSettled, clean}
-use Rattle.base.proofs.Laws.{asStored-lt, usable-facts, facts-usable}
+use Rattle.base.specs.Block.{isRegf, storedChecksum, isSummed, minorOf, typeOf, isVersion, binsOf, isBinsSize, usable, isSettled, clean}
+use Rattle.base.proofs.Laws.{usable-facts, facts-clean}
+use Rattle.base.proofs.Sums.{checksum-below, checksum-same}
 use Rattle.sectors.specs.Sector.{Bytes}
 use Rattle.sectors.specs.Closing.{put32, asHive, closingSector}
-use Rattle.sectors.proofs.Words.{u32-lt, put-length, put-take, u32-other, u32-same, put-bytes}
+use Rattle.sectors.proofs.Words.{put-length, put-take, u32-other, u32-same, put-bytes}
 
 -- ---- the checksum
 
-xors-lt : (s : List ℕ) → Bytes s → (n : ℕ) → xors s n < 2 ^ 32
-unfolding xors
-xors-lt s h zero = lit< tt
-xors-lt s h (suc n) = xor-lt 32 (xors s n) (u32At s (n * 4)) (xors-lt s h n) (u32-lt s h (n * 4))
-
-pub checksum-lt : (s : List ℕ) → Bytes s → storedChecksum s < 4294967296
-unfolding storedChecksum
-checksum-lt s h = asStored-lt (xors s 127) (xors-lt s h 127)
-
 -- the field at 508 is no part of it
-xors-put : (s : List ℕ) (v n : ℕ) → n ≤ 127 → xors (put32 s 508 v) n ≡ xors s n
-unfolding xors
-xors-put s v zero h = refl
-xors-put s v (suc n) h = ap₂ bitXor (xors-put s v n (omega arith)) (u32-other s 508 v (n * 4) (inl (omega arith)))
-
 checksum-put : (s : List ℕ) (v : ℕ) → storedChecksum (put32 s 508 v) ≡ storedChecksum s
-unfolding storedChecksum
-checksum-put s v = ap asStored (xors-put s v 127 (omega arith))
+checksum-put s v = checksum-same (put32 s 508 v) s (λ k h. u32-other s 508 v (k * 4) (inl (omega arith)))
 
 -- ---- the closing sector
 
@@ -65,7 +50,7 @@ module _ (s : List ℕ) (n : length s ≡ 512) (h : Bytes s) where
   unfolding closingSector
   closing-summed =
       eq-eqb _ _
-      (u32-same (asHive s) 508 (storedChecksum (asHive s)) (checksum-lt (asHive s) (put-bytes s 28 0 h)) (omega (arith, put-length s 28 0))
+      (u32-same (asHive s) 508 (storedChecksum (asHive s)) (checksum-below (asHive s) (put-bytes s 28 0 h)) (omega (arith, put-length s 28 0))
       ∙ sym (checksum-put (asHive s) (storedChecksum (asHive s))))
 
   closing-version : (type : ℕ) → isVersion s type ≡ true → isVersion (closingSector s) 0 ≡ true
@@ -87,14 +72,11 @@ module _ (s : List ℕ) (n : length s ≡ 512) (h : Bytes s) where
 
   -- the closing sector of a block whose other fields are good, whatever its checksum
   pub closed-clean : (type : ℕ) → isRegf s ≡ true → isVersion s type ≡ true → isBinsSize (binsOf s) ≡ true → isSettled s ≡ true → clean (closingSector s) ≡ true
-  unfolding clean
   closed-clean type regf version bins e =
       let first : u32At (closingSector s) 4 ≡ u32At s 4 = closing-u32 4 (inl (omega arith)) (omega arith) in
       let second : u32At (closingSector s) 8 ≡ u32At s 8 = closing-u32 8 (inl (omega arith)) (omega arith) in
-      and-both
-      (facts-usable (closingSector s) 0 (closing-regf ∙ regf) closing-summed (closing-version type version)
-      (ap isBinsSize (closing-u32 40 (inr (omega arith)) (omega arith)) ∙ bins))
-      (ap₂ eqb first second ∙ e)
+      facts-clean (closingSector s) (closing-regf ∙ regf) closing-summed (closing-version type version)
+      (ap isBinsSize (closing-u32 40 (inr (omega arith)) (omega arith)) ∙ bins) (ap₂ eqb first second ∙ e)
 
   -- the closing sector of a usable log's base block with equal sequence numbers
   pub closing-clean : (type : ℕ) → usable s type ≡ true → isSettled s ≡ true → clean (closingSector s) ≡ true

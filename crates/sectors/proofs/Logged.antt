@@ -7,9 +7,10 @@ use mathlib.Core.Path.{_≡_, refl, sym, ap, ap₂, _∙_}
 use mathlib.Core.Bool.{Bool, true, false, not, _&&_, _||_, false≢true}
 use mathlib.Core.List.{List, [], _∷_}
 use lib.Dec.{eqb}
-use borrow.Author.Tests.{eqb-true, eq-eqb}
+use borrow.Author.Tests.{eqb-true}
 use Rattle.fields.specs.Bytes.{sameBytes}
 use Rattle.fields.proofs.Bools.{and-inv, and-both}
+use Rattle.fields.proofs.Written.{same-refl}
 use Rattle.sectors.specs.Sector.{page}
 use Rattle.sectors.specs.Logged.{isIn, inBelow}
 
@@ -19,11 +20,6 @@ same-true [] [] e = refl
 same-true [] (y ∷ b) e = absurd (false≢true e)
 same-true (x ∷ a) [] e = absurd (false≢true e)
 same-true (x ∷ a) (y ∷ b) e = let i = and-inv (eqb x y) (sameBytes a b) e in ap₂ _∷_ (eqb-true x y (i .0)) (same-true a b (i .1))
-
-pub same-refl : (a : List ℕ) → sameBytes a a ≡ true
-unfolding sameBytes
-same-refl [] = refl
-same-refl (x ∷ a) = and-both (eq-eqb x x refl) (same-refl a)
 
 module _ (is : ℕ → Bool) (bytes : ℕ → List ℕ) (h : List ℕ) where
   pub not-logged : (p : ℕ) → is p ≡ false → isIn is bytes h p ≡ true

@@ -1,5 +1,5 @@
 -- 32-bit numbers put into a list of bytes, and read again.
-use Prim.Native.Nat.{ℕ, zero, suc, _+_, _*_, _/_, _%_, _^_, _≤_, _<_}
+use Prim.Native.Nat.{ℕ, zero, suc, _+_, _*_, _/_, _%_, _≤_, _<_}
 use native.Mathlib.Nat.{div-div-eq-div-mul, div-add-mod', mod-eq-of-lt}
 use native.Mathlib.Omega.{arith}
 use mathlib.Core.Path.{_≡_, sym, ap, _∙_}
@@ -19,9 +19,6 @@ fourAt s i = getD s i 0 + getD s (i + 1) 0 * 256 + getD s (i + 2) 0 * 65536 + ge
 pub u32-four : (s : List ℕ) (i : ℕ) → u32At s i ≡ fourAt s i
 unfolding u32At u16At
 u32-four s i = let e : i + 2 + 1 ≡ i + 3 = omega arith in omega (arith, ap (λ (k : ℕ). getD s k 0) e)
-
-pub u32-lt : (s : List ℕ) → Bytes s → (i : ℕ) → u32At s i < 2 ^ 32
-u32-lt s h i = omega (arith, u32-four s i, h i, h (i + 1), h (i + 2), h (i + 3))
 
 -- ---- lists of bytes
 
