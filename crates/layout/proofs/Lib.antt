@@ -1,0 +1,10 @@
+pub mod Bytes
+pub mod Sizes
+pub mod Splits
+pub mod Places
+pub mod Rows
+pub mod Base
+pub mod Built
+pub mod Surveys
+pub mod Bounds
+pub mod Figures
