@@ -1,0 +1,13 @@
+pub mod Bytes
+pub mod Names
+pub mod Sizes
+pub mod Keys
+pub mod Values
+pub mod Lists
+pub mod Leaves
+pub mod Items
+pub mod Data
+pub mod Held
+pub mod Held_data
+pub mod Held_lists
+pub mod Placed
