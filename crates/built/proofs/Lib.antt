@@ -1,0 +1,6 @@
+pub mod Values
+pub mod Keys
+pub mod Exports
+pub mod Stands
+pub mod Counts
+pub mod Accepted
