@@ -46,7 +46,7 @@ use Rattle.built.proofs.Counts.{Counts, root-counted, all-named}
 root-stands : {d : List ℕ} {S n : ℕ} (f : Forest) {parent : ℕ} → countOf f ≡ 1 → Laid d S n f 32 parent → TreeStands d builtAs n (record { 0 = 32 })
 unfolding countOf childrenAt
 root-stands none e l = absurd (omega arith)
-root-stands (more s x vs b r) e l = 
+root-stands (more s x vs b r) e l =
     trees-stand l (omega arith) (record { at = record { 0 = 32 }; hashed = true; hinted = false; beside = hashOf x }) (List·Memᴰ·head refl)
 
 -- what a hive is in its bins data, with its minor version and its root

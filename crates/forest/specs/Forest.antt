@@ -1,4 +1,4 @@
--- A stream of frames as data: "the frames are one balanced root key", each key with its values and then its subkeys.
+-- A stream of frames as data: "one balanced root key", each key with its values and then its subkeys.
 use Prim.Native.Nat.{ℕ, suc, _+_, _*_}
 use mathlib.Core.List.{List, [], _∷_, _++_}
 use lib.ListN.{length}

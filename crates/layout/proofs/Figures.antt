@@ -1,4 +1,4 @@
--- "Two keys, one value, an empty descriptor" (docs/LAYOUT.md), byte by byte: what the definitions make of them is what that page prints.
+-- The example of docs/LAYOUT.md, two keys, one value, an empty descriptor, byte by byte: what the definitions make of them is what that page prints.
 use Prim.Native.Nat.{ℕ, _-_}
 use mathlib.Core.Path.{_≡_, refl}
 use mathlib.Core.List.{List, [], _∷_}
@@ -51,7 +51,7 @@ bins-bytes : take 308 (binsOf two []) ≡ twoBins
 unfolding binsOf binHeader rowBytes cellBytes cellsOf keyRecord keyFixed keyFlags flagOf longestKey longestName longestData larger ifAny leafCells elements listCells valueOffsets valuesCells valueCells valueRecord dataCells dataField itemRecord keyCount freeBytes hashOf mixedAll mixed uppers upper wide binsFor sizeOf cellSize valuesSize valueSize dataSize listSize leafSize countOf stored isNarrow segmentsFor zeros le64 le32 le16
 bins-bytes = refl
 
--- "used 272 free 3792"
+-- used 272, free 3792
 used-and-free : (usedOf two 0 - 32) ∷ (binsFor two 0 - usedOf two 0) ∷ [] ≡ 272 ∷ 3792 ∷ []
 unfolding binsFor sizeOf cellSize valuesSize valueSize dataSize listSize leafSize countOf stored isNarrow segmentsFor
 used-and-free = refl

@@ -44,7 +44,7 @@ parts-joined (suc n) x h =
     let l = length-drop segmentSize x in
     ap (λ (w : List ℕ). take segmentSize x ++ w) (parts-joined n (drop segmentSize x) (omega arith)) ∙ take-append-drop segmentSize x
 
--- "16,344 bytes each, [..] and the rest in the last"
+-- 16,344 bytes each, and the rest in the last
 parts-lengths : (n : ℕ) (x : List ℕ) → n * segmentSize ≤ length x → length x ≤ suc n * segmentSize
     → lengths (partsN (suc n) x) ≡ replicate n segmentSize ++ ((length x - n * segmentSize) ∷ [])
 unfolding partsN lengths

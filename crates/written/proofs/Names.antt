@@ -1,4 +1,4 @@
--- A name as it is stored, read back: "stored one byte per character exactly when every code is below 256 [..]; else in UTF-16LE".
+-- A name as it is stored, read back: one byte per character exactly when every code is below 256, else in UTF-16LE.
 use Prim.Native.Nat.{ℕ, _+_, _*_, _%_, _<_, _≤_}
 use native.Mathlib.Omega.{arith}
 use mathlib.Core.Path.{_≡_, refl, ap, ap₂, _∙_}

@@ -232,7 +232,7 @@ module _ (v : Item) (at k : ℕ) where
   pub value-name-bytes : take Len (drop 20 Cell) ≡ stored (v .name)
   value-name-bytes = ap (λ (r : List ℕ). take Len (drop 20 r)) is-fixed ∙ ap (take Len) (fixed-rest _ _ _ _ _ _ four) ∙ take-at (stored (v .name)) (zeros k) _ refl
 
-  -- "the bytes themselves"
+  -- up to 4 bytes of data are the bytes themselves
   pub value-inline : length (v .bytes) ≤ 4 → take (length (v .bytes)) (drop 8 Cell) ≡ v .bytes
   value-inline h =
       ap (λ (r : List ℕ). take (length (v .bytes)) (drop 8 r)) (is-fixed ∙ ap Front (four-short (v .bytes) (nextAt v at) h))

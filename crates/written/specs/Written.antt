@@ -21,11 +21,11 @@ unfoldable pub itemsAt : List Item → ℕ → List Offset
 itemsAt [] at = []
 itemsAt (v ∷ vs) at = record { 0 = at } ∷ itemsAt vs (at + valueSize v)
 
--- "`lh` leaf: "lh", the count, and for each subkey its offset and the hash of its name": the data of its cell
+-- `lh` leaf: "lh", the count, and for each subkey its offset and the hash of its name; the data of its cell
 abbrev pub leafRecord : Forest → ℕ → List ℕ
 leafRecord f at = 108 ∷ 104 ∷ (le16 (countOf f) ++ elements f at)
 
--- the subkeys of a key, as its leaf lists them: "for each subkey its offset and the hash of its name"
+-- the subkeys of a key, as its leaf lists them: for each its offset and the hash of its name
 unfoldable pub childrenAt : Forest → ℕ → List Child
 childrenAt none at = []
 childrenAt (more s x vs b r) at =
@@ -35,8 +35,8 @@ childrenAt (more s x vs b r) at =
 abbrev pub nextAt : Item → ℕ → ℕ
 nextAt v at = at + cellSize (20 + length (stored (v .name)))
 
--- "data of up to 4 bytes, none too: [..] the bytes themselves [..]. Longer data: their length, and the offset of the next cell"; "Data of 5 to 16,344 bytes
--- are one cell. Longer ones are a `db` cell [..], the segment list [..], and the segments"
+-- data of up to 4 bytes, none too, are in the record itself; those of 5 to 16,344 bytes are one cell, and longer ones a `db` cell, the segment list and the
+-- segments, from the next cell on
 unfoldable pub contentAt : List ℕ → ℕ → Offset → ValueData
 contentAt x next o =
     cond (leb (length x) 4)
@@ -50,7 +50,7 @@ segmentsAt at = at + cellSize 8
 abbrev pub firstAt : List ℕ → ℕ → ℕ
 firstAt x at = segmentsAt at + cellSize (4 * segmentsFor (length x))
 
--- "a `db` cell ("db", the number of segments, the offset of the next cell: 8 bytes [..])": its data
+-- a `db` cell ("db", the number of segments, the offset of the next cell: 8 bytes), its data
 abbrev pub dbRecord : List ℕ → ℕ → List ℕ
 dbRecord x at = 100 ∷ 98 ∷ (le16 (segmentsFor (length x)) ++ le32 (segmentsAt at))
 
