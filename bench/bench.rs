@@ -1,4 +1,5 @@
 // bench ROW SIDE FOLDER: runs one row of docs/BENCHMARKS.md once. bench times FOLDER [ROW..]: best of 20 of each row. bench make FOLDER: writes the hives.
+mod build;
 mod check;
 mod make;
 mod namesakes;
@@ -7,7 +8,8 @@ mod quick;
 mod security;
 mod export;
 mod walk;
-use check::{Flaw, Idiom, Plain, Report, Style};
+use build::Names;
+use check::{Flaw, Idiom, Plain, Report};
 use std::fs::{read, write};
 use std::hint::black_box;
 use std::time::Instant;
@@ -63,6 +65,12 @@ struct HiveExport {
     bytes: u64,
 }
 #[repr(C)]
+struct HiveBuilt {
+    answer: HiveAnswer,
+    at: u64,
+    length: u64,
+}
+#[repr(C)]
 struct HiveRows {
     answer: HiveAnswer,
     state: u64,
@@ -85,6 +93,7 @@ unsafe extern "C" {
     fn hive_walk_step(h: *const u8, n: usize, l: *mut u32, k: usize, depth: usize) -> HiveWalk;
     fn hive_export_begin(h: *const u8, n: usize, m: *mut u8, j: usize, l: *mut u32, k: usize) -> HiveExport;
     fn hive_export_run(h: *const u8, n: usize, l: *mut u32, k: usize, depth: usize, due: usize, o: *mut u8, m: usize) -> HiveExport;
+    fn hive_build(s: *const u8, n: usize, d: *const u8, k: usize, o: *mut u8, m: usize) -> HiveBuilt;
     fn hive_remnants(h: *const u8, n: usize, from: usize, r: *mut u32, k: usize) -> HiveRows;
     fn hive_recover_page(h: *mut u8, n: usize, l: *const u8, k: usize, page: usize) -> HiveRecovery;
     fn hive_recover_close(h: *mut u8, n: usize, l: *const u8, k: usize) -> HiveRecovery;
@@ -117,6 +126,7 @@ enum Kind {
     Copy,
     Walk,
     Export,
+    Build,
     Deleted,
     Repair,
     Sample,
@@ -182,6 +192,10 @@ fn rattle(i: &mut Input) -> Outcome {
                 }
                 Outcome::Walk(answer(e.answer, (frames, bytes)))
             }
+            Kind::Build => {
+                let b = hive_build(h, n, l, k, i.out.as_mut_ptr(), i.out.len());
+                Outcome::Copy(if b.answer.number == 0 { Ok(b.length as usize) } else { Err(Flaw(b.answer.number, b.at as u32)) })
+            }
             Kind::Walk => {
                 let (mut count, mut sum) = (0, 0usize);
                 let (l, k) = (i.rows.as_mut_ptr(), i.rows.len());
@@ -230,7 +244,7 @@ fn rattle(i: &mut Input) -> Outcome {
     }
 }
 
-fn rust<S: Style>(i: &mut Input) -> Outcome {
+fn rust<S: Names>(i: &mut Input) -> Outcome {
     match i.kind {
         Kind::Check => Outcome::Check(check::check::<S>(&i.hive, &mut i.out)),
         Kind::Find => Outcome::Find(check::find::<S>(&i.hive, &i.path)),
@@ -241,6 +255,7 @@ fn rust<S: Style>(i: &mut Input) -> Outcome {
             let (out, map) = i.out.split_at_mut(EXPORT_ROOM);
             Outcome::Walk(export::all::<S>(&i.hive, map, &mut i.rows, out))
         }
+        Kind::Build => Outcome::Copy(build::build::<S>(&i.hive, &i.log, &mut i.out)),
         Kind::Deleted => Outcome::Deleted(check::remnants::<S>(&i.hive, &mut i.rows)),
         Kind::Repair => {
             let (mut done, mut at) = (0, check::next::<S>(&i.log, 0));
@@ -290,10 +305,10 @@ fn measured(side: &str, i: &mut Input) -> Outcome {
 // A run's buffer, before the check's map.
 const EXPORT_ROOM: usize = 2 << 20;
 
-const ROWS: [&str; 40] = [
+const ROWS: [&str; 43] = [
     "check-1", "check-4", "check-16", "check-64", "check-1024", "check-wide", "check-items", "check-values", "check-hints", "last-100", "absent-100", "last-5000", "absent-5000", "last-60000", "absent-60000",
     "quick-last-100", "quick-absent-100", "quick-last-5000", "quick-absent-5000", "quick-last-60000", "quick-absent-60000",
-    "copy", "walk-1", "walk-64", "walk-wide", "export-1", "export-64", "export-wide", "deleted-1", "deleted-64", "clean-64", "repair-1000", "repair-1000-of-131072", "repair-100000", "all-1000", "all-1000-of-131072", "all-100000",
+    "copy", "walk-1", "walk-64", "walk-wide", "export-1", "export-64", "export-wide", "build-1", "build-64", "build-wide", "deleted-1", "deleted-64", "clean-64", "repair-1000", "repair-1000-of-131072", "repair-100000", "all-1000", "all-1000-of-131072", "all-100000",
     "new-1000", "new-60000", "hash-30M",
 ];
 
@@ -310,6 +325,8 @@ fn input(row: &str, folder: &str) -> Input {
         Some(("walk", n)) => (Kind::Walk, format!("mixed-{n}")),
         Some(("export", "wide")) => (Kind::Export, "wide-60000".into()),
         Some(("export", n)) => (Kind::Export, format!("mixed-{n}")),
+        Some(("build", "wide")) => (Kind::Build, "wide-60000.frames".into()),
+        Some(("build", n)) => (Kind::Build, format!("mixed-{n}.frames")),
         Some(("deleted", n)) => (Kind::Deleted, format!("left-{n}")),
         Some(("clean", n)) => (Kind::Deleted, format!("zeros-{n}")),
         Some(("repair", n)) => (Kind::Repair, format!("torn-{n}")),
@@ -326,7 +343,7 @@ fn input(row: &str, folder: &str) -> Input {
         Some(("absent", _)) => "component999999".into(),
         _ => String::new(),
     };
-    let out = vec![0; if kind == Kind::Check { hive.len() / 64 } else if kind == Kind::Export { EXPORT_ROOM + hive.len() / 64 } else if kind == Kind::New || kind == Kind::All { hive.len() / 4096 } else { 1_048_576 }];
+    let out = vec![0; if kind == Kind::Check { hive.len() / 64 } else if kind == Kind::Export { EXPORT_ROOM + hive.len() / 64 } else if kind == Kind::Build { 3 * hive.len() + 8192 } else if kind == Kind::New || kind == Kind::All { hive.len() / 4096 } else { 1_048_576 }];
     let rows = vec![0; if kind == Kind::Deleted { hive.len() / 24 * 4 } else if kind == Kind::Walk || kind == Kind::Export { 1539 } else { 0 }];
     Input { kind, hive, log, path: path.encode_utf16().collect(), out, rows }
 }
@@ -357,12 +374,23 @@ fn times(folder: &str, rows: &[&str]) {
     }
 }
 
+// The export of a hive, in one run.
+fn frames(hive: &[u8]) -> Vec<u8> {
+    let mut out = vec![0; 2 * hive.len()];
+    let (_, bytes) = export::all::<Idiom>(hive, &mut vec![0; hive.len() / 64], &mut vec![0; 1539], &mut out).unwrap();
+    out.truncate(bytes);
+    out
+}
+
 fn make_all(folder: &str) {
     for n in [1, 4, 16, 64, 1024] {
         write(format!("{folder}/mixed-{n}"), make::mixed(n << 20)).unwrap();
     }
     for n in [100, 5000, 60000] {
         write(format!("{folder}/wide-{n}"), make::wide(n, 1, false)).unwrap();
+    }
+    for name in ["mixed-1", "mixed-64", "wide-60000"] {
+        write(format!("{folder}/{name}.frames"), frames(&read(format!("{folder}/{name}")).unwrap())).unwrap();
     }
     write(format!("{folder}/items-20000"), make::wide(19_999, 20_000, false)).unwrap();
     write(format!("{folder}/values-30000"), make::values(30_000)).unwrap();

@@ -39,6 +39,16 @@ static const Reason REASONS[] = {
     [HIVE_FAULT_NOT_IN] = {false, false, "a logged page is not in the hive yet", "A program asked to close the repair too early; this tool installs all pages first."},
     [HIVE_FAULT_SECURITY] = {true, false, "the security items of the keys do not fit together", "At the place is the root, whose own item is none; or an item that has no room for its descriptor, whose forward link leads to no item that links back, or whose count is not the number of keys that name it; or a key whose item is not on the ring that starts at the root's. Windows does not load such a hive; its keys and values can be read here."},
     [HIVE_FAULT_NAMESAKE] = {true, false, "a key has two values of one name", "At the place is the second of them: its name is that of a value earlier in the key's list, with a to z, and the accented letters of Western Europe, as capitals. Who asks for that name gets the first and never the second; hive value --nth 2 reads it."},
+    [HIVE_FAULT_NO_FRAME] = {false, false, "a frame is not laid out as one", "A frame is a head of 6 bytes and a payload that is all there, of kind 16, 17 or 18: a key of at least 8 bytes and an even number, a value of at least 8 that has room for the name that it states, of an even number of bytes, or a closing of none. The stream was cut off, or it is no stream of frames."},
+    [HIVE_FAULT_VALUE_LATE] = {false, false, "a value comes after a subkey of its key", "All values of a key stand before its first subkey."},
+    [HIVE_FAULT_UNBALANCED] = {false, false, "the stream is not one root key that opens and closes", "A value or a closing stands outside of any key, a frame follows the root's closing, or the stream ends while a key is open, or has no frame."},
+    [HIVE_FAULT_UNSORTED] = {false, false, "a subkey's name is not above that of the subkey before it", "Subkeys stand in the order of their names with a to z, and the accented letters of Western Europe, as capitals, none twice. At the place is the later of the two."},
+    [HIVE_FAULT_REPEATED] = {false, false, "a value has the name of one before it in its key", "Names are compared with a to z, and the accented letters of Western Europe, as capitals. At the place is the later of the two."},
+    [HIVE_FAULT_NAME_SIZE] = {false, false, "a name is not possible", "A key's name has 1 to 255 characters and no backslash, a value's at most 16383 characters."},
+    [HIVE_FAULT_DATA_SIZE] = {false, false, "a value has more than 1048576 bytes of data", "No hive holds more in one value."},
+    [HIVE_FAULT_DEPTH] = {false, false, "a key of the stream lies deeper than level 512", "The root is level 0 and level 512 is the last."},
+    [HIVE_FAULT_SUBKEYS] = {false, false, "a key has more than 65535 subkeys", "At the place is subkey 65536. One list holds all subkeys of a key that is built, and its count has 16 bits."},
+    [HIVE_FAULT_HIVE_SIZE] = {false, false, "the hive would be longer than a hive can be", "Its bins data would have more than 2147479552 bytes. No frame is at fault."},
 };
 enum { REASON_COUNT = sizeof REASONS / sizeof REASONS[0] };
 
@@ -48,13 +58,19 @@ static const Reason *reason_of(uint32_t number)
     return number < REASON_COUNT && REASONS[number].what != NULL ? &REASONS[number] : &unknown;
 }
 
+/* Whether a frame of a stream is at fault. */
+static bool of_frame(uint32_t number)
+{
+    return number >= HIVE_FAULT_NO_FRAME && number < HIVE_FAULT_HIVE_SIZE;
+}
+
 int explain_verb(const Order *o)
 {
     char *end;
     long n = strtol(o->words[0], &end, 10);
     if (*o->words[0] == 0 || *end != 0 || n < 1 || n >= REASON_COUNT)
         return misused("explain wants a number from 1 to %d, not \"%s\"", REASON_COUNT - 1, o->words[0]);
-    printf("%ld: %s. %s\n", n, REASONS[n].what, REASONS[n].advice);
+    printf("%ld: %s. %s%s\n", n, REASONS[n].what, REASONS[n].advice, of_frame((uint32_t)n) ? " The place is a byte of the stream: where that frame starts, or the stream ends." : "");
     return GOOD;
 }
 
@@ -75,10 +91,10 @@ static void put_words(FILE *to, const Hive *h, HiveAnswer a, const Path *path)
         fprintf(to, " (see: hive explain %u)", a.number);
 }
 
-static void say_where(const char *label, bool there, uint32_t offset)
+static void say_where(const char *label, bool there, uint64_t at)
 {
     if (there)
-        say_number(label, offset);
+        say_number(label, at);
     else
         printf(",\"%s\":null", label);
 }
@@ -104,6 +120,45 @@ int refusal(const Hive *h, HiveAnswer a, const Path *path)
     say_end();
     if (!say_json())
         note(reason_of(a.number)->of_log ? h->log : h->file, words);
+    free(words);
+    return REFUSED;
+}
+
+/* The words of a stream that no hive is built of, and where its frame at fault starts; `spotted`: it has one. */
+static void put_spot(FILE *to, Bytes frames, HiveBuilt b, bool spotted)
+{
+    fputs(reason_of(b.answer.number)->what, to);
+    if (spotted)
+        fprintf(to, ", at byte %llu (0x%llx) of the stream", (unsigned long long)b.at, (unsigned long long)b.at);
+    if (spotted && b.at == frames.length)
+        fputs(", its end", to);
+    if (!say_json())
+        fprintf(to, " (see: hive explain %u)", b.answer.number);
+}
+
+/* As a refusal is told. A byte of a stream is neither an offset nor a byte of a hive, so an object has it under a name of its own. */
+int unbuilt(const char *file, Bytes frames, HiveBuilt b)
+{
+    char *words = NULL;
+    size_t length;
+    FILE *to = open_memstream(&words, &length);
+    bool spotted = of_frame(b.answer.number);
+    if (to == NULL)
+        return trouble(file, "no memory");
+    put_spot(to, frames, b, spotted);
+    fclose(to);
+    say(file, "refused");
+    say_bare("number", b.answer.number);
+    if (say_json()) {
+        say_where("place", false, 0);
+        say_where("key", false, 0);
+        say_where("byte", spotted, b.at);
+        say_word("words", words);
+    } else
+        say_number("at", b.at);
+    say_end();
+    if (!say_json())
+        note(file, words);
     free(words);
     return REFUSED;
 }

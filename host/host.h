@@ -35,7 +35,7 @@ enum Style { VALUE_NAME, KEY_NAME };
 typedef struct {
     char **words;
     int count;
-    const char *logs[2], *backup, *prefix;
+    const char *logs[2], *backup, *prefix, *descriptor;
     int log_count;
     size_t nth; /* 0: none was given */
     bool json, wide, dry, anyway, grow, utf8;
@@ -62,7 +62,7 @@ typedef int Verb(const Order *);
 int read_order(int count, char **words, Order *out, Verb **verb);
 
 /* The verbs. */
-Verb check_verb, key_verb, list_verb, keys_verb, value_verb, export_verb, reg_verb, deleted_verb, repair_verb, explain_verb;
+Verb check_verb, key_verb, list_verb, keys_verb, value_verb, export_verb, build_verb, reg_verb, deleted_verb, repair_verb, explain_verb;
 
 /* say.c: answers on standard output, as a line or as a JSON object; messages on standard error. Those that answer an int answer TROUBLE. */
 void say_as(bool json, bool many);
@@ -105,6 +105,7 @@ const char *stamp_text(uint64_t stamp, char *room);
 
 /* explain.c. path is what was asked for, or NULL. */
 int refusal(const Hive *h, HiveAnswer a, const Path *path);
+int unbuilt(const char *file, Bytes frames, HiveBuilt b);
 int check(const char *file, Bytes hive, HiveReport *out);
 int report(const Hive *h, HiveReport r);
 

@@ -1,4 +1,4 @@
-/* hive: checks, reads and repairs a registry hive. */
+/* hive: checks, reads, repairs and builds a registry hive. */
 #include <string.h>
 
 #include "host.h"
@@ -77,7 +77,7 @@ static int answer(int count, char **words)
     Order o;
     Verb *verb;
     if (count == 0)
-        return misused("a verb is wanted: check, key, ls, keys, value, export, reg, deleted, repair or explain");
+        return misused("a verb is wanted: check, key, ls, keys, value, export, build, reg, deleted, repair or explain");
     if (wants_help(words[0])) {
         fputs(HELP, stdout);
         return GOOD;

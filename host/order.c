@@ -5,7 +5,7 @@
 
 #include "host.h"
 
-enum { LOG = 1, JSON = 2, WIDE = 4, NTH = 8, DRY_RUN = 16, BACKUP = 32, ANYWAY = 64, GROW = 128, PREFIX = 256, UTF8 = 512, NO_END = 1 << 30 };
+enum { LOG = 1, JSON = 2, WIDE = 4, NTH = 8, DRY_RUN = 16, BACKUP = 32, ANYWAY = 64, GROW = 128, PREFIX = 256, UTF8 = 512, DESCRIPTOR = 1024, NO_END = 1 << 30 };
 
 static const struct {
     const char *name, *wants;
@@ -19,6 +19,7 @@ static const struct {
     {"keys", "FILE [PATH]", 1, 2, LOG | GROW | JSON, keys_verb},
     {"value", "FILE PATH NAME [OUT]", 3, 4, LOG | GROW | JSON | NTH, value_verb},
     {"export", "FILE [OUT]", 1, 2, LOG | GROW | JSON, export_verb},
+    {"build", "FRAMES OUT", 2, 2, DESCRIPTOR | JSON, build_verb},
     {"reg", "FILE [PATH]", 1, 2, LOG | GROW | PREFIX | UTF8, reg_verb},
     {"deleted", "FILE", 1, 1, LOG | GROW | JSON, deleted_verb},
     {"repair", "FILE LOG [LOG2]", 2, 3, GROW | JSON | DRY_RUN | BACKUP | ANYWAY, repair_verb},
@@ -33,7 +34,7 @@ static const struct {
 } OPTIONS[] = {
     {"--log", "a LOG", LOG}, {"--json", NULL, JSON}, {"-l", NULL, WIDE}, {"--nth", "a number", NTH},
     {"--dry-run", NULL, DRY_RUN}, {"--backup", "a COPY", BACKUP}, {"--anyway", NULL, ANYWAY}, {"--grow", NULL, GROW},
-    {"--prefix", "a KEY", PREFIX}, {"--utf8", NULL, UTF8},
+    {"--prefix", "a KEY", PREFIX}, {"--utf8", NULL, UTF8}, {"--descriptor", "a FILE", DESCRIPTOR},
 };
 enum { OPTION_COUNT = sizeof OPTIONS / sizeof OPTIONS[0] };
 
@@ -68,6 +69,8 @@ static int take(Order *o, unsigned bit, const char *word)
         o->backup = word;
     if (bit == PREFIX)
         o->prefix = word;
+    if (bit == DESCRIPTOR)
+        o->descriptor = word;
     return bit == NTH ? take_number(word, &o->nth) : bit == LOG ? take_log(word, o) : GOOD;
 }
 
@@ -95,7 +98,7 @@ int read_order(int count, char **words, Order *o, Verb **verb)
     while (v < VERB_COUNT && strcmp(words[0], VERBS[v].name) != 0)
         v++;
     if (v == VERB_COUNT)
-        return misused("\"%s\" is none of check, key, ls, keys, value, export, reg, deleted, repair and explain", words[0]);
+        return misused("\"%s\" is none of check, key, ls, keys, value, export, build, reg, deleted, repair and explain", words[0]);
     *o = (Order){.words = words};
     for (int i = 1; i < count && status == GOOD; i++) {
         if (options && strcmp(words[i], "--") == 0)

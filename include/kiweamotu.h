@@ -1,4 +1,4 @@
-/* The C face of Kiweamotu: checks, reads and repairs Windows registry hives (regf files).
+/* The C face of Kiweamotu: checks, reads, repairs and builds Windows registry hives (regf files).
  *
  * Every function here is proved, for every input: what it answers, each byte that it changes, that it reads and writes
  * nothing outside the buffers lent to it, and that it ends. The promise of a function stands above it in words. The exact
@@ -18,7 +18,8 @@
  * the offset of the last key whose record was accepted, HIVE_NO_KEY before there is one: of a child's bad cell or record it
  * is the key that lists it, of 13 to 15 the place, of 17 the deepest key that was found, of 18 to 20 and 29 the key of the
  * value, of 28 the root, or the place where that is a key. In all calls of the repair, and where a value is asked by its offset,
- * it is HIVE_NO_KEY.
+ * it is HIVE_NO_KEY. In both calls that build a hive place is 0 and the key is HIVE_NO_KEY: what 30 to 38 name is a byte of the
+ * stream, and stands in `at` of a HiveBuilt.
  */
 #ifndef KIWEAMOTU_H
 #define KIWEAMOTU_H
@@ -69,6 +70,16 @@ enum HiveFault {
     HIVE_FAULT_NOT_IN = 27, /* closing, but a logged page is not in yet */
     HIVE_FAULT_SECURITY = 28, /* security items: the root's offset, an item's room, link or count, a key off the ring */
     HIVE_FAULT_NAMESAKE = 29, /* a value with the name of one before it in its key */
+    HIVE_FAULT_NO_FRAME = 30, /* a frame that is not laid out as one */
+    HIVE_FAULT_VALUE_LATE = 31, /* a value after a subkey */
+    HIVE_FAULT_UNBALANCED = 32, /* not one balanced root key */
+    HIVE_FAULT_UNSORTED = 33, /* a subkey's name not above its elder sibling's */
+    HIVE_FAULT_REPEATED = 34, /* a value with an earlier namesake in its key */
+    HIVE_FAULT_NAME_SIZE = 35, /* a name of no characters, of too many, or with a backslash */
+    HIVE_FAULT_DATA_SIZE = 36, /* data over 1,048,576 bytes */
+    HIVE_FAULT_DEPTH = 37, /* a key at level 513 */
+    HIVE_FAULT_SUBKEYS = 38, /* subkey 65,536 of a key */
+    HIVE_FAULT_HIVE_SIZE = 39, /* bins size over the limit */
 };
 
 /* The states: of an answer that goes on or ends, of a walk, of an export, and of a step of the repair. */
@@ -103,7 +114,8 @@ enum {
 /* Part of every answer. number: 0, or the refusal's number. place: the refusal's place. key: the refusal's key, else
  * HIVE_NO_KEY. value: the offset of the key or value that hive_find_key, hive_quick_key, hive_nth_subkey, hive_nth_value,
  * hive_key_at or hive_next_remnant found, or of the key that hive_walk_begin or hive_walk_step opens or closes, else 0.
- * Where number is not 0, every other field of the answer but place, key, a walk's depth and an export's depth and due is 0.
+ * Where number is not 0, every other field of the answer but place, key, a walk's depth, an export's depth and due and a
+ * HiveBuilt's at is 0.
  */
 typedef struct {
     uint32_t number;
@@ -254,6 +266,20 @@ HIVE_ASSERT(offsetof(HiveExport, due) == 32);
 HIVE_ASSERT(offsetof(HiveExport, frames) == 40);
 HIVE_ASSERT(offsetof(HiveExport, bytes) == 48);
 HIVE_ASSERT(sizeof(HiveExport) == 56);
+
+/* What a stream makes. at: for 30 to 38 where in the stream the frame at fault starts; its end where a key stays open; else 0. It
+ * is a position in the stream, of 64 bits, and neither an offset nor a place in a hive. length: how many bytes the hive has, 4096
+ * and its bins size; 0 where number is not 0.
+ */
+typedef struct {
+    HiveAnswer answer;
+    uint64_t at;
+    uint64_t length;
+} HiveBuilt;
+HIVE_ASSERT(offsetof(HiveBuilt, answer) == 0);
+HIVE_ASSERT(offsetof(HiveBuilt, at) == 16);
+HIVE_ASSERT(offsetof(HiveBuilt, length) == 24);
+HIVE_ASSERT(sizeof(HiveBuilt) == 32);
 
 /* A key or value record that deletion left in a free cell. state: HIVE_REFUSED, HIVE_NO_MORE or HIVE_THERE; then answer.value is
  * its offset, that of the size field of the cell that it once had: the record starts 4 bytes further on. kind: HIVE_OLD_KEY or
@@ -479,6 +505,26 @@ HiveExport hive_export_begin(const uint8_t *hive, size_t hive_len, uint8_t *map,
  * the words.
  */
 HiveExport hive_export_run(const uint8_t *hive, size_t hive_len, uint32_t *levels, size_t levels_len, size_t depth, size_t due, uint8_t *out, size_t out_len);
+
+/* How long the hive is that hive_build would make of a stream and a descriptor of so many bytes: what hive_build answers with room
+ * enough. Lend so many bytes. Refuses 30 to 39, as hive_build does. Nothing is written.
+ */
+HiveBuilt hive_build_size(const uint8_t *stream, size_t stream_len, size_t descriptor_len);
+
+/* Makes a hive of version 1.5 from a stream of frames, as an export writes them (docs/FRAMES.md), and one security descriptor,
+ * which all keys share. Every byte of it is laid down in docs/LAYOUT.md; nothing depends on a clock. With number 0 the first
+ * `length` bytes of out are the hive, and those behind them stay: hive_check accepts it, and its export is the stream again, byte
+ * for byte. The descriptor is not judged and may be empty.
+ *
+ * Refuses frame by frame, and of one frame the lowest number: 30, no frame is laid out there; 31, a value after a subkey; 32,
+ * outside of the one root key, or the stream ends while a key is open or has no frame; 33, a subkey's name that is not above that
+ * of the subkey before it (with a to z, 0xE0 to 0xFE except 0xF7, and 0xFF as capitals); 34, a value with the name of one before
+ * it in its key, compared in the same way; 35, a key's name of no characters, of more than 255 or with a backslash, or a value's of
+ * more than 16,383; 36, data of more than 1,048,576 bytes; 37, a key at level 513, the root being 0; 38, subkey 65,536 of a key.
+ * After all frames: 39, the bins size would be over 2,147,479,552; then 20, the hive is longer than out. A refusal leaves out as it
+ * was.
+ */
+HiveBuilt hive_build(const uint8_t *stream, size_t stream_len, const uint8_t *descriptor, size_t descriptor_len, uint8_t *out, size_t out_len);
 
 /* The first record that deletion left in a free cell, at or past an offset in the bins data: at a multiple of 8 inside the cell
  * (its start counts), with "nk" or "vk" 4 bytes further on, ending inside the cell, with an admissible name. Start with 0, and go

@@ -1,4 +1,4 @@
-"""Checks, reads and repairs Windows registry hives (regf files) by the proved library of Kiweamotu.
+"""Checks, reads, repairs and builds Windows registry hives (regf files) by the proved library of Kiweamotu.
 
 >>> hive = Hive("sample")
 >>> hive.check().keys
@@ -29,7 +29,7 @@ import stat
 from ctypes import c_size_t, c_uint32, c_uint64, c_void_p
 from typing import Any, BinaryIO, Callable, Iterator, List, NamedTuple, Optional, Sequence, Tuple, TypeVar, Union, overload
 
-__all__ = ["Hive", "Key", "Value", "Deleted", "Report", "Exported", "Repair", "Log", "Refused", "Unsound", "log_facts", "repair"]
+__all__ = ["Hive", "Key", "Value", "Deleted", "Report", "Exported", "Repair", "Log", "Refused", "Unsound", "Unbuilt", "build", "log_facts", "repair"]
 
 SECTOR = 512
 INTERFACES = (2, 1)  # those that this file knows: their structs and calls are the same, and in 1 no refusal names a key
@@ -75,9 +75,26 @@ WORDS = {
     27: "a logged page is not in the hive yet",
     28: "the security items of the keys do not fit together",
     29: "a key has two values of one name",
+    30: "a frame is not laid out as one",
+    31: "a value comes after a subkey of its key",
+    32: "the stream is not one root key that opens and closes",
+    33: "a subkey's name is not above that of the subkey before it",
+    34: "a value has the name of one before it in its key",
+    35: "a name is not possible",
+    36: "a value has more than 1048576 bytes of data",
+    37: "a key of the stream lies deeper than level 512",
+    38: "a key has more than 65535 subkeys",
+    39: "the hive would be longer than a hive can be",
 }
 PLACED = frozenset((9, 10, 11, 12, 13, 14, 15, 19, 28, 29))
 ORDER, PARENT, LEVEL, SEGMENTED, SHORT = 13, 14, 15, 19, 24
+SPOTTED = range(30, 39)  # those that have a byte of the stream
+
+# O:BAG:SYD:(A;CI;KA;;;SY)(A;CI;KA;;;BA)(A;CI;KR;;;BU), self-relative: the descriptor of a built hive where none is given.
+DESCRIPTOR = bytes.fromhex(
+    "01000480600000007000000000000000140000000200 4c00 03000000 00021400 3f000f00 010100000000000512000000 00021800 3f000f00"
+    "01020000000000052000000020020000 00021800 19000200 01020000000000052000000021020000 01020000000000052000000020020000"
+    "010100000000000512000000")
 
 # The registry's names of the types, from 0 on.
 TYPES = (
@@ -127,6 +144,10 @@ class _Export(ctypes.Structure):
     _fields_ = [("answer", _Answer), ("state", c_uint64), ("depth", c_uint64), ("due", c_uint64), ("frames", c_uint64), ("bytes", c_uint64)]
 
 
+class _Built(ctypes.Structure):
+    _fields_ = [("answer", _Answer), ("at", c_uint64), ("length", c_uint64)]
+
+
 class _Rows(ctypes.Structure):
     _fields_ = [("answer", _Answer), ("state", c_uint64), ("rows", c_uint64)]
 
@@ -159,6 +180,8 @@ _CALLS = {
     "hive_walk_step": (_Walk, _MEMORY * 2 + [c_size_t]),
     "hive_export_begin": (_Export, _MEMORY * 3),
     "hive_export_run": (_Export, _MEMORY * 2 + [c_size_t] * 2 + _MEMORY),
+    "hive_build": (_Built, _MEMORY * 3),
+    "hive_build_size": (_Built, _MEMORY + [c_size_t]),
     "hive_remnants": (_Rows, _MEMORY + [c_size_t] + _MEMORY),
     "hive_recover_start": (_Recovery, _MEMORY * 2),
     "hive_recover_all": (_Recovery, _MEMORY * 2),
@@ -299,6 +322,26 @@ class Refused(Exception):
 
 class Unsound(Refused):
     """What the check would refuse after a repair; nothing was written."""
+
+
+class Unbuilt(Refused):
+    """A stream that no hive is built of. at: the byte of the stream where the frame at fault starts, its end where a key stays open, or None where no
+    frame is at fault. It is no place in a hive: place and key are None.
+
+    >>> try:
+    ...     build(b"")
+    ... except Unbuilt as unbuilt:
+    ...     print(unbuilt.number, unbuilt.at, unbuilt)
+    32 0 refused 32 at byte 0 of the stream: the stream is not one root key that opens and closes
+    """
+
+    def __init__(self, number: int, place: Optional[int], key: Optional[int], words: str, at: Optional[int] = None) -> None:
+        super().__init__(number, place, key, words)
+        self.at = at
+
+    def __str__(self) -> str:
+        where = "" if self.at is None else " at byte %d of the stream" % self.at
+        return "refused %d%s: %s" % (self.number, where, self.words)
 
 
 def _refusal(number: int, place: int, key: int) -> Refused:
@@ -691,6 +734,45 @@ class Hive:
         True
         """
         return self.root.walk()
+
+
+# ---- a new hive
+
+def _buildable(answer: _Built) -> int:
+    """The length of the hive."""
+    number = answer.answer.number
+    if number != 0:
+        raise Unbuilt(number, None, None, WORDS.get(number, "an unknown refusal"), answer.at if number in SPOTTED else None)
+    return answer.length
+
+
+@overload
+def build(frames: Source, *, descriptor: Optional[Source] = None) -> bytes: ...
+
+
+@overload
+def build(frames: Source, out: Union[str, "os.PathLike[str]"], *, descriptor: Optional[Source] = None) -> Report: ...
+
+
+def build(frames: Source, out: Any = None, *, descriptor: Optional[Source] = None) -> Union[bytes, Report]:
+    """A hive of version 1.5 from the frames of an export, and one security descriptor, which all keys share: the way back from Hive.export. `frames` and
+    `descriptor` are bytes, or name files. The hive is given back; or `out` names a new file, which is written when the check has accepted the hive, and what
+    the check counts is given back. Unbuilt where the stream is refused, by the earliest frame at fault: then nothing is written. The descriptor is not judged.
+    Without one it is DESCRIPTOR: Administrators own all keys, SYSTEM and they may do everything, Users may read.
+
+    >>> frames = Hive("sample").export()
+    >>> Hive(build(frames)).export() == frames
+    True
+    """
+    stream, security = _Lent(_contents(frames)), _Lent(DESCRIPTOR if descriptor is None else _contents(descriptor))
+    hive = bytearray(_buildable(_library.hive_build_size(*stream.memory, security.memory[1])))
+    room = _Lent(hive, writable=True)
+    _buildable(_library.hive_build(*stream.memory, *security.memory, *room.memory))
+    if out is None:
+        return bytes(hive)
+    report = Hive(hive).check()
+    _new_file(os.fspath(out), lambda to: _store(to, hive, 0))
+    return report
 
 
 # ---- the repair

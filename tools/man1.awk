@@ -8,7 +8,7 @@ function behind(s) { return match(s, /   */) ? substr(s, RSTART + RLENGTH) : "" 
 function told(s) { print ".TP\n.B " escape(front(s)); if (behind(s) != "") print escape(behind(s)) }
 BEGIN {
     printf ".TH HIVE 1 \"\" \"Kiweamotu %s\"\n", version
-    print ".SH NAME\nhive \\- checks, reads and repairs a Windows registry hive"
+    print ".SH NAME\nhive \\- checks, reads, repairs and builds a Windows registry hive"
 }
 /^$/ { block++; if (block > 2) print ".PP"; next }
 block == 0 {

@@ -22,9 +22,10 @@ release, tool = os.path.abspath(sys.argv[1]), sys.argv[2:]
 sys.path[:0] = [os.path.join(release, "python"), os.path.join(os.path.dirname(os.path.abspath(__file__)), os.pardir, os.pardir, "tools")]
 sys.dont_write_bytecode = True
 
+import build as plain  # noqa: E402
 import hives  # noqa: E402
 import kiweamotu  # noqa: E402
-from kiweamotu import Hive, Refused, Unsound, repair  # noqa: E402
+from kiweamotu import Hive, Refused, Unbuilt, Unsound, build, repair  # noqa: E402
 
 PRINT = r"ControlSet001\Services\EventLog\Application\Print"
 passed = failed = 0
@@ -431,6 +432,96 @@ def not_exported():
         raise AssertionError("not refused")
     expect(bytes_of("sample"), before)
     expect([name for name in os.listdir(".") if name.startswith(("python-frames", "sample.part"))], [])
+
+
+def unbuilt(call, *args, **named):
+    """What a call refuses to build, of the library or of the model: its number, and the byte or 0."""
+    try:
+        return call(*args, **named)
+    except Unbuilt as refused:
+        expect((refused.place, refused.key, refused.words), (None, None, kiweamotu.WORDS[refused.number]))
+        return refused.number, refused.at or 0
+    except plain.Unbuilt as refused:
+        return refused.number, refused.at
+
+
+@test
+def built():
+    """a hive from frames: the model's and the tool's bytes, and back again; from files, memory and parts of it"""
+    for file in ("sample", "letters", "notation", "sources", "minimal", "reg"):
+        frames = Hive(file).export()
+        for descriptor in (None, b"", bytes(range(200)), bytearray(4000)):
+            hive = build(frames, descriptor=descriptor)
+            expect(hive, plain.build(frames, kiweamotu.DESCRIPTOR if descriptor is None else bytes(descriptor), 2**31))
+            expect(Hive(hive).export(), frames)
+        Hive(file).export("python-frames")
+        report = build("python-frames", "python-built")
+        expect((report, bytes_of("python-built")), (Hive("python-built").check(), build(memoryview(frames))))
+        expect(asked("build", "python-frames", "python-tool"), "built %d\naccepted bins %d keys %d values %d used %d free %d\n" % (len(build(frames)), *report))
+        expect(bytes_of("python-tool"), bytes_of("python-built"))
+        expect(build("python-frames", descriptor="python-frames"), build(frames, descriptor=frames))
+        for name in ("python-frames", "python-built", "python-tool"):
+            os.remove(name)
+
+
+def frames_at_random(dice, level=0):
+    """A key with what is below it, mostly good."""
+    some = lambda: "".join(dice.choice("abAB_\xe9\xc9\xff\u0178\u0141") for _ in range(dice.choice((1, 1, 2, 3))))
+    out = hives.framed(16, struct.pack("<Q", dice.randrange(2**64)) + some().encode("utf-16-le"))
+    for name in sorted(set(some() for _ in range(dice.randrange(4)))):
+        data = bytes(dice.choice((0, 1, 4, 5, 100, 16344, 16345)))
+        out += hives.framed(17, struct.pack("<II", dice.randrange(12), 2 * len(name)) + name.encode("utf-16-le") + data)
+    below = [frames_at_random(dice, level + 1) for _ in range(0 if level > 2 else dice.randrange(4))]
+    if dice.random() < 0.9:
+        below.sort(key=lambda frames: hives.folded(plain.frame_at(frames, 0).name))
+    return out + b"".join(below) + hives.framed(18)
+
+
+@test
+def built_at_random():
+    """a hive from frames agrees with the model, also where it is refused"""
+    met = set()
+    for seed in range(400):
+        dice = random.Random(seed)
+        frames = bytearray(frames_at_random(dice))
+        if dice.random() < 0.4:
+            frames[dice.randrange(len(frames))] ^= 1 << dice.randrange(8)
+        if dice.random() < 0.1:
+            del frames[dice.randrange(len(frames)):]
+        descriptor = bytes(dice.randrange(300))
+        wanted = unbuilt(plain.build, bytes(frames), descriptor, 2**31)
+        expect(unbuilt(build, frames, descriptor=descriptor), wanted)
+        met.add(wanted[0] if isinstance(wanted, tuple) else 0)
+    expect(met >= {0, 30, 32, 33, 34}, True)
+
+
+@test
+def not_built():
+    """a hive from frames: a refusal writes nothing, names a byte of the stream, and no file is written over"""
+    good = Hive("minimal").export()
+    for frames, wanted in ((b"", (32, 0)), (good[:-1], (30, 16)), (good[:16], (32, 16)), (good * 2, (32, 22)), (bytes_of("sample"), (30, 0))):
+        expect(unbuilt(build, frames), wanted)
+        expect(unbuilt(build, frames, "python-built"), wanted)
+    try:
+        build(good[:16])
+    except Unbuilt as refused:
+        again = pickle.loads(pickle.dumps(refused))
+        expect((type(again), again.number, again.at, again.place, again.key, str(again)), (Unbuilt, 32, 16, None, None, str(refused)))
+    before = bytes_of("sample")
+    with contextlib.suppress(FileExistsError):
+        build(good, "sample")
+        raise AssertionError("not refused")
+    with contextlib.suppress(FileNotFoundError):
+        build("python-no-frames", "python-built")
+        raise AssertionError("not refused")
+    expect(bytes_of("sample"), before)
+    expect([name for name in os.listdir(".") if name.startswith(("python-built", "sample.part"))], [])
+    with mmap.mmap(-1, 2147479409) as untouched:
+        try:
+            build(good, descriptor=untouched)
+            raise AssertionError("not refused")
+        except Unbuilt as refused:
+            expect((refused.number, refused.at, str(refused)), (39, None, "refused 39: the hive would be longer than a hive can be"))
 
 
 class Cut(Exception):

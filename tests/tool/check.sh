@@ -52,9 +52,9 @@ try 'explain: the order' 0 "13: a key stands out of order, or its hash or hint i
 try 'explain: the checksum' 0 "3: the checksum of the base block is wrong. The word at byte 508 is not the XOR of the 127 words before it, with 0 stored as 1 and 0xFFFFFFFF as 0xFFFFFFFE: the first sector was changed or half written. A log may repair it." '' hive explain 3
 try 'explain: security' 0 "28: the security items of the keys do not fit together. At the place is the root, whose own item is none; or an item that has no room for its descriptor, whose forward link leads to no item that links back, or whose count is not the number of keys that name it; or a key whose item is not on the ring that starts at the root's. Windows does not load such a hive; its keys and values can be read here." '' hive explain 28
 try 'explain: two values of one name' 0 "29: a key has two values of one name. At the place is the second of them: its name is that of a value earlier in the key's list, with a to z, and the accented letters of Western Europe, as capitals. Who asks for that name gets the first and never the second; hive value --nth 2 reads it." '' hive explain 29
-try 'explain: no number' 2 '' 'from 1 to 29' hive explain 30
-try 'usage: nothing' 2 '' 'a verb is wanted: check, key, ls, keys, value, export, reg, deleted, repair or explain; see: hive --help' hive
-try 'usage: no verb' 2 '' '"chekc" is none of check, key, ls, keys, value, export, reg, deleted, repair and explain; see: hive --help' hive chekc a
+try 'explain: no number' 2 '' 'from 1 to 39' hive explain 40
+try 'usage: nothing' 2 '' 'a verb is wanted: check, key, ls, keys, value, export, build, reg, deleted, repair or explain; see: hive --help' hive
+try 'usage: no verb' 2 '' '"chekc" is none of check, key, ls, keys, value, export, build, reg, deleted, repair and explain; see: hive --help' hive chekc a
 try 'usage: a word too few' 2 '' 'key wants FILE PATH, and a word is missing; see: hive --help' hive key sample
 try 'usage: a word too many' 2 '' 'key wants FILE PATH, and "b" is a word too many; see: hive --help' hive key sample a b
 try 'usage: an unknown option' 2 '' 'repair: --fast is no option' hive repair --fast spoilt log

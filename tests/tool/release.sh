@@ -198,6 +198,7 @@ else
     try 'coming from: key' 0 'key at 488 subkeys 0 values 4 written 2024-02-29T16:47:36.8485888Z' '' hive key -l SYSTEM "$P"
     try 'coming from: all keys' 0 7 '' lines keys SYSTEM
     try 'coming from: frames' 0 'exported frames 19 bytes 552' '' hive export SYSTEM SYSTEM.frames
+    try 'coming from: a hive from frames' 0 "$(printf '%s\n' 'built 8192' 'accepted bins 1 keys 7 values 5 used 1232 free 2832')" '' hive build SYSTEM.frames NEWHIVE
     try 'coming from: text' 0 7 '' eval 'hive reg --utf8 SYSTEM | grep -c "^\["'
     sed '1,/^\$ hive reg /d; /^```/,$d' "$top/README.md" >wanted
     hive reg --utf8 SYSTEM "$P" | tail -n +3 | sed '$d' >found

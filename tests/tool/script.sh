@@ -23,6 +23,7 @@ try 'script: --help' 0 "$(cat "$top/host/help.txt")" '' unproved --help
 try 'script: no file' 2 '' 'hive: nothing: No such file' unproved check nothing
 try 'script: no file behind options' 2 '' 'hive: nothing: No such file' unproved value --log log nothing a b
 try 'script: no file behind a prefix' 2 '' 'hive: nothing: No such file' unproved reg --prefix log nothing
+try 'script: no frames behind a descriptor' 2 '' 'hive: nothing: No such file' unproved build --descriptor log nothing out
 try 'script: no verb' 2 '' '"chekc" is none of check' unproved chekc minimal
 try 'script: --version' 0 "hive $(cat "$top/VERSION")" '' unproved --version
 right 'script: nothing was proved for that' [ ! -e prover/called ]

@@ -1,34 +1,30 @@
 -- The check accepts a built hive, with one bin, the keys and values of its forest, and the bytes of its cells.
-use Prim.Native.Nat.{ℕ, suc, _+_, _-_, _/_, _<_, _≤_}
+use Prim.Native.Nat.{ℕ, _+_, _-_, _/_, _≤_}
 use native.Mathlib.Omega.{arith}
 use mathlib.Core.Path.{_≡_, refl, sym, ap, ap₂, _∙_, subst}
 use mathlib.Core.Bool.{true, false}
-use mathlib.Core.List.{List, [], _∷_, List·Memᴰ, List·Memᴰ·head, List·Memᴰ·eq-of-singleton, List·Memᴰ·not-nil}
-use lib.ListN.{length, length-append}
+use mathlib.Core.List.{List, [], _∷_, List·Memᴰ·head, List·Memᴰ·eq-of-singleton, List·Memᴰ·not-nil}
+use lib.ListN.{length}
 use Rattle.fields.specs.declared.Offset.{Offset}
-use Rattle.base.specs.Block.{sector, binsOf as binsIn, binsLimit, binsData}
+use Rattle.base.specs.Block.{binsLimit}
 use Rattle.cells.specs.declared.Tally.{Tally}
-use Rattle.cells.specs.declared.Surveyed.{Surveyed}
 use Rattle.cells.specs.declared.Surveyed.the-variants.{Tiled}
-use Rattle.cells.specs.Named.{dataAt}
 use Rattle.cells.specs.Tiled.{BinsTile}
-use Rattle.cells.specs.Survey.{surveyAnswer}
 use Rattle.names.specs.Hashing.{hashOf}
-use Rattle.records.specs.Facts.{Signed}
 use Rattle.records.specs.Keys.{securityOf}
 use Rattle.records.specs.Listed.{keysIn, nil, cons}
 use Rattle.security.specs.declared.Item.{Item as Security}
 use Rattle.security.specs.Items.{itemOf}
-use Rattle.security.specs.Stands.{ItemStands, Link, closes, SecurityStands}
+use Rattle.security.specs.Stands.{ItemStands, closes, SecurityStands}
 use Rattle.tree.specs.declared.Checked.the-variants.{Accepted}
 use Rattle.tree.specs.declared.Hive.{Hive}
 use Rattle.tree.specs.declared.Report.{Report}
-use Rattle.tree.specs.Tree.{levels, hiveOf, keysOf, valuesIn, reportOf, checkAnswer}
-use Rattle.tree.specs.WellFormed.{TreeStands, WellFormed, CleanAndWellFormed}
+use Rattle.tree.specs.Tree.{levels, valuesIn, reportOf, checkAnswer}
+use Rattle.tree.specs.WellFormed.{TreeStands, CleanAndWellFormed}
 use Rattle.tree.proofs.Exactly.{accepted-as, accepted-exactly}
 use Rattle.forest.specs.Forest.{Forest, none, more, countOf, keyCount, valueCount}
 use Rattle.forest.specs.Allowed.{OneRoot}
-use Rattle.layout.specs.Layout.{nothing, itemAt, usedOf, binsFor, itemRecord, binsOf, builtHive}
+use Rattle.layout.specs.Layout.{itemAt, usedOf, binsFor, binsOf, builtHive}
 use Rattle.layout.proofs.Sizes.{cell-room, item-length, bins-whole}
 use Rattle.layout.proofs.Base.{built-hive, built-clean, built-bins, built-inside, built-data}
 use Rattle.layout.proofs.Built.{item-placed, placed-room, bins-tile}

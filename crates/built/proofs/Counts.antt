@@ -1,5 +1,5 @@
 -- The keys of a forest that is laid in the bins data d, as the walk lists them: how many, with how many values, each with the one security item.
-use Prim.Native.Nat.{ℕ, zero, suc, _+_}
+use Prim.Native.Nat.{ℕ, suc, _+_}
 use native.Mathlib.Omega.{arith}
 use mathlib.Core.Path.{_≡_, refl, sym, ap, ap₂, _∙_, subst}
 use mathlib.Core.Logic.{⊎-elim}
@@ -8,11 +8,12 @@ use lib.ListN.{length, length-append}
 use borrow.Author.Tests.{eq-eqb}
 use Rattle.fields.specs.declared.Offset.{Offset}
 use Rattle.records.specs.declared.Child.{Child}
-use Rattle.records.specs.Keys.{keyOf, securityOf}
+use Rattle.records.specs.Keys.{securityOf}
 use Rattle.records.specs.Listed.{joined, keysIn}
 use Rattle.security.specs.Items.{namedBy}
 use Rattle.tree.specs.Tree.{valuesIn}
-use Rattle.forest.specs.Forest.{Item, Forest, none, more, countOf, keyCount, valueCount}
+use Rattle.stream.proofs.Whole.{values-append}
+use Rattle.forest.specs.Forest.{Forest, none, more, countOf, keyCount, valueCount}
 use Rattle.layout.specs.Layout.{belowAt, besideAt}
 use Rattle.written.specs.Written.{childrenAt}
 use Rattle.built.specs.Laid.{Laid, no-keys, key}
@@ -24,16 +25,11 @@ pub record Counts (d : List ℕ) (S keys values : ℕ) (ks : List Offset) : Type
   pub secured : (k : Offset) → List·Memᴰ k ks → securityOf d k ≡ record { 0 = S }
 
 module _ (d : List ℕ) where
-  values-append : (ks ls : List Offset) → valuesIn d (ks ++ ls) ≡ valuesIn d ks + valuesIn d ls
-  unfolding valuesIn
-  values-append [] ls = omega arith
-  values-append (k ∷ ks) ls = let e = values-append ks ls in omega arith
-
   counts-append : {S a v b w : ℕ} (ks ls : List Offset) → Counts d S a v ks → Counts d S b w ls → Counts d S (a + b) (v + w) (ks ++ ls)
   counts-append ks ls p q =
       record {
         many = length-append ks ls ∙ ap₂ _+_ (p .many) (q .many);
-        holding = values-append ks ls ∙ ap₂ _+_ (p .holding) (q .holding);
+        holding = values-append d 5 ks ls ∙ ap₂ _+_ (p .holding) (q .holding);
         secured = λ k i. ⊎-elim (p .secured k) (q .secured k) (List·Memᴰ·append-cases ks i);
       }
 

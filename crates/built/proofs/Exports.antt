@@ -2,20 +2,16 @@
 use Prim.Native.Nat.{ℕ, _+_, _<_, _≤_}
 use native.Mathlib.Omega.{arith}
 use mathlib.Core.Path.{_≡_, refl, sym, ap, ap₂, _∙_}
-use mathlib.Core.List.{List, [], _∷_, _++_, append-assoc, append-nil}
+use mathlib.Core.List.{List, _++_, append-assoc, append-nil}
 use lib.ListN.{length}
-use Rattle.fields.specs.declared.Offset.{Offset}
 use Rattle.base.specs.Block.{binsLimit}
-use Rattle.records.specs.Keys.{keyOf}
-use Rattle.records.specs.Lists.{children}
-use Rattle.values.specs.Lists.{valuesOf}
 use Rattle.tree.specs.declared.Hive.{Hive}
 use Rattle.tree.specs.Tree.{levels}
-use Rattle.stream.specs.Stream.{openFrame, closeFrame, valueStream, streamOver, streamIn, streamOf}
+use Rattle.stream.specs.Stream.{closeFrame, valueStream, streamOver, streamIn, streamOf}
 use Rattle.forest.specs.Forest.{Item, Forest, none, more, countOf, keyFrame, itemFrames, forestFrames}
 use Rattle.forest.specs.Allowed.{OneRoot}
-use Rattle.layout.specs.Layout.{rowSize, nothing, itemAt, usedOf, binsFor, binsOf, builtHive}
-use Rattle.layout.proofs.Sizes.{cell-room, bins-whole}
+use Rattle.layout.specs.Layout.{rowSize, nothing, itemAt, binsFor, binsOf, builtHive}
+use Rattle.layout.proofs.Sizes.{bins-whole}
 use Rattle.layout.proofs.Base.{built-hive, built-data}
 use Rattle.layout.proofs.Splits.{Split}
 use Rattle.layout.proofs.Built.{rowOf, Placed, row-size, cells-part, placed}

@@ -23,7 +23,7 @@ use Rattle.layout.proofs.Built.{Placed, placed-room}
 use Rattle.written.specs.Written.{leafRecord}
 use Rattle.written.proofs.Keys.{keyAt}
 use Rattle.written.proofs.Leaves.{leaf-signed, leaf-record}
-use Rattle.written.proofs.Held.{stamp-in, security-in, key-record-in, key-name-in, key-in, open-frame-in}
+use Rattle.written.proofs.Held.{security-in, key-record-in, key-name-in, key-in, open-frame-in}
 use Rattle.written.proofs.Held_lists.{values-in, children-in}
 use Rattle.written.proofs.Placed.{placed-holds}
 use Rattle.built.specs.Laid.{KeyLaid, Laid, no-keys, key}

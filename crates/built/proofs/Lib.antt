@@ -4,3 +4,5 @@ pub mod Exports
 pub mod Stands
 pub mod Counts
 pub mod Accepted
+pub mod Legible
+pub mod Builds

@@ -4,24 +4,22 @@ use native.Mathlib.Omega.{arith}
 use mathlib.Core.Path.{_≡_, refl, sym, ap, _∙_, subst}
 use mathlib.Core.Bool.{true, false}
 use mathlib.Core.Logic.{⊎-elim}
-use mathlib.Core.List.{List, [], _∷_, List·Memᴰ, List·Memᴰ·head, List·Memᴰ·tail, List·Memᴰ·cases-cons, List·Memᴰ·not-nil}
+use mathlib.Core.List.{List, List·Memᴰ, List·Memᴰ·head, List·Memᴰ·tail, List·Memᴰ·cases-cons, List·Memᴰ·not-nil}
 use lib.ListN.{length, getD}
 use Rattle.fields.specs.declared.Offset.{Offset}
 use Rattle.fields.specs.Faults.{nowhere}
-use Rattle.names.specs.declared.Order.the-variants.{Before}
 use Rattle.names.specs.Comparison.{compare, sameName}
 use Rattle.names.specs.Hashing.{hashOf}
 use Rattle.records.specs.declared.Child.{Child}
 use Rattle.records.specs.Keys.{keyOf}
 use Rattle.records.specs.Lists.{children}
-use Rattle.values.specs.Lists.{valuesOf}
 use Rattle.namesakes.specs.Namesakes.{calledAt, areNamesakes, twins}
 use Rattle.tree.specs.declared.Hive.{Hive}
 use Rattle.tree.specs.Tree.{nameAt}
 use Rattle.tree.specs.WellFormed.{Room, ValueStands, KeyStands, ChildStands, Ascends, none as no-children, more as ascends-more, TreeStands, key as stands}
-use Rattle.forest.specs.Forest.{Item, Forest, none, more, countOf, namesOf, itemNames}
-use Rattle.forest.specs.Allowed.{Sorted, sorted-none, sorted-more, Apart, apart-none, apart-more}
-use Rattle.layout.specs.Layout.{valueSize, stored, belowAt, besideAt}
+use Rattle.forest.specs.Forest.{Item, Forest, countOf, namesOf, itemNames}
+use Rattle.forest.specs.Allowed.{Sorted, sorted-more, Apart, apart-more}
+use Rattle.layout.specs.Layout.{valueSize, stored, belowAt}
 use Rattle.layout.proofs.Sizes.{cell-room}
 use Rattle.written.specs.Written.{itemsAt, childrenAt}
 use Rattle.written.proofs.Held_lists.{children-count}

@@ -9,17 +9,16 @@ use lib.Dec.{leb}
 use lib.ListN.{length}
 use borrow.Author.Tests.{leb-true, leb-false}
 use Rattle.fields.specs.declared.Offset.{Offset}
-use Rattle.cells.specs.Named.{dataAt}
 use Rattle.values.specs.declared.Segment.{Segment}
 use Rattle.values.specs.declared.Value.{Value}
 use Rattle.values.specs.declared.ValueData.{ValueData}
 use Rattle.values.specs.Records.{dataIn, fieldsOf, valueOf}
-use Rattle.values.specs.Segments.{segmentsFor, segmentList, segmentsOf, bytesOf}
+use Rattle.values.specs.Segments.{segmentsFor, bytesOf}
 use Rattle.tree.specs.Facts.{DbRecord}
-use Rattle.tree.specs.WellFormed.{Room, Segmented, DataStands, ValueStands}
+use Rattle.tree.specs.WellFormed.{Room, Segmented, DataStands}
 use Rattle.forest.specs.Forest.{Item}
 use Rattle.forest.specs.Allowed.{ItemAllowed}
-use Rattle.layout.specs.Layout.{cellSize, partsOf, offsetsOf, rowSize, valueSize, valueRecord, dataCells, segmentedCells, valueCells, valuesCells}
+use Rattle.layout.specs.Layout.{partsOf, offsetsOf, rowSize, valueRecord, dataCells, segmentedCells, valueCells, valuesCells}
 use Rattle.layout.proofs.Sizes.{parts-count, offsets-length, value-size}
 use Rattle.layout.proofs.Splits.{Split, Part, part-first, part-rest, part-ends}
 use Rattle.layout.proofs.Places.{value-part, values-rest, value-at, data-part, data-at, segmented-part, db-at, segment-list-at, segments-part}

@@ -15,7 +15,7 @@ use Rattle.tree.specs.WellFormed.{Room, ValueStands, ListStands}
 use Rattle.stream.specs.Stream.{openFrame, valueFrame}
 use Rattle.forest.specs.Forest.{Item, Forest, none, more, countOf, keyFrame, itemFrame}
 use Rattle.forest.specs.Allowed.{KeyAllowed}
-use Rattle.layout.specs.Layout.{valueSize, valuesAt, listAt, belowAt, leafAt, besideAt}
+use Rattle.layout.specs.Layout.{valueSize, valuesAt, belowAt, besideAt}
 use Rattle.written.specs.Written.{itemsAt, childrenAt}
 
 -- a value, with its data

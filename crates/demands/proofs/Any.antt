@@ -24,11 +24,13 @@ use Rattle.recovery.proofs.Refusals.{start-refuses, page-refuses, close-refuses
 use Rattle.recovery.specs.AtOnce.{allAnswer, allHive, markedAnswer, markedMap}
 use Rattle.walk.proofs.Refusals.{begin-refuses, step-refuses, begin-stays, step-stays}
 use Rattle.export.proofs.Refusals.{step-refuses as frame-refuses, step-leaves, begin-refuses as export-refuses, begin-leaves, run-refuses, run-leaves}
+use Rattle.answers.proofs.Refusals.{measure-refuses, build-refuses}
+use Rattle.answers.proofs.Hives.{refused-leaves}
 use Rattle.remnants.proofs.Refusals.{next-refuses as remnant-refuses, rows-refuse, rows-stay}
 use Rattle.demands.specs.First.{Demand1}
 use Rattle.demands.proofs.As_check.{refuses-as-check}
 
-listed : (f : Fault) → (1 ≤ numberOf f) × (numberOf f ≤ 29)
+listed : (f : Fault) → (1 ≤ numberOf f) × (numberOf f ≤ 39)
 listed named.HiveShort = (omega arith, omega arith)
 listed named.NoRegf = (omega arith, omega arith)
 listed named.Checksum = (omega arith, omega arith)
@@ -58,6 +60,16 @@ listed named.NotDirty = (omega arith, omega arith)
 listed named.NotIn = (omega arith, omega arith)
 listed named.Security = (omega arith, omega arith)
 listed named.Namesake = (omega arith, omega arith)
+listed named.NoFrame = (omega arith, omega arith)
+listed named.ValueLate = (omega arith, omega arith)
+listed named.Unbalanced = (omega arith, omega arith)
+listed named.Unsorted = (omega arith, omega arith)
+listed named.Repeated = (omega arith, omega arith)
+listed named.NameSize = (omega arith, omega arith)
+listed named.DataSize = (omega arith, omega arith)
+listed named.Depth = (omega arith, omega arith)
+listed named.Subkeys = (omega arith, omega arith)
+listed named.HiveSize = (omega arith, omega arith)
 
 -- ---- what a refusal leaves
 
@@ -102,6 +114,8 @@ demand1 =
       frame-place = λ h m n room r e. frame-refuses h m n room e;
       export-place = λ h m ws r e. export-refuses h m ws e;
       run-place = λ h ws c room r e. run-refuses h ws c room e;
+      measure-place = λ s n u e. measure-refuses s n e;
+      build-place = λ s sd room u e. build-refuses s sd room e;
       remnant-place = λ h from r e. remnant-refuses h from e;
       rows-place = λ h from n r e. rows-refuse h from n e;
       refuses-as-check = refuses-as-check;
@@ -121,6 +135,7 @@ demand1 =
       frame-stays = λ h m n out r e. step-leaves h m n out e;
       export-stays = λ h m ws r e. begin-leaves h m ws e;
       run-stays = λ h ws c out r e. run-leaves h ws c out e;
+      build-stays = λ s sd out u e. refused-leaves s sd out e;
       rows-stay = λ h from rows r e. rows-stay h from rows e;
       page-stays = page-stays;
       close-stays = close-stays;

@@ -1,12 +1,12 @@
 -- What an export gives of every accepted hive.
-use Prim.Native.Nat.{ℕ, _+_, _*_, _≤_, _<_}
-use mathlib.Core.Path.{_≡_, refl, sym, ap₂, _∙_}
+use Prim.Native.Nat.{ℕ, _+_, _*_}
+use mathlib.Core.Path.{sym, ap₂, _∙_}
 use lib.ListN.{length, getD}
 use borrow.Author.Tests.{le-leb, lt-leb}
 use Rattle.tree.proofs.Exactly.{report-counts}
 use Rattle.stream.specs.Stream.{framesOf}
 use Rattle.stream.proofs.Whole.{frames-joined, frames-listed, stream-balanced}
-use Rattle.export.specs.Answers.{noFrame, stepFrom, onChecked, stepAnswer, stepOut}
+use Rattle.export.specs.Answers.{noFrame, stepFrom, stepAnswer, stepOut}
 use Rattle.export.proofs.Exports.{accepted-formed, run-law}
 use Rattle.demands.specs.Export.{Exporting}
 

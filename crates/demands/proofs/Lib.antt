@@ -6,3 +6,4 @@ pub mod One
 pub mod Honest
 pub mod Listing
 pub mod Export
+pub mod Build

@@ -3,7 +3,8 @@
 -- Every public call's contract is an equation, for all lists of bytes and with no condition on them: what it answers is `checkAnswer h m`, `findAnswer h us`,
 -- `infoAnswer h us x`, `viewAnswer h us x`, `copyAnswer h us x n`, `quickAnswer h us`, `quickInfo h us x`, `quickView h us x`, `quickCopy h us x n`,
 -- `subkeyAnswer h o n`, `valueAnswer h o n`, `infoAt h v`, `copyAt h v n`, `factsAnswer h o`, `beginAnswer h ws`, `stepAnswer h ws n`, `stepAnswer h m n room`,
--- `beginAnswer h m ws` and `runAnswer h ws c room` of an export, `remnantAnswer h from`, `rowsAnswer h from n`,
+-- `beginAnswer h m ws` and `runAnswer h ws c room` of an export, `measureAnswer s n` and `buildAnswer s sd room` of a stream, `remnantAnswer h from`,
+-- `rowsAnswer h from n`,
 -- `startAnswer h l`, `pageAnswer h l p`, `closeAnswer h l`, `nextAnswer l from`, `allAnswer h l`, `markAnswer l from`, `markedAnswer l n` and
 -- `factsAnswer l` of a log. These are total functions, so there is an answer. What is left to say is what a refusal is.
 use Prim.Native.Nat.{ℕ, _/_, _≤_}
@@ -46,6 +47,10 @@ use Rattle.export.specs.declared.Ran.the-variants as ran
 use Rattle.export.specs.declared.Stepped.the-variants as frame
 use Rattle.export.specs.Answers.{stepAnswer as frameAnswer, stepOut, beginAnswer as exportAnswer, beginLevels as exportLevels, runAnswer, runOut, runLevels}
 use Rattle.export.specs.Refused.{OfFrame, OfBegun, OfRun}
+use Rattle.answers.specs.declared.Built.the-variants as built
+use Rattle.answers.specs.declared.Unbuilt.{Unbuilt}
+use Rattle.answers.specs.Answers.{measureAnswer, buildAnswer, buildOut}
+use Rattle.answers.specs.Refused.{InStream, OfMeasure, OfBuild}
 use Rattle.remnants.specs.declared.Filled.the-variants as filled
 use Rattle.remnants.specs.declared.Remnant.the-variants as remnant
 use Rattle.remnants.specs.Remnants.{remnantAnswer, rowsAnswer, rowsOut}
@@ -62,8 +67,8 @@ use Rattle.recovery.specs.Refused.{OfStart, OfPage, OfClose, OfMarked}
 use Rattle.recovery.specs.AtOnce.{allAnswer, allHive, markAnswer, markedAnswer, markedMap, factsAnswer as logAnswer}
 
 pub record Demand1 : Type 0 where
-  -- "A refusal is a number from the listed set": the table has 1 to 27, request 2 adds 28 and request 8 adds 29
-  pub listed : (f : Fault) → (1 ≤ numberOf f) × (numberOf f ≤ 29)
+  -- "A refusal is a number from the listed set": the table has 1 to 27, request 2 adds 28, request 8 adds 29 and request 11 adds 30 to 39
+  pub listed : (f : Fault) → (1 ≤ numberOf f) × (numberOf f ≤ 39)
   -- "with a place": as the table says, each with the reason that its row gives, and with the key under examination (`Because`), or none (`Keyless`)
   pub survey-place : (h : List ℕ) (room : ℕ) (f : Flaw) → surveyAnswer h room ≡ Untiled f → OfSurvey h room f
   pub check-place : (h m : List ℕ) (r : Refusal) → checkAnswer h m ≡ checked.Refused r → Because (Told h (length m)) r
@@ -88,6 +93,9 @@ pub record Demand1 : Type 0 where
   pub frame-place : (h m : List ℕ) (n room : ℕ) (r : Refusal) → frameAnswer h m n room ≡ frame.Refused r → Because (OfFrame h m n room) r
   pub export-place : (h m ws : List ℕ) (r : Refusal) → exportAnswer h m ws ≡ begun.Refused r → Because (OfBegun h m ws) r
   pub run-place : (h ws : List ℕ) (c : Cursor) (room : ℕ) (r : Refusal) → runAnswer h ws c room ≡ ran.Refused r → Because (OfRun h ws c room) r
+  -- of a stream with "the frame's start in the stream" as its place, or 0 for the sizes
+  pub measure-place : (s : List ℕ) (n : ℕ) (u : Unbuilt) → measureAnswer s n ≡ built.Refused u → InStream (OfMeasure s n) u
+  pub build-place : (s sd : List ℕ) (room : ℕ) (u : Unbuilt) → buildAnswer s sd room ≡ built.Refused u → InStream (OfBuild s (length sd) room) u
   pub remnant-place : (h : List ℕ) (from : ℕ) (r : Refusal) → remnantAnswer h from ≡ remnant.Refused r → Keyless (OfTiles h) r
   pub rows-place : (h : List ℕ) (from n : ℕ) (r : Refusal) → rowsAnswer h from n ≡ filled.Refused r → Keyless (OfRows h from n) r
   -- "1 to 7, 9 and 10 apply": with a map that is large enough, exactly as the check refuses, with the same number and place
@@ -111,6 +119,7 @@ pub record Demand1 : Type 0 where
   pub export-stays : (h m ws : List ℕ) (r : Refusal) → exportAnswer h m ws ≡ begun.Refused r → exportLevels h m ws ≡ ws
   pub run-stays : (h ws : List ℕ) (c : Cursor) (out : List ℕ) (r : Refusal) → runAnswer h ws c (length out) ≡ ran.Refused r
       → (runOut h ws c out ≡ out) × (runLevels h ws c (length out) ≡ ws)
+  pub build-stays : (s sd out : List ℕ) (u : Unbuilt) → buildAnswer s sd (length out) ≡ built.Refused u → buildOut s sd out ≡ out
   pub rows-stay : (h : List ℕ) (from : ℕ) (rows : List ℕ) (r : Refusal) → rowsAnswer h from (length rows) ≡ filled.Refused r → rowsOut h from rows ≡ rows
   pub page-stays : (h l : List ℕ) (p : ℕ) (r : Refusal) → pageAnswer h l p ≡ stepped.Refused r → pageHive h l p ≡ h
   pub close-stays : (h l : List ℕ) (r : Refusal) → closeAnswer h l ≡ stepped.Refused r → closeHive h l ≡ h

@@ -5,3 +5,4 @@ pub mod Promises
 pub mod Frauds
 pub mod Listing
 pub mod Export
+pub mod Build

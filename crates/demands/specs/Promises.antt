@@ -23,6 +23,8 @@ use Rattle.export.specs.declared.Cursor.{Cursor}
 use Rattle.export.specs.declared.Ran.{Ran}
 use Rattle.export.specs.declared.Stepped.{Stepped as Framed}
 use Rattle.export.specs.Answers.{stepAnswer as frameAnswer, stepOut, beginAnswer as exportAnswer, beginLevels as exportLevels, runAnswer, runOut, runLevels}
+use Rattle.answers.specs.declared.Built.{Built}
+use Rattle.answers.specs.Answers.{measureAnswer, buildAnswer, buildOut}
 use Rattle.remnants.specs.declared.Filled.{Filled}
 use Rattle.remnants.specs.declared.Remnant.{Remnant}
 use Rattle.remnants.specs.Remnants.{remnantAnswer, rowsAnswer, rowsOut}
@@ -75,6 +77,9 @@ Exports h m ws r after = (r ≡ exportAnswer h m ws) × (after ≡ (mapLeft h m,
 abbrev pub Runs : List ℕ → List ℕ → Cursor → List ℕ → Ran → List ℕ × List ℕ → Type 0
 Runs h ws c out r after = (r ≡ runAnswer h ws c (length out)) × (after ≡ (runLevels h ws c (length out), runOut h ws c out))
 
+abbrev pub Builds : List ℕ → List ℕ → List ℕ → Built → List ℕ → Type 0
+Builds s sd out r after = (r ≡ buildAnswer s sd (length out)) × (after ≡ buildOut s sd out)
+
 abbrev pub Rows : List ℕ → ℕ → List ℕ → Filled → List ℕ → Type 0
 Rows h from rows r after = (r ≡ rowsAnswer h from (length rows)) × (after ≡ rowsOut h from rows)
 
@@ -112,6 +117,8 @@ pub record Unique : Type 0 where
   pub export-step : (h m : List ℕ) (n : ℕ) (out : List ℕ) → Determines (Frames h m n out)
   pub export-begin : (h m ws : List ℕ) → Determines (Exports h m ws)
   pub export-run : (h ws : List ℕ) (c : Cursor) (out : List ℕ) → Determines (Runs h ws c out)
+  pub measure : (s : List ℕ) (n : ℕ) (r r′ : Built) → r ≡ measureAnswer s n → r′ ≡ measureAnswer s n → r ≡ r′
+  pub build : (s sd out : List ℕ) → Determines (Builds s sd out)
   pub next-remnant : (h : List ℕ) (from : ℕ) (r r′ : Remnant) → r ≡ remnantAnswer h from → r′ ≡ remnantAnswer h from → r ≡ r′
   pub remnants : (h : List ℕ) (from : ℕ) (rows : List ℕ) → Determines (Rows h from rows)
   pub start : (h l : List ℕ) (r r′ : Started) → r ≡ startAnswer h l → r′ ≡ startAnswer h l → r ≡ r′

@@ -4,6 +4,7 @@ pub mod Charges
 pub mod Every
 pub mod Firsts
 pub mod Little
+pub mod Long
 pub mod Loops
 pub mod Numbers
 pub mod Same_bytes

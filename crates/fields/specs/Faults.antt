@@ -41,6 +41,16 @@ numberOf named.NotDirty = 26
 numberOf named.NotIn = 27
 numberOf named.Security = 28
 numberOf named.Namesake = 29
+numberOf named.NoFrame = 30
+numberOf named.ValueLate = 31
+numberOf named.Unbalanced = 32
+numberOf named.Unsorted = 33
+numberOf named.Repeated = 34
+numberOf named.NameSize = 35
+numberOf named.DataSize = 36
+numberOf named.Depth = 37
+numberOf named.Subkeys = 38
+numberOf named.HiveSize = 39
 
 -- "Each refusal is a number and a place, here an offset in the bins data (0 unless stated)."
 abbrev pub flaw : Fault → Offset → Flaw

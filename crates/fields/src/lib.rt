@@ -264,6 +264,26 @@ pub enum Fault {
     Security,
     // 29: a value with the name of one before it in its key
     Namesake,
+    // 30: a frame that is not laid out as one
+    NoFrame,
+    // 31: a value after a subkey
+    ValueLate,
+    // 32: not one balanced root key
+    Unbalanced,
+    // 33: a subkey's name not above its elder sibling's
+    Unsorted,
+    // 34: a value with an earlier namesake in its key
+    Repeated,
+    // 35: a name of no characters, of too many, or with a backslash
+    NameSize,
+    // 36: data over 1,048,576 bytes
+    DataSize,
+    // 37: a key at level 513
+    Depth,
+    // 38: subkey 65,536 of a key
+    Subkeys,
+    // 39: bins size over the limit
+    HiveSize,
 }
 
 impl Fault {
@@ -300,6 +320,16 @@ impl Fault {
             Fault::NotIn => 27,
             Fault::Security => 28,
             Fault::Namesake => 29,
+            Fault::NoFrame => 30,
+            Fault::ValueLate => 31,
+            Fault::Unbalanced => 32,
+            Fault::Unsorted => 33,
+            Fault::Repeated => 34,
+            Fault::NameSize => 35,
+            Fault::DataSize => 36,
+            Fault::Depth => 37,
+            Fault::Subkeys => 38,
+            Fault::HiveSize => 39,
         }
     }
 }

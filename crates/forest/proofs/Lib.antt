@@ -1,0 +1,15 @@
+pub mod Bytes
+pub mod Wide
+pub mod Lowest
+pub mod Judge
+pub mod Frames
+pub mod Shapes
+pub mod Back
+pub mod Tests
+pub mod Growing
+pub mod Written
+pub mod Parses
+pub mod Exactly
+pub mod ReadBack
+pub mod Unique
+pub mod First

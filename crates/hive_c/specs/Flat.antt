@@ -27,6 +27,8 @@ use Rattle.export.specs.declared.Ran.{Ran}
 use Rattle.export.specs.declared.Ran.the-variants as ran
 use Rattle.export.specs.declared.Stepped.{Stepped as Framed}
 use Rattle.export.specs.declared.Stepped.the-variants as frame
+use Rattle.answers.specs.declared.Built.{Built}
+use Rattle.answers.specs.declared.Built.the-variants as built
 use Rattle.recovery.specs.declared.Started.{Started}
 use Rattle.recovery.specs.declared.Started.the-variants as start
 use Rattle.recovery.specs.declared.Stepped.{Stepped}
@@ -53,6 +55,7 @@ use Rattle.hive_c.specs.declared.HiveMember.{HiveMember}
 use Rattle.hive_c.specs.declared.HiveWalk.{HiveWalk}
 use Rattle.hive_c.specs.declared.HiveFrame.{HiveFrame}
 use Rattle.hive_c.specs.declared.HiveExport.{HiveExport}
+use Rattle.hive_c.specs.declared.HiveBuilt.{HiveBuilt}
 use Rattle.hive_c.specs.declared.HiveRemnant.{HiveRemnant}
 use Rattle.hive_c.specs.declared.HiveRows.{HiveRows}
 use Rattle.hive_c.specs.declared.HiveRecovery.{HiveRecovery}
@@ -158,6 +161,14 @@ abbrev pub exportIn : Ran → Cursor → HiveExport
 exportIn (ran.Written p) c = exportWith (granted 0) 2 (p .next) (p .frames) (p .bytes)
 exportIn ran.Done c = exportWith (granted 0) 1 c 0 0
 exportIn (ran.Refused f) c = exportWith (refused f) 0 c 0 0
+
+-- of a hive that is built: "at" is a position in the stream
+abbrev pub builtWith : HiveAnswer → ℕ → ℕ → HiveBuilt
+builtWith a at n = record { answer = a; at = at; length = n }
+
+abbrev pub builtIn : Built → HiveBuilt
+builtIn (built.Done n) = builtWith (granted 0) 0 n
+builtIn (built.Refused u) = builtWith (refused (u .refusal)) (u .at .0) 0
 
 abbrev pub remnantWith : HiveAnswer → ℕ → ℕ → ℕ → ℕ → ℕ → HiveRemnant
 remnantWith a s k name len narrow = record { answer = a; state = s; kind = k; name = name; length = len; narrow = narrow }

@@ -1,4 +1,4 @@
-// The C face of Kiweamotu: checks, reads and repairs Windows registry hives (regf files).
+// The C face of Kiweamotu: checks, reads, repairs and builds Windows registry hives (regf files).
 //
 // Every function here is proved, for every input: what it answers, each byte that it changes, that it reads and writes
 // nothing outside the buffers lent to it, and that it ends. The promise of a function stands above it in words. The exact
@@ -18,7 +18,9 @@
 // the offset of the last key whose record was accepted, HIVE_NO_KEY before there is one: of a child's bad cell or record it
 // is the key that lists it, of 13 to 15 the place, of 17 the deepest key that was found, of 18 to 20 and 29 the key of the
 // value, of 28 the root, or the place where that is a key. In all calls of the repair, and where a value is asked by its offset,
-// it is HIVE_NO_KEY.
+// it is HIVE_NO_KEY. In both calls that build a hive place is 0 and the key is HIVE_NO_KEY: what 30 to 38 name is a byte of the
+// stream, and stands in `at` of a HiveBuilt.
+use answers::Built;
 use export::Begun;
 use export::Cursor;
 use export::Ran;
@@ -56,10 +58,11 @@ ghost use Rattle.listing.specs.Members.{subkeyAnswer, valueAnswer, infoAt, copy
 ghost use Rattle.walk.specs.Events.{keepsCount};
 ghost use Rattle.walk.specs.Steps.{beginAnswer, beginLevels, stepAnswer, stepLevels};
 ghost use Rattle.export.specs.Answers.{stepAnswer as frameAnswer, stepOut, beginAnswer as exportAnswer, beginLevels as exportLevels, runAnswer, runOut, runLevels};
+ghost use Rattle.answers.specs.Answers.{measureAnswer, buildAnswer, buildOut};
 ghost use Rattle.recovery.specs.Calls.{startAnswer, pageAnswer, pageHive, closeAnswer, closeHive, nextAnswer};
 ghost use Rattle.recovery.specs.AtOnce.{allAnswer, allHive, markAnswer, markedAnswer, markedMap, factsAnswer as logAnswer};
 ghost use Rattle.remnants.specs.Remnants.{kindWord, remnantAnswer, rowsAnswer, rowsOut};
-ghost use Rattle.hive_c.specs.Flat.{remnantIn, rowsIn, walkWith, walkIn, frameIn, exportWith, begunIn, exportIn, cursorAt, granted as grantedOf, refused as refusedOf, reportIn, keyIn, formOf, valueIn, copyIn, narrowIn, memberIn, factsIn, startIn, stepIn, pageIn, markIn, mapIn, logIn};
+ghost use Rattle.hive_c.specs.Flat.{remnantIn, rowsIn, walkWith, walkIn, frameIn, exportWith, begunIn, exportIn, cursorAt, builtIn, granted as grantedOf, refused as refusedOf, reportIn, keyIn, formOf, valueIn, copyIn, narrowIn, memberIn, factsIn, startIn, stepIn, pageIn, markIn, mapIn, logIn};
 
 // The states: of an answer that goes on or ends, of a walk, of an export, and of a step of the repair.
 const REFUSED: u64 = 0;
@@ -98,7 +101,8 @@ const NO_KEY: u32 = 0xffff_ffff;
 // Part of every answer. number: 0, or the refusal's number. place: the refusal's place. key: the refusal's key, else
 // HIVE_NO_KEY. value: the offset of the key or value that hive_find_key, hive_quick_key, hive_nth_subkey, hive_nth_value,
 // hive_key_at or hive_next_remnant found, or of the key that hive_walk_begin or hive_walk_step opens or closes, else 0.
-// Where number is not 0, every other field of the answer but place, key, a walk's depth and an export's depth and due is 0.
+// Where number is not 0, every other field of the answer but place, key, a walk's depth, an export's depth and due and a
+// HiveBuilt's at is 0.
 #[repr(C)]
 pub struct HiveAnswer {
     pub number: u32,
@@ -195,6 +199,16 @@ pub struct HiveExport {
     pub due: u64,
     pub frames: u64,
     pub bytes: u64,
+}
+
+// What a stream makes. at: for 30 to 38 where in the stream the frame at fault starts; its end where a key stays open; else 0. It
+// is a position in the stream, of 64 bits, and neither an offset nor a place in a hive. length: how many bytes the hive has, 4096
+// and its bins size; 0 where number is not 0.
+#[repr(C)]
+pub struct HiveBuilt {
+    pub answer: HiveAnswer,
+    pub at: u64,
+    pub length: u64,
 }
 
 // A key or value record that deletion left in a free cell. state: HIVE_REFUSED, HIVE_NO_MORE or HIVE_THERE; then answer.value is
@@ -794,6 +808,55 @@ pub extern "C" fn hive_export_run(
 {
     let c = Cursor { depth, due };
     ran(export::run(hive, levels, c, out), c)
+}
+
+fn made(b: Built) -> HiveBuilt
+    ensures { λ r. ⌜ r ≡ builtIn b ⌝ }
+{
+    match b {
+        Built::Done(n) => HiveBuilt {
+            answer: granted(0),
+            at: 0,
+            length: n as u64,
+        },
+        Built::Refused(u) => {
+            let f = u.refusal;
+            HiveBuilt {
+                answer: refused(f),
+                at: u.at.0 as u64,
+                length: 0,
+            }
+        }
+    }
+}
+
+// How long the hive is that hive_build would make of a stream and a descriptor of so many bytes: what hive_build answers with room
+// enough. Lend so many bytes. Refuses 30 to 39, as hive_build does. Nothing is written.
+#[no_mangle]
+pub extern "C" fn hive_build_size(stream: &[u8], descriptor_len: usize) -> HiveBuilt
+    ensures { λ r. ⌜ r ≡ builtIn (measureAnswer (now (stream .entry)) «descriptor_len») ⌝ }
+{
+    made(build::measure(stream, descriptor_len))
+}
+
+// Makes a hive of version 1.5 from a stream of frames, as an export writes them (docs/FRAMES.md), and one security descriptor,
+// which all keys share. Every byte of it is laid down in docs/LAYOUT.md; nothing depends on a clock. With number 0 the first
+// `length` bytes of out are the hive, and those behind them stay: hive_check accepts it, and its export is the stream again, byte
+// for byte. The descriptor is not judged and may be empty.
+//
+// Refuses frame by frame, and of one frame the lowest number: 30, no frame is laid out there; 31, a value after a subkey; 32,
+// outside of the one root key, or the stream ends while a key is open or has no frame; 33, a subkey's name that is not above that
+// of the subkey before it (with a to z, 0xE0 to 0xFE except 0xF7, and 0xFF as capitals); 34, a value with the name of one before
+// it in its key, compared in the same way; 35, a key's name of no characters, of more than 255 or with a backslash, or a value's of
+// more than 16,383; 36, data of more than 1,048,576 bytes; 37, a key at level 513, the root being 0; 38, subkey 65,536 of a key.
+// After all frames: 39, the bins size would be over 2,147,479,552; then 20, the hive is longer than out. A refusal leaves out as it
+// was.
+#[no_mangle]
+pub extern "C" fn hive_build(stream: &[u8], descriptor: &[u8], out: &mut [u8]) -> HiveBuilt
+    ensures { λ r. ⌜ r ≡ builtIn (buildAnswer (now (stream .entry)) (now (descriptor .entry)) (length (now (out .entry)))) ⌝ }
+    ensures { λ _. ⌜ now (out .exit) ≡ buildOut (now (stream .entry)) (now (descriptor .entry)) (now (out .entry)) ⌝ }
+{
+    made(build::build(stream, descriptor, out))
 }
 
 fn kind_of(k: Kind) -> u64

@@ -20,7 +20,7 @@ use Rattle.base.proofs.Tests.{by-clustering}
 use Rattle.cells.proofs.Parts.{u32-part}
 use Rattle.tree.specs.Tree.{hiveOf}
 use Rattle.forest.specs.Forest.{Forest}
-use Rattle.layout.specs.Layout.{cellSize, zeros, cellsOf, nothing, itemAt, usedOf, binsFor, itemRecord, stampOf, binHeader, blockFront, baseBlock, binsOf, builtHive}
+use Rattle.layout.specs.Layout.{cellSize, zeros, cellsOf, nothing, itemAt, usedOf, binsFor, itemRecord, binHeader, blockFront, baseBlock, binsOf, builtHive}
 use Rattle.layout.proofs.Bytes.{Small, small-cons, small-zeros, small-word, small-long}
 use Rattle.layout.proofs.Sizes.{zeros-length, cell-length, row-length, cells-size, item-length, bins-whole, left-eights, free-length}
 

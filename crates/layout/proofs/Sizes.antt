@@ -136,7 +136,7 @@ data-size x at = by (leb (length x) 4) (leb (length x) segmentSize) refl
 
 -- ---- a value
 
-field-length : (x : List ℕ) (next : ℕ) → length (dataField x next) ≡ 8
+pub field-length : (x : List ℕ) (next : ℕ) → length (dataField x next) ≡ 8
 unfolding dataField
 field-length x next = by (leb (length x) 4) refl
   where

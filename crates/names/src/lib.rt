@@ -212,8 +212,9 @@ pub fn is_same(a: &[u8], a_narrow: bool, b: &[u8], b_narrow: bool) -> bool
     true
 }
 
-// A short name's characters, one by one.
-fn has_in_turn(s: &[u8], narrow: bool) -> bool
+// "A name has .. no backslash", its characters one by one: of a short name, and of one in a stream, for `has_backslash` is laid into its caller as long as it
+// has but one.
+pub fn has_in_turn(s: &[u8], narrow: bool) -> bool
     ensures { λ r. ⌜ r ≡ hasCode backslash (codes narrow (now (s .entry))) ⌝ }
 {
     let end = count(s, narrow);

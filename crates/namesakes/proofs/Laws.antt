@@ -21,6 +21,7 @@ use Rattle.names.specs.declared.Order.the-variants.{Same}
 use Rattle.names.specs.Comparison.{compare}
 use Rattle.names.proofs.By_code.{by-order}
 use Rattle.names.proofs.LawsOrder.{same-symmetric, same-transitive, name-same, same-name}
+use Rattle.repeats.specs.Repeats.{First}
 use Rattle.records.specs.declared.Key.{Key}
 use Rattle.records.specs.declared.Name.{Name}
 use Rattle.records.specs.Keys.{NameIn, codesOf}
@@ -33,7 +34,7 @@ use Rattle.values.proofs.Rooms.{entries-length}
 use Rattle.values.proofs.LawsLists.{values-listed, values-room, list-values}
 use Rattle.values.proofs.LawsValues.{name-inside}
 use Rattle.namesakes.specs.Namesakes.{valueName, areNamesakes, isRepeat, repeatFault, namesakeFault, calledAt, twins, Distinct, Earlier, Repeats}
-use Rattle.namesakes.specs.Steps.{NamesLie, First}
+use Rattle.namesakes.specs.Steps.{NamesLie, called}
 use Rattle.namesakes.proofs.Positions.{repeatAt, none-repeats, one-repeats, sound-at, Stands, flawed-at, repeat-of, of-repeat}
 
 -- a repeat at a position, and the positions before it
@@ -65,12 +66,16 @@ unfolding twins areNamesakes
 twins-turned d vs i j e = name-same _ _ (same-symmetric _ _ (same-name _ _ e))
 
 -- the lowest position of all answers
-module _ (d : List ℕ) (vs : List Offset) (n r : ℕ) (is : length vs ≡ n) (f : First d vs n r) where
+module _ (d : List ℕ) (vs : List Offset) (n r : ℕ) (is : length vs ≡ n) (f : First (called d vs) n r) where
   lower : (j : ℕ) → j < r → repeatAt d [] vs j ≡ false
+  unfolding twins areNamesakes
   lower j l = of-clear d vs j (omega (arith, f .within)) (λ i b. f .clear i j b l)
 
   pub first-flaw : r < n → repeatFault d [] vs ≡ Flawed (flaw Namesake (getD vs r nowhere))
-  first-flaw l = one-repeats d [] vs r (omega arith) lower (of-earlier d vs r (omega arith) (f .found l))
+  unfolding twins areNamesakes
+  first-flaw l =
+      let e = f .found l in
+      one-repeats d [] vs r (omega arith) lower (of-earlier d vs r (omega arith) (record { at = e .at; before = e .before; same = e .same }))
 
   pub first-none : n ≤ r → repeatFault d [] vs ≡ Sound
   first-none l = none-repeats d [] vs (λ j k. lower j (omega arith))
@@ -107,10 +112,15 @@ module _ (d : List ℕ) (k : Key) where
           }
 
   pub told-namesake : {v : Offset} → Repeats d k v → namesakeFault d k ≡ Flawed (flaw Namesake v)
-  unfolding namesakeFault
+  unfolding namesakeFault twins areNamesakes
   told-namesake x =
+      let e = x .earlier in
       rw (x .here)
-      (first-flaw d (valuesOf d k) _ (x .at) refl (record { within = omega (arith, x .inside); clear = x .lowest; found = λ l. x .earlier }) (x .inside))
+      (first-flaw d (valuesOf d k) _ (x .at) refl (record {
+        within = omega (arith, x .inside);
+        clear = x .lowest;
+        found = λ l. record { at = e .at; before = e .before; same = e .same };
+      }) (x .inside))
 
   -- so two positions whose values have one name are one
   pub only-one : Distinct d k → (i j : ℕ) → i < length (valuesOf d k) → j < length (valuesOf d k) → twins d (valuesOf d k) i j ≡ true → i ≡ j
@@ -125,7 +135,7 @@ module _ (d : List ℕ) (k : Key) where
     same-values : valuesOf d k ≡ entriesOf d e
     same-values = values-listed d k ∙ ap (entriesOf d) is
 
-    module _ (r : ℕ) (f : First d (entriesOf d e) (e .count) r) where
+    module _ (r : ℕ) (f : First (called d (entriesOf d e)) (e .count) r) where
       pub flaw-at : r < e .count → {v : Offset} → v ≡ getD (entriesOf d e) r nowhere → namesakeFault d k ≡ Flawed (flaw Namesake v)
       unfolding namesakeFault
       flaw-at l at = ap (repeatFault d []) same-values ∙ rw at (first-flaw d (entriesOf d e) (e .count) r (entries-length d e) f l)

@@ -1,6 +1,3 @@
 pub mod Readings
 pub mod Positions
 pub mod Laws
-pub mod Hashes
-pub mod Tables
-pub mod Blocks

@@ -12,11 +12,13 @@ ghost use lib.ListN.{length, getD};
 ghost use Rattle.fields.specs.Faults.{nowhere};
 ghost use Rattle.cells.specs.Named.{dataAt};
 ghost use Rattle.chains.specs.Chains.{Chained};
-ghost use Rattle.records.specs.Keys.{NameIn, codesOf};
+ghost use Rattle.repeats.specs.Repeats.{First, Blocked, metIn, later};
+ghost use Rattle.repeats.specs.Tables.{Empty, Taken};
+ghost use Rattle.records.specs.Keys.{codesOf};
 ghost use Rattle.values.specs.Entries.{entriesOf};
 ghost use Rattle.values.specs.Lists.{valueEntries};
-ghost use Rattle.namesakes.specs.Namesakes.{valueName, calledAt, namesakeFault};
-ghost use Rattle.namesakes.specs.Steps.{NamesLie, metIn, Ready, Empty, Taken, Blocked, First};
+ghost use Rattle.namesakes.specs.Namesakes.{valueName, namesakeFault};
+ghost use Rattle.namesakes.specs.Steps.{NamesLie, called, Ready};
 
 // The name of a value that was tested before.
 fn name_at(bins: &[u8], v: Offset) -> Name
@@ -54,7 +56,7 @@ fn is_met(
     heads: &[u32],
 ) -> bool
     requires { ⌜ Ready (now bins) e s n x g (now keys) (now older) (now heads) ⌝ }
-    ensures { λ r. ⌜ r ≡ metIn (now (bins .entry)) (entriesOf (now (bins .entry)) e) s n (codesOf (now (bins .entry)) x) ⌝ }
+    ensures { λ r. ⌜ r ≡ metIn (later (called (now (bins .entry)) (entriesOf (now (bins .entry)) e)) s) n (codesOf (now (bins .entry)) x) ⌝ }
 {
     let mut p = chains::find(keys, older, heads, n, g);
     while p != 0 {
@@ -72,7 +74,7 @@ fn is_met(
 fn take_in(keys: &mut [u32], older: &mut [u32], heads: &mut [u32], n: usize, g: u32) -> usize
     requires { ⌜ Chained (now keys) (now older) (now heads) n ⌝ }
     requires { ⌜ (length (now keys) ≤ length (now older)) × (length (now keys) + 1 < 4294967296) ⌝ }
-    ensures { λ r. ⌜ Taken (now (keys .entry)) n g (now (keys .exit)) r ⌝ }
+    ensures { λ r. ⌜ Taken (length (now (keys .entry))) (now (keys .entry)) n g (now (keys .exit)) r ⌝ }
     ensures { λ r. ⌜ Chained (now (keys .exit)) (now (older .exit)) (now (heads .exit)) r ⌝ }
 {
     if n < keys.len() {
@@ -96,7 +98,7 @@ fn in_block(
     requires { ⌜ NamesLie (now bins) e ⌝ }
     requires { ⌜ best ≤ e .count ⌝ }
     requires { ⌜ Empty (now keys) (now older) (now heads) ⌝ }
-    ensures { λ r. ⌜ Blocked (now (bins .entry)) (entriesOf (now (bins .entry)) e) s (length (now (keys .entry))) best r ⌝ }
+    ensures { λ r. ⌜ Blocked (called (now (bins .entry)) (entriesOf (now (bins .entry)) e)) s (length (now (keys .entry))) best r ⌝ }
 {
     let mut j = s;
     let mut n: usize = 0;
@@ -117,7 +119,7 @@ fn in_block(
 fn block(bins: &[u8], e: Entries, s: usize, best: usize) -> usize
     requires { ⌜ NamesLie (now bins) e ⌝ }
     requires { ⌜ best ≤ e .count ⌝ }
-    ensures { λ r. ⌜ Blocked (now (bins .entry)) (entriesOf (now (bins .entry)) e) s 4096 best r ⌝ }
+    ensures { λ r. ⌜ Blocked (called (now (bins .entry)) (entriesOf (now (bins .entry)) e)) s 4096 best r ⌝ }
 {
     let mut keys = [0u32; 4096];
     let mut older = [0u32; 4096];
@@ -128,7 +130,7 @@ fn block(bins: &[u8], e: Entries, s: usize, best: usize) -> usize
 // One block after the other: the lowest position whose value has a namesake before it, or the count.
 fn many(bins: &[u8], e: Entries) -> usize
     requires { ⌜ NamesLie (now bins) e ⌝ }
-    ensures { λ r. ⌜ First (now (bins .entry)) (entriesOf (now (bins .entry)) e) (e .count) r ⌝ }
+    ensures { λ r. ⌜ First (called (now (bins .entry)) (entriesOf (now (bins .entry)) e)) (e .count) r ⌝ }
 {
     let mut best = block(bins, e, 0, e.count);
     let mut s: usize = 4096;
@@ -143,7 +145,7 @@ fn many(bins: &[u8], e: Entries) -> usize
 fn is_repeat(bins: &[u8], e: Entries, j: usize) -> bool
     requires { ⌜ NamesLie (now bins) e ⌝ }
     requires { ⌜ j < e .count ⌝ }
-    ensures { λ r. ⌜ r ≡ metIn (now (bins .entry)) (entriesOf (now (bins .entry)) e) 0 j (calledAt (now (bins .entry)) (getD (entriesOf (now (bins .entry)) e) j nowhere)) ⌝ }
+    ensures { λ r. ⌜ r ≡ metIn (called (now (bins .entry)) (entriesOf (now (bins .entry)) e)) j (called (now (bins .entry)) (entriesOf (now (bins .entry)) e) j) ⌝ }
 {
     let x = name_of(bins, e, j);
     let mut i: usize = 0;
@@ -160,7 +162,7 @@ fn is_repeat(bins: &[u8], e: Entries, j: usize) -> bool
 // A few values need no table.
 fn few(bins: &[u8], e: Entries) -> usize
     requires { ⌜ NamesLie (now bins) e ⌝ }
-    ensures { λ r. ⌜ First (now (bins .entry)) (entriesOf (now (bins .entry)) e) (e .count) r ⌝ }
+    ensures { λ r. ⌜ First (called (now (bins .entry)) (entriesOf (now (bins .entry)) e)) (e .count) r ⌝ }
 {
     let end = e.count;
     let mut j: usize = 0;
@@ -176,7 +178,7 @@ fn few(bins: &[u8], e: Entries) -> usize
 // The lowest position whose value has a namesake before it, or the count.
 fn first_repeated(bins: &[u8], e: Entries) -> usize
     requires { ⌜ NamesLie (now bins) e ⌝ }
-    ensures { λ r. ⌜ First (now (bins .entry)) (entriesOf (now (bins .entry)) e) (e .count) r ⌝ }
+    ensures { λ r. ⌜ First (called (now (bins .entry)) (entriesOf (now (bins .entry)) e)) (e .count) r ⌝ }
 {
     if e.count <= 16 {
         return few(bins, e);

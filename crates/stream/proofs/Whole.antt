@@ -154,7 +154,7 @@ module _ (d : List ℕ) (minor : ℕ) where
   unfolding ownFrames
   own-many k = ap suc (value-frames k (valuesOf d (keyOf d k)) ∙ values-many k)
 
-  values-append : (xs ys : List Offset) → valuesIn d (xs ++ ys) ≡ valuesIn d xs + valuesIn d ys
+  pub values-append : (xs ys : List Offset) → valuesIn d (xs ++ ys) ≡ valuesIn d xs + valuesIn d ys
   unfolding valuesIn
   values-append [] ys = omega arith
   values-append (x ∷ xs) ys = let r = values-append xs ys in omega arith

@@ -10,7 +10,7 @@ use Rattle.security.specs.Items.{itemIn}
 use Rattle.forest.specs.Forest.{Forest, keyCount}
 use Rattle.layout.specs.Layout.{zeros, itemAt, itemRecord}
 use Rattle.written.proofs.Bytes.{word}
-use Rattle.written.proofs.Sizes.{keys-many}
+use Rattle.layout.proofs.Bounds.{keys-hold}
 
 module _ (f : Forest) (sd : List ℕ) (k : ℕ) where
   abbrev Cell : List ℕ
@@ -31,7 +31,7 @@ module _ (f : Forest) (sd : List ℕ) (k : ℕ) where
 
     count-read : u32At Cell 12 ≡ keyCount f
     unfolding itemRecord le16 le32 u16At u32At
-    count-read = let c = keys-many f in word (keyCount f) (omega arith)
+    count-read = let c = keys-hold f in word (keyCount f) (omega arith)
 
     size-read : u32At Cell 16 ≡ length sd
     unfolding itemRecord le16 le32 u16At u32At

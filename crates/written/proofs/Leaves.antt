@@ -9,6 +9,7 @@ use Rattle.fields.specs.Number.{u16At, u32At, le16, le32}
 use Rattle.fields.specs.Bytes.{sameBytes, standsAt}
 use Rattle.fields.proofs.Little.{length-le32}
 use Rattle.names.specs.Hashing.{hashOf}
+use Rattle.names.proofs.LawsHash.{hash-fits}
 use Rattle.records.specs.declared.Child.{Child}
 use Rattle.records.specs.Facts.{Signed}
 use Rattle.records.specs.Lists as lists
@@ -18,7 +19,6 @@ use Rattle.layout.specs.Layout.{zeros, stored, sizeOf, besideAt, elements, leaf
 use Rattle.layout.proofs.Sizes.{cell-room, zeros-length, leaf-length}
 use Rattle.written.specs.Written.{leafRecord, childrenAt}
 use Rattle.written.proofs.Bytes.{half, word-there}
-use Rattle.written.proofs.Names.{hash-fits}
 
 -- the elements, one taken off at a time
 module _ (r : List ℕ) (no-li : lists.isLi r ≡ false) (no-lf : lists.isLf r ≡ false) (is-lh : lists.isLh r ≡ true) where

@@ -12,7 +12,7 @@ use Rattle.forest.specs.Forest.{Item}
 use Rattle.layout.specs.Layout.{zeros, valueSize, valuesSize, valueOffsets}
 use Rattle.written.specs.Written.{itemsAt}
 use Rattle.written.proofs.Bytes.{word-there}
-use Rattle.written.proofs.Sizes.{value-least}
+use Rattle.layout.proofs.Bounds.{value-least}
 
 -- behind so many bytes
 offsets-behind : (vs : List Item) (at i : ℕ) (p t : List ℕ) → length p ≡ i → at + valuesSize vs ≤ 4294967296

@@ -1,33 +1,25 @@
 -- A name as it is stored, read back: one byte per character exactly when every code is below 256, else in UTF-16LE.
-use Prim.Native.Nat.{ℕ, _+_, _*_, _%_, _<_, _≤_}
+use Prim.Native.Nat.{ℕ, _*_, _%_, _<_, _≤_}
 use native.Mathlib.Omega.{arith}
-use mathlib.Core.Path.{_≡_, refl, ap, ap₂, _∙_}
+use mathlib.Core.Path.{_≡_, refl, ap, _∙_}
 use mathlib.Core.Bool.{Bool, true, false, cond}
 use mathlib.Core.Logic.{⊎-elim}
-use mathlib.Core.List.{List, [], _∷_, List·Memᴰ·head, List·Memᴰ·tail, List·Memᴰ·cases-cons, List·Memᴰ·not-nil}
+use mathlib.Core.List.{List, [], _∷_, List·Memᴰ·cases-cons, List·Memᴰ·not-nil}
 use lib.Dec.{ltb}
 use lib.ListN.{length}
 use borrow.Author.Tests.{ltb-true, eq-eqb}
 use Rattle.fields.specs.Number.{le16}
 use Rattle.fields.proofs.Bools.{and-inv}
 use Rattle.names.specs.Codes.{codes, charactersIn}
-use Rattle.names.specs.Upper_case.{uppers}
-use Rattle.names.specs.Hashing.{mixed, mixedAll, hashOf}
 use Rattle.names.proofs.LawsCodes.{counted}
 use Rattle.records.specs.Keys.{isWhole}
 use Rattle.stream.specs.Stream.{wide}
 use Rattle.stream.proofs.Laws.{length-wide}
 use Rattle.forest.specs.Allowed.{AllBelow}
+use Rattle.forest.proofs.Wide.{codes-wide}
 use Rattle.layout.specs.Layout.{isNarrow, stored}
-use Rattle.written.proofs.Bytes.{half}
 
 -- bytes and codes, element by element
-pub below-tail : {n c : ℕ} {cs : List ℕ} → AllBelow n (c ∷ cs) → AllBelow n cs
-below-tail f x i = f x (List·Memᴰ·tail i)
-
-pub below-head : {n c : ℕ} {cs : List ℕ} → AllBelow n (c ∷ cs) → c < n
-below-head {c = c} f = f c (List·Memᴰ·head refl)
-
 pub below-cons : {n c : ℕ} {cs : List ℕ} → c < n → AllBelow n cs → AllBelow n (c ∷ cs)
 below-cons p f x i = ⊎-elim (λ e. omega arith) (f x) (List·Memᴰ·cases-cons i)
 
@@ -35,11 +27,6 @@ pub below-nil : {n : ℕ} → AllBelow n []
 below-nil x i = absurd (List·Memᴰ·not-nil i)
 
 -- ---- UTF-16LE
-
-codes-wide : (x : List ℕ) → AllBelow 65536 x → codes false (wide x) ≡ x
-unfolding codes wide le16
-codes-wide [] f = refl
-codes-wide (c ∷ cs) f = ap₂ (λ (a : ℕ) (s : List ℕ). a ∷ s) (half c (below-head f)) (codes-wide cs (below-tail f))
 
 below-wide : (x : List ℕ) → AllBelow 256 (wide x)
 unfolding wide le16
@@ -109,14 +96,3 @@ module _ (x : List ℕ) where
 
     pub stored-characters : charactersIn (length (stored x)) (isNarrow x) ≡ length x
     stored-characters = counted (isNarrow x) (stored x) ∙ ap length stored-codes
-
--- ---- the hash: "wrapping at 32 bits"
-
-mixed-fits : (h : ℕ) (cs : List ℕ) → h < 4294967296 → mixedAll h cs < 4294967296
-unfolding mixedAll mixed
-mixed-fits h [] p = p
-mixed-fits h (c ∷ cs) p = mixed-fits ((37 * h + c) % 4294967296) cs (omega arith)
-
-pub hash-fits : (x : List ℕ) → hashOf x < 4294967296
-unfolding hashOf
-hash-fits x = mixed-fits 0 (uppers x) (omega arith)

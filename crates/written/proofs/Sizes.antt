@@ -1,16 +1,13 @@
--- No number of a key's record is too large where the key's cells end inside 32 bits: there are not more values, subkeys and keys than bytes.
+-- No number of a key's record is too large where the key's cells end inside 32 bits: there are not more values and subkeys than bytes.
 use Prim.Native.Nat.{ℕ, _+_, _≤_}
 use native.Mathlib.Omega.{arith}
 use mathlib.Core.List.{List, [], _∷_}
 use lib.ListN.{length}
-use Rattle.forest.specs.Forest.{Item, Forest, none, more, countOf, keyCount}
+use Rattle.forest.specs.Forest.{Item, Forest, none, more, countOf}
 use Rattle.layout.specs.Layout.{stored, valueSize, valuesSize, sizeOf}
 use Rattle.layout.proofs.Sizes.{cell-room}
+use Rattle.layout.proofs.Bounds.{value-least}
 use Rattle.written.specs.Written.{nextAt}
-
-pub value-least : (v : Item) → 24 ≤ valueSize v
-unfolding valueSize
-value-least v = let c = cell-room (20 + length (stored (v .name))) in omega arith
 
 -- the data's cells are part of a value's
 pub next-inside : (v : Item) (at : ℕ) → nextAt v at ≤ at + valueSize v
@@ -26,12 +23,3 @@ pub subkeys-many : (f : Forest) → countOf f ≤ sizeOf f
 unfolding sizeOf countOf
 subkeys-many none = omega arith
 subkeys-many (more s x vs b r) = let c = cell-room (76 + length (stored x)) in let e = subkeys-many r in omega arith
-
-pub keys-many : (f : Forest) → keyCount f ≤ sizeOf f
-unfolding sizeOf keyCount
-keys-many none = omega arith
-keys-many (more s x vs b r) =
-    let c = cell-room (76 + length (stored x)) in
-    let d = keys-many b in
-    let e = keys-many r in
-    omega arith

@@ -1,7 +1,7 @@
 use Rattle.hive_c.specs.Flat.{exportWith, exportIn}
 use Rattle.hive_c.specs.declared.HiveAnswer.{HiveAnswer}
 use Rattle.export.specs.declared.Ran.{Ran}
-use mathlib.Core.Path.{_≡_, refl, sym, ap, ap₂, _∙_, subst}
+use mathlib.Core.Path.{sym, ap, _∙_}
 use borrow.Author.Needs.{needs}
 use Rattle.hive_c.proofs.ran.Statement.{statement}
 use Rattle.hive_c.proofs.ran.Tie as tie

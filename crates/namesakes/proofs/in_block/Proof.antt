@@ -1,22 +1,24 @@
 use native.Mathlib.Omega.{arith}
 use Prim.Native.Nat.{_-_}
-use mathlib.Core.Path.{refl, sym, ap, _∙_}
-use Rattle.values.specs.Entries.{entriesOf}
+use mathlib.Core.Path.{sym, ap, _∙_}
 use Rattle.names.specs.Hashing.{hashOf}
-use Rattle.namesakes.specs.Steps.{metIn}
-use Rattle.namesakes.proofs.Blocks.{Scanning, scan-start, scan-end, called-is, scan-ready, scan-found, scan-on}
+use Rattle.repeats.specs.Repeats.{metIn, later}
+use Rattle.repeats.proofs.Scans.{Scanning, scan-start, scan-end, scan-tells, scan-found, scan-on}
+use Rattle.values.specs.Entries.{entriesOf}
+use Rattle.namesakes.specs.Steps.{called}
+use Rattle.namesakes.proofs.Readings.{read-name}
 use Rattle.namesakes.proofs.in_block.Statement.{statement}
 use Rattle.namesakes.proofs.in_block.Tie as tie
 
 abbrev Inv-loop : tie.InvT-loop
 Inv-loop bins e s best keys₀ older₀ heads₀ j₀ n₀ keys older heads j n =
-    Scanning bins (entriesOf bins e) s best keys₀ older₀ heads₀ keys older heads j n
+    Scanning (called bins (entriesOf bins e)) s keys₀ older₀ heads₀ keys older heads j n
 
 abbrev μ-loop : tie.MeasureT-loop
 μ-loop bins e s best keys₀ older₀ heads₀ j₀ n₀ keys older heads j n = best - j
 
 loop-holds : tie.Need-loop-holds Inv-loop μ-loop
-loop-holds c = scan-start _ _ _ _ _ _ _ (c .before .before .before .before .pre .1 .1)
+loop-holds c = let a = c .before .before .before .before .args in scan-start (called (a .bins .now) (entriesOf (a .bins .now) (a .e))) (a .s) _ _ _ (c .before .before .before .before .pre .1 .1)
 
 name-of-requires : tie.Need-name-of-requires Inv-loop μ-loop
 name-of-requires c κs = (c .before .before .before .before .before .before .pre .0, omega (arith, c .before .before .before .before .before .before .pre .1 .0, c .loop-test .taken))
@@ -26,7 +28,18 @@ hash-of-requires c κs = rw (c .name-of .ensures) (c .before .before .before .be
 
 is-met-requires : tie.Need-is-met-requires Inv-loop μ-loop
 is-met-requires c κs =
-    scan-ready _ _ _ _ _ _ _ _ _ _ _ _ (c .before .before .before .before .before .before .loop .inv) (c .before .before .before .before .name-of .ensures) _ refl (c .before .before .before .before .before .before .before .before .before .before .before .pre .0) (c .before .before .before .before .before .before .before .before .before .before .before .pre .1 .0) (c .before .before .before .before .before .loop-test .taken) (c .before .before .before .hash-of .ensures)
+    let a = c .before .before .before .before .before .before .before .before .before .before .before .args in
+    let q = c .before .before .before .before .before .before .before .before .before .before .before .pre in
+    let k = c .before .before .before .before .before .before .loop .inv in
+    let x = c .before .before .before .before .name-of in
+    let l = c .before .before .before .before .before .loop-test .taken in
+    record {
+      names = q .0;
+      inside = omega (arith, k .taken, l, q .1 .0);
+      name = rw (x .ensures) (q .0 .lie _ (omega (arith, l, q .1 .0)));
+      table = k .table;
+      telling = scan-tells (called (a .bins .now) (entriesOf (a .bins .now) (a .e))) (a .s) _ _ _ _ _ _ _ _ k _ (c .before .before .before .hash-of .ensures);
+    }
 
 same-length : tie.Need-same-length Inv-loop μ-loop
 same-length c = c .before .before .before .before .before .before .before .before .loop .inv .keys-same
@@ -39,9 +52,12 @@ same-length-3 c = c .before .before .before .before .before .before .before .bef
 
 returns : tie.Need-returns Inv-loop μ-loop
 returns c =
-    let k = c .before .before .before .before .before .before .before .before .loop .inv in
-    let i = called-is _ _ _ _ _ _ _ _ _ _ _ _ k (c .before .before .before .before .before .before .name-of .ensures) in
-    scan-found _ _ _ _ _ _ _ _ _ _ _ _ k (c .before .before .before .before .before .before .before .loop-test .taken) (ap (metIn _ _ _ _) (sym i) ∙ sym (c .before .is-met .ensures) ∙ c .if1 .taken)
+    let a = c .before .before .before .before .before .before .before .before .before .before .before .before .before .args in
+    let vs = entriesOf (a .bins .now) (a .e) in
+    let l = c .before .before .before .before .before .before .before .before .loop in
+    let x = c .before .before .before .before .before .before .name-of in
+    scan-found (called (a .bins .now) vs) (a .s) _ _ _ _ _ _ (l .j) (l .n) (l .inv) _ (c .before .before .before .before .before .before .before .loop-test .taken)
+    (ap (metIn (later (called (a .bins .now) vs) (a .s)) (l .n)) (sym (read-name (a .bins .now) vs (l .j) (x .ensures))) ∙ sym (c .before .is-met .ensures) ∙ c .if1 .taken)
 
 take-in-requires : tie.Need-take-in-requires Inv-loop μ-loop
 take-in-requires c κs =
@@ -57,11 +73,14 @@ loop-less c = omega (arith, c .before .before .before .before .before .before .b
 
 loop-again : tie.Need-loop-again Inv-loop μ-loop
 loop-again c =
-    let k = c .before .before .before .before .before .before .before .before .before .before .before .before .before .before .before .before .before .before .loop .inv in
-    let i = called-is _ _ _ _ _ _ _ _ _ _ _ _ k (c .before .before .before .before .before .before .before .before .before .before .before .before .before .before .before .before .name-of .ensures) in
-    let n = ap (metIn _ _ _ _) (sym i) ∙ sym (c .before .before .before .before .before .before .before .before .before .before .before .is-met .ensures) ∙ c .before .before .before .before .before .before .before .before .before .before .if1 .left in
-    scan-on _ _ _ _ _ _ _ _ _ _ _ _ k n (c .before .before .before .before .before .before .before .before .before .before .before .before .before .before .before .hash-of .ensures ∙ ap hashOf i) _ _ _
-    (c .before .before .before .before .before .before .take-in .ensures .0) (c .before .before .before .before .before .before .take-in .ensures .1) (c .before .before .before .before .before .keys .given) (c .before .before .before .older .given) (c .before .heads .given)
+    let a = c .before .before .before .before .before .before .before .before .before .before .before .before .before .before .before .before .before .before .before .before .before .before .before .args in
+    let vs = entriesOf (a .bins .now) (a .e) in
+    let l = c .before .before .before .before .before .before .before .before .before .before .before .before .before .before .before .before .before .before .loop in
+    let i = read-name (a .bins .now) vs (l .j) (c .before .before .before .before .before .before .before .before .before .before .before .before .before .before .before .before .name-of .ensures) in
+    let n = ap (metIn (later (called (a .bins .now) vs) (a .s)) (l .n)) (sym i) ∙ sym (c .before .before .before .before .before .before .before .before .before .before .before .is-met .ensures) ∙ c .before .before .before .before .before .before .before .before .before .before .if1 .left in
+    let t = c .before .before .before .before .before .before .take-in .ensures in
+    scan-on (called (a .bins .now) vs) (a .s) _ _ _ _ _ _ (l .j) (l .n) (l .inv) n (c .before .before .before .before .before .before .before .before .before .before .before .before .before .before .before .hash-of .ensures ∙ ap hashOf i) _ _ _ (t .0) (t .1)
+    (c .before .before .before .before .before .keys .given) (c .before .before .before .older .given) (c .before .heads .given)
 
 same-length-4 : tie.Need-same-length-4 Inv-loop μ-loop
 same-length-4 c = c .before .loop .inv .keys-same
@@ -73,7 +92,9 @@ same-length-6 : tie.Need-same-length-6 Inv-loop μ-loop
 same-length-6 c = c .before .loop .inv .heads-same
 
 returns-2 : tie.Need-returns-2 Inv-loop μ-loop
-returns-2 c = scan-end _ _ _ _ _ _ _ _ _ _ _ _ (c .before .loop .inv) (omega (arith, c .loop-test .left))
+returns-2 c =
+    let a = c .before .before .before .before .before .before .args in
+    scan-end (called (a .bins .now) (entriesOf (a .bins .now) (a .e))) (a .s) _ _ _ _ _ _ _ _ (c .before .loop .inv) _ (omega (arith, c .loop-test .left))
 
 pub in-block-spec : {M : Type 1} → statement M
 in-block-spec =

@@ -1,17 +1,19 @@
 use borrow.Author.Needs.{needs}
 use native.Mathlib.Omega.{arith}
-use Prim.Native.Nat.{_-_}
-use denote.Ref.{now}
+use Prim.Native.Nat.{_+_, _-_}
 use mathlib.Core.Path.{refl, sym, _∙_}
 use lib.ListN.{length}
+use Rattle.repeats.specs.Repeats.{later}
+use Rattle.repeats.proofs.Searches.{hit, none-met, Seeking, seek-start, seek-on, seek-chain, seek-falls}
 use Rattle.records.specs.Keys.{codesOf}
 use Rattle.values.specs.Entries.{entriesOf}
-use Rattle.namesakes.proofs.Tables.{compared, hit, none-met, Seeking, seek-start, seek-on, seek-chain, seek-falls}
+use Rattle.namesakes.specs.Steps.{called}
+use Rattle.namesakes.proofs.Readings.{read-compared}
 use Rattle.namesakes.proofs.is_met.Statement.{statement}
 use Rattle.namesakes.proofs.is_met.Tie as tie
 
 abbrev Inv-loop : tie.InvT-loop
-Inv-loop bins e s n x g keys older heads p₀ p = Seeking bins (entriesOf bins e) s (codesOf bins x) keys g (length heads) n p
+Inv-loop bins e s n x g keys older heads p₀ p = Seeking (later (called bins (entriesOf bins e)) s) (codesOf bins x) keys g (length heads) n p
 
 abbrev μ-loop : tie.MeasureT-loop
 μ-loop bins e s n x g keys older heads p₀ p = p
@@ -20,7 +22,10 @@ find-requires : tie.Need-find-requires Inv-loop μ-loop
 find-requires c κs = c .before .before .before .before .pre .table
 
 loop-holds : tie.Need-loop-holds Inv-loop μ-loop
-loop-holds c = seek-start _ _ _ _ _ _ _ _ (c .before .before .before .before .before .pre .telling) (c .find .ensures)
+loop-holds c =
+    let a = c .before .before .before .before .before .args in
+    let vs = entriesOf (a .bins .now) (a .e) in
+    seek-start (later (called (a .bins .now) vs) (a .s)) _ _ _ _ _ (c .before .before .before .before .before .pre .telling) (c .find .ensures)
 
 sub-name-of : tie.Need-sub-name-of Inv-loop μ-loop
 sub-name-of c = search needs
@@ -37,8 +42,11 @@ is-namesake-requires c κs =
 
 returns : tie.Need-returns Inv-loop μ-loop
 returns c =
+    let a = c .before .before .before .before .before .before .before .before .before .before .args in
+    let vs = entriesOf (a .bins .now) (a .e) in
     let l = c .before .before .before .before .loop in
-    sym (l .inv .left ∙ hit _ _ _ _ (l .p) (c .before .before .before .loop-test .taken) (compared (now (c .before .before .before .before .before .before .before .before .before .before .args .bins)) (entriesOf (now (c .before .before .before .before .before .before .before .before .before .before .args .bins)) (c .before .before .before .before .before .before .before .before .before .before .args .e)) (c .before .before .before .before .before .before .before .before .before .before .args .s) _ (l .p - 1) (c .before .before .name-of .ensures) (c .before .is-namesake .ensures) ∙ c .if1 .taken))
+    sym (l .inv .left ∙ hit (later (called (a .bins .now) vs) (a .s)) _ (l .p) (c .before .before .before .loop-test .taken)
+    (read-compared (a .bins .now) vs (a .s + (l .p - 1)) _ (c .before .before .name-of .ensures) (c .before .is-namesake .ensures) ∙ c .if1 .taken))
 
 sub-q : tie.Need-sub-q Inv-loop μ-loop
 sub-q c = search needs
@@ -54,19 +62,32 @@ cast-q c = omega (arith, c .before .before .before .before .before .before .befo
 
 find-from-requires : tie.Need-find-from-requires Inv-loop μ-loop
 find-from-requires c κs =
-    (c .before .before .before .before .before .before .before .before .before .before .before .pre .table .linked, seek-chain _ _ _ _ _ _ _ _ (c .before .before .before .before .before .before .before .before .before .before .before .pre .telling) _ (c .before .before .before .before .before .before .before .before .before .before .before .pre .table .linked) (c .before .before .before .before .before .loop .inv) (c .before .before .before .before .loop-test .taken) refl)
+    let a = c .before .before .before .before .before .before .before .before .before .before .before .args in
+    let vs = entriesOf (a .bins .now) (a .e) in
+    let p = c .before .before .before .before .before .before .before .before .before .before .before .pre in
+    (p .table .linked, seek-chain (later (called (a .bins .now) vs) (a .s)) _ _ _ _ _ (p .telling) _ (p .table .linked) (c .before .before .before .before .before .loop .inv) (c .before .before .before .before .loop-test .taken) refl)
 
 loop-less : tie.Need-loop-less Inv-loop μ-loop
-loop-less c = seek-falls _ _ _ _ _ _ _ _ (c .before .before .before .before .before .before .before .before .before .before .before .before .pre .telling) _ (c .before .before .before .before .before .before .before .before .before .before .before .before .pre .table .linked) (c .before .before .before .before .before .before .loop .inv) (c .before .before .before .before .before .loop-test .taken) refl (c .find-from .ensures)
+loop-less c =
+    let a = c .before .before .before .before .before .before .before .before .before .before .before .before .args in
+    let vs = entriesOf (a .bins .now) (a .e) in
+    let p = c .before .before .before .before .before .before .before .before .before .before .before .before .pre in
+    seek-falls (later (called (a .bins .now) vs) (a .s)) _ _ _ _ _ (p .telling) _ (p .table .linked) (c .before .before .before .before .before .before .loop .inv) (c .before .before .before .before .before .loop-test .taken) refl (c .find-from .ensures)
 
 loop-again : tie.Need-loop-again Inv-loop μ-loop
 loop-again c =
+    let a = c .before .before .before .before .before .before .before .before .before .before .before .before .args in
+    let vs = entriesOf (a .bins .now) (a .e) in
+    let p = c .before .before .before .before .before .before .before .before .before .before .before .before .pre in
     let l = c .before .before .before .before .before .before .loop in
-    seek-on _ _ _ _ _ _ _ _ (c .before .before .before .before .before .before .before .before .before .before .before .before .pre .telling) _ (c .before .before .before .before .before .before .before .before .before .before .before .before .pre .table .linked) (l .inv) (c .before .before .before .before .before .loop-test .taken)
-    (compared (now (c .before .before .before .before .before .before .before .before .before .before .before .before .args .bins)) (entriesOf (now (c .before .before .before .before .before .before .before .before .before .before .before .before .args .bins)) (c .before .before .before .before .before .before .before .before .before .before .before .before .args .e)) (c .before .before .before .before .before .before .before .before .before .before .before .before .args .s) _ (l .p - 1) (c .before .before .before .before .name-of .ensures) (c .before .before .before .is-namesake .ensures) ∙ c .before .before .if1 .left) refl (c .find-from .ensures)
+    seek-on (later (called (a .bins .now) vs) (a .s)) _ _ _ _ _ (p .telling) _ (p .table .linked) (l .inv) (c .before .before .before .before .before .loop-test .taken)
+    (read-compared (a .bins .now) vs (a .s + (l .p - 1)) _ (c .before .before .before .before .name-of .ensures) (c .before .before .before .is-namesake .ensures) ∙ c .before .before .if1 .left) refl (c .find-from .ensures)
 
 returns-2 : tie.Need-returns-2 Inv-loop μ-loop
-returns-2 c = let l = c .before .loop in sym (l .inv .left ∙ none-met _ _ _ _ (c .loop-test .left))
+returns-2 c =
+    let a = c .before .before .before .before .before .before .before .args in
+    let vs = entriesOf (a .bins .now) (a .e) in
+    sym (c .before .loop .inv .left ∙ none-met (later (called (a .bins .now) vs) (a .s)) _ (c .loop-test .left))
 
 pub is-met-spec : {M : Type 1} → statement M
 is-met-spec =

@@ -1,6 +1,6 @@
 use borrow.Author.Needs.{needs}
 use native.Mathlib.Omega.{arith}
-use mathlib.Core.Path.{refl}
+use Rattle.repeats.proofs.Scans.{take-one, take-none}
 use Rattle.namesakes.proofs.take_in.Statement.{statement}
 use Rattle.namesakes.proofs.take_in.Tie as tie
 
@@ -23,10 +23,12 @@ same-length-3 : tie.Need-same-length-3
 same-length-3 c = search needs
 
 returns : tie.Need-returns
-returns c = (record { more = λ l. (refl, c .before .before .before .before .before .before .insert .ensures .0); full = λ l. absurd (let y = l in let z = c .before .before .before .before .before .before .before .before .before .before .if1 .taken in omega arith) }, c .before .before .before .before .before .before .insert .ensures .1)
+returns c =
+    let e = c .before .before .before .before .before .before .insert .ensures in
+    (take-one (c .before .before .before .before .before .before .before .before .before .before .if1 .taken) (e .0), e .1)
 
 returns-2 : tie.Need-returns-2
-returns-2 c = (record { more = λ l. absurd (let y = l in let z = c .if1 .left in omega arith); full = λ l. (refl, refl) }, c .before .before .before .before .pre .0)
+returns-2 c = (take-none (c .if1 .left), c .before .before .before .before .pre .0)
 
 pub take-in-spec : {M : Type 1} → statement M
 take-in-spec = tie.close (tie.spec insert-requires add-result same-length same-length-2 same-length-3 returns returns-2)

@@ -1,0 +1,4 @@
+pub mod Cases
+pub mod Refusals
+pub mod Hives
+pub mod Again

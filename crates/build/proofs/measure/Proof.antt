@@ -1,0 +1,48 @@
+use mathlib.Core.Path.{sym, _∙_}
+use denote.Ref.{now}
+use Rattle.layout.specs.Layout.{sizeOf}
+use Rattle.answers.proofs.Cases.{measure-wrong}
+use Rattle.intake.proofs.Told.{told-fits, told-amiss}
+use Rattle.build.proofs.Sizes.{measure-fits}
+use borrow.Author.Needs.{needs}
+use Rattle.build.proofs.measure.Statement.{statement}
+use Rattle.build.proofs.measure.Tie as tie
+
+measure-stream-requires : tie.Need-measure-stream-requires
+measure-stream-requires c κs = search needs
+
+enum-known-x : tie.Need-enum-known-x
+enum-known-x c = search needs
+
+refuse-requires : tie.Need-refuse-requires
+refuse-requires c κs = search needs
+
+enum-known-w : tie.Need-enum-known-w
+enum-known-w c = search needs
+
+size-answer-requires : tie.Need-size-answer-requires
+size-answer-requires c κs = search needs
+
+returns : tie.Need-returns
+returns c =
+    let a = c .before .before .before .before .before .before .before .args in
+    let x = told-amiss (now (a .stream)) (c .before .before .before .x .given .1) (c .before .before .before .before .before .measure-stream .ensures) in
+    c .refuse .ensures ∙ sym (measure-wrong (now (a .stream)) _ x)
+
+returns-2 : tie.Need-returns-2
+returns-2 c =
+    let a = c .before .before .before .before .before .before .args in
+    let x = told-fits (now (a .stream)) (c .before .before .w .given .1) (c .before .before .before .before .measure-stream .ensures) in
+    c .size-answer .ensures (sizeOf (x .forest)) (x .size-is) ∙ measure-fits (now (a .stream)) _ x
+
+pub measure-spec : {M : Type 1} → statement M
+measure-spec =
+    tie.close
+    (tie.spec
+    measure-stream-requires
+    enum-known-x
+    refuse-requires
+    enum-known-w
+    size-answer-requires
+    returns
+    returns-2)

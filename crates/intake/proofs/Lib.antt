@@ -1,0 +1,11 @@
+pub mod Sizes
+pub mod Rows
+pub mod Faulty
+pub mod Repeats
+pub mod Next
+pub mod Frames
+pub mod Sums
+pub mod Joins
+pub mod Going
+pub mod Entire
+pub mod Told

@@ -1,0 +1,66 @@
+use Rattle.shapes.proofs.Arms.{said-nothing, said-opens, said-holds, said-closes}
+use Rattle.intake.proofs.Entire.{after-unlaid, after-opens, after-holds, after-closes}
+use borrow.Author.Needs.{needs}
+use Rattle.intake.proofs.after_root.Statement.{statement}
+use Rattle.intake.proofs.after_root.Tie as tie
+
+returns : tie.Need-returns
+returns c = search needs
+
+shape-at-requires : tie.Need-shape-at-requires
+shape-at-requires c κs = search needs
+
+enum-known-o : tie.Need-enum-known-o
+enum-known-o c = search needs
+
+flawed-requires : tie.Need-flawed-requires
+flawed-requires c κs = search needs
+
+enum-known-v : tie.Need-enum-known-v
+enum-known-v c = search needs
+
+flawed-requires-2 : tie.Need-flawed-requires-2
+flawed-requires-2 c κs = search needs
+
+enum-told : tie.Need-enum-told
+enum-told c = search needs
+
+flawed-requires-3 : tie.Need-flawed-requires-3
+flawed-requires-3 c κs = search needs
+
+enum-told-2 : tie.Need-enum-told-2
+enum-told-2 c = search needs
+
+flawed-requires-4 : tie.Need-flawed-requires-4
+flawed-requires-4 c κs = search needs
+
+returns-2 : tie.Need-returns-2
+returns-2 c = after-opens _ _ (c .before .before .before .before .before .before .before .pre) (c .before .before .before .before .before .if1 .left) (said-opens (c .before .before .before .before .shape-at .ensures) (c .before .before .o .given .1)) (c .flawed .ensures)
+
+returns-3 : tie.Need-returns-3
+returns-3 c = after-holds _ _ (c .before .before .before .before .before .before .before .pre) (c .before .before .before .before .before .if1 .left) (said-holds (c .before .before .before .before .shape-at .ensures) (c .before .before .v .given .1)) (c .flawed2 .ensures)
+
+returns-4 : tie.Need-returns-4
+returns-4 c = after-closes _ _ (c .before .before .before .before .before .before .pre) (c .before .before .before .before .if1 .left) (said-closes (c .before .before .before .shape-at .ensures) (c .before .enum-told .given .1)) (c .flawed3 .ensures)
+
+returns-5 : tie.Need-returns-5
+returns-5 c = after-unlaid _ _ (c .before .before .before .before .before .before .pre) (c .before .before .before .before .if1 .left) (said-nothing (c .before .before .before .shape-at .ensures) (c .before .enum-told2 .given .1)) (c .flawed4 .ensures)
+
+pub after-root-spec : {M : Type 1} → statement M
+after-root-spec =
+    tie.close
+    (tie.spec
+    returns
+    shape-at-requires
+    enum-known-o
+    flawed-requires
+    enum-known-v
+    flawed-requires-2
+    enum-told
+    flawed-requires-3
+    enum-told-2
+    flawed-requires-4
+    returns-2
+    returns-3
+    returns-4
+    returns-5)

@@ -1,0 +1,52 @@
+use native.Mathlib.Omega.{arith}
+use native.Mathlib.Numerals.{add-one}
+use Rattle.shapes.proofs.Arms.{said-nothing, said-opens, said-holds, said-closes}
+use Rattle.intake.proofs.Repeats.{not-opens, not-closes, not-laid, asked-one, asked-none}
+use borrow.Author.Needs.{needs}
+use Rattle.intake.proofs.asked.Statement.{statement}
+use Rattle.intake.proofs.asked.Tie as tie
+
+shape-at-requires : tie.Need-shape-at-requires
+shape-at-requires c κs = c .before .pre .passed .inside
+
+enum-known-v : tie.Need-enum-known-v
+enum-known-v c = search needs
+
+add-result : tie.Need-add-result
+add-result c = let x = c .before .before .before .before .before .before .pre .passed in omega (arith, x .room, x .inside)
+
+enum-known-o : tie.Need-enum-known-o
+enum-known-o c = search needs
+
+enum-told : tie.Need-enum-told
+enum-told c = search needs
+
+enum-told-2 : tie.Need-enum-told-2
+enum-told-2 c = search needs
+
+returns : tie.Need-returns
+returns c = rw (add-one _) (asked-one (c .before .before .before .before .before .before .pre) _ (said-holds (c .before .before .before .before .shape-at .ensures) (c .before .before .v .given .1)))
+
+returns-2 : tie.Need-returns-2
+returns-2 c = asked-none (c .before .before .before .before .before .pre) (not-opens (said-opens (c .before .before .before .shape-at .ensures) (c .before .o .given .1)))
+
+returns-3 : tie.Need-returns-3
+returns-3 c = asked-none (c .before .before .before .before .pre) (not-closes (said-closes (c .before .before .shape-at .ensures) (c .enum-told .given .1)))
+
+returns-4 : tie.Need-returns-4
+returns-4 c = asked-none (c .before .before .before .before .pre) (not-laid (said-nothing (c .before .before .shape-at .ensures) (c .enum-told2 .given .1)))
+
+pub asked-spec : {M : Type 1} → statement M
+asked-spec =
+    tie.close
+    (tie.spec
+    shape-at-requires
+    enum-known-v
+    add-result
+    enum-known-o
+    enum-told
+    enum-told-2
+    returns
+    returns-2
+    returns-3
+    returns-4)

@@ -1,0 +1,34 @@
+use denote.Ref.{now}
+use Rattle.intake.proofs.Entire.{told-root, told-other}
+use borrow.Author.Needs.{needs}
+use Rattle.intake.proofs.measure_stream.Statement.{statement}
+use Rattle.intake.proofs.measure_stream.Tie as tie
+
+first-frame-requires : tie.Need-first-frame-requires
+first-frame-requires c κs = search needs
+
+enum-known-x : tie.Need-enum-known-x
+enum-known-x c = search needs
+
+enum-known-o : tie.Need-enum-known-o
+enum-known-o c = search needs
+
+measure-root-requires : tie.Need-measure-root-requires
+measure-root-requires c κs = told-root (now (c .before .before .before .before .before .args .s)) (c .before .o .given .1) (c .before .before .before .first-frame .ensures)
+
+returns : tie.Need-returns
+returns c = told-other (now (c .before .before .before .before .before .args .s)) (c .before .x .given .1) (c .before .before .before .first-frame .ensures)
+
+returns-2 : tie.Need-returns-2
+returns-2 c = c .measure-root .ensures
+
+pub measure-stream-spec : {M : Type 1} → statement M
+measure-stream-spec =
+    tie.close
+    (tie.spec
+    first-frame-requires
+    enum-known-x
+    enum-known-o
+    measure-root-requires
+    returns
+    returns-2)

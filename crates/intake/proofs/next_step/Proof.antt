@@ -1,0 +1,49 @@
+use native.Mathlib.Omega.{arith}
+use mathlib.Core.Path.{subst}
+use denote.Ref.{now}
+use Rattle.fields.specs.declared.Verdict.{Verdict}
+use Rattle.shapes.specs.Steps.{shapeIn}
+use Rattle.intake.specs.Steps.{FaultHere}
+use Rattle.intake.proofs.Next.{at-end, at-fault}
+use borrow.Author.Needs.{needs}
+use Rattle.intake.proofs.next_step.Statement.{statement}
+use Rattle.intake.proofs.next_step.Tie as tie
+
+returns : tie.Need-returns
+returns c = at-end _ _ _ (c .if1 .taken)
+
+shape-at-requires : tie.Need-shape-at-requires
+shape-at-requires c κs = c .before .before .pre .inside
+
+frame-fault-requires : tie.Need-frame-fault-requires
+frame-fault-requires c κs = (c .shape-at .ensures .lies, c .before .before .before .pre .here)
+
+enum-known-x : tie.Need-enum-known-x
+enum-known-x c = search needs
+
+enum-told : tie.Need-enum-told
+enum-told c = search needs
+
+sound-step-requires : tie.Need-sound-step-requires
+sound-step-requires c κs =
+    let a = c .before .before .before .before .before .before .args in
+    (c .before .before .before .before .before .before .pre, c .before .before .before .shape-at .ensures, subst (λ (v : Verdict). FaultHere (now (a .s)) (shapeIn (now (a .s)) (c .before .before .before .shape-at .result)) (a .h) v) (c .enum-told .given .1) (c .before .before .frame-fault .ensures))
+
+returns-2 : tie.Need-returns-2
+returns-2 c = at-fault _ _ _ (c .before .before .before .before .shape-at .ensures) (omega (arith, c .before .before .before .before .before .before .before .pre .inside, c .before .before .before .before .before .if1 .left)) (c .before .before .before .frame-fault .ensures) (c .before .x .given .1)
+
+returns-3 : tie.Need-returns-3
+returns-3 c = c .sound-step .ensures
+
+pub next-step-spec : {M : Type 1} → statement M
+next-step-spec =
+    tie.close
+    (tie.spec
+    returns
+    shape-at-requires
+    frame-fault-requires
+    enum-known-x
+    enum-told
+    sound-step-requires
+    returns-2
+    returns-3)

@@ -1,0 +1,66 @@
+use native.Mathlib.Omega.{arith}
+use Prim.Native.Nat.{_-_}
+use native.Mathlib.Numerals.{add-one}
+use lib.ListN.{length, drop}
+use Rattle.forest.specs.Faults.{shapeOf}
+use Rattle.intake.specs.Steps.{Sized, Passed}
+use Rattle.intake.proofs.Rows.{good-laid, passed-none, passed-more, passed-few}
+use borrow.Author.Needs.{needs}
+use Rattle.intake.proofs.pass_values.Statement.{statement}
+use Rattle.intake.proofs.pass_values.Tie as tie
+
+abbrev Inv-loop : tie.InvT-loop
+Inv-loop s at p₀ n₀ size₀ k₀ p n size k = Passed s at n p size × Sized (shapeOf (drop p s)) k
+
+abbrev μ-loop : tie.MeasureT-loop
+μ-loop s at p₀ n₀ size₀ k₀ p n size k = length s - p
+
+value-at-requires : tie.Need-value-at-requires Inv-loop μ-loop
+value-at-requires c κs = search needs
+
+loop-holds : tie.Need-loop-holds Inv-loop μ-loop
+loop-holds c = (passed-none _ _ (c .before .before .pre), c .value-at .ensures)
+
+frame-end-requires : tie.Need-frame-end-requires Inv-loop μ-loop
+frame-end-requires c κs = good-laid (c .before .loop .inv .1 .good (omega arith))
+
+add-n : tie.Need-add-n Inv-loop μ-loop
+add-n c = let x = c .before .before .loop .inv .0 in omega (arith, x .room, x .inside)
+
+add-capped : tie.Need-add-capped Inv-loop μ-loop
+add-capped c = let x = c .before .before .loop .inv in omega (arith, passed-few (x .0), x .1 .few)
+
+capped-requires : tie.Need-capped-requires Inv-loop μ-loop
+capped-requires c κs = search needs
+
+value-at-requires-2 : tie.Need-value-at-requires-2 Inv-loop μ-loop
+value-at-requires-2 c κs = c .before .frame-end .ensures .inside
+
+loop-less : tie.Need-loop-less Inv-loop μ-loop
+loop-less c = let e = c .before .before .frame-end .ensures in omega (arith, e .further, e .inside)
+
+loop-again : tie.Need-loop-again Inv-loop μ-loop
+loop-again c =
+    let l = c .before .before .before .before .loop in
+    let x = passed-more _ (l .inv .0) (l .inv .1) (omega arith) (c .before .before .frame-end .ensures) in
+    (rw (add-one (l .n), c .before .capped .ensures) x, c .value-at2 .ensures)
+
+returns : tie.Need-returns Inv-loop μ-loop
+returns c = let l = c .before .loop in record { passed = l .inv .0; last = l .inv .1 .other (omega arith) }
+
+pub pass-values-spec : {M : Type 1} → statement M
+pass-values-spec =
+    tie.close
+    (tie.spec
+    Inv-loop
+    μ-loop
+    value-at-requires
+    loop-holds
+    frame-end-requires
+    add-n
+    add-capped
+    capped-requires
+    value-at-requires-2
+    loop-less
+    loop-again
+    returns)

@@ -1,0 +1,42 @@
+use Rattle.shapes.proofs.Arms.{said-closes}
+use Rattle.intake.proofs.Next.{at-key, at-unlaid, at-value}
+use borrow.Author.Needs.{needs}
+use Rattle.intake.proofs.sound_step.Statement.{statement}
+use Rattle.intake.proofs.sound_step.Tie as tie
+
+enum-known-f : tie.Need-enum-known-f
+enum-known-f c = search needs
+
+enum-told : tie.Need-enum-told
+enum-told c = search needs
+
+enum-known-f-2 : tie.Need-enum-known-f-2
+enum-known-f-2 c = search needs
+
+enum-told-2 : tie.Need-enum-told-2
+enum-told-2 c = search needs
+
+returns : tie.Need-returns
+returns c = let q = c .before .before .before .pre in at-key _ _ _ (q .1) (q .2) (c .before .f .given .1)
+
+returns-2 : tie.Need-returns-2
+returns-2 c = said-closes (c .before .before .pre .1) (c .enum-told .given .1)
+
+returns-3 : tie.Need-returns-3
+returns-3 c = let q = c .before .before .before .pre in at-value _ _ _ (q .1) (q .2) (q .0) (c .before .f2 .given .1)
+
+returns-4 : tie.Need-returns-4
+returns-4 c = let q = c .before .before .pre in at-unlaid _ _ _ (q .1) (q .2) (c .enum-told2 .given .1)
+
+pub sound-step-spec : {M : Type 1} → statement M
+sound-step-spec =
+    tie.close
+    (tie.spec
+    enum-known-f
+    enum-told
+    enum-known-f-2
+    enum-told-2
+    returns
+    returns-2
+    returns-3
+    returns-4)

@@ -1,0 +1,50 @@
+use Rattle.shapes.proofs.Arms.{said-nothing, said-opens, said-holds, holds-lies, said-closes}
+use Rattle.intake.proofs.Rows.{sized-by, sized-opens, sized-closes, sized-unlaid}
+use borrow.Author.Needs.{needs}
+use Rattle.intake.proofs.value_at.Statement.{statement}
+use Rattle.intake.proofs.value_at.Tie as tie
+
+shape-at-requires : tie.Need-shape-at-requires
+shape-at-requires c κs = search needs
+
+enum-known-v : tie.Need-enum-known-v
+enum-known-v c = search needs
+
+held-size-requires : tie.Need-held-size-requires
+held-size-requires c κs = holds-lies (c .before .before .before .shape-at .ensures) (c .before .v .given .1)
+
+enum-known-o : tie.Need-enum-known-o
+enum-known-o c = search needs
+
+enum-told : tie.Need-enum-told
+enum-told c = search needs
+
+enum-told-2 : tie.Need-enum-told-2
+enum-told-2 c = search needs
+
+returns : tie.Need-returns
+returns c = sized-by (said-holds (c .before .before .before .before .shape-at .ensures) (c .before .before .v .given .1)) (c .held-size .ensures)
+
+returns-2 : tie.Need-returns-2
+returns-2 c = sized-opens (said-opens (c .before .before .before .shape-at .ensures) (c .before .o .given .1))
+
+returns-3 : tie.Need-returns-3
+returns-3 c = sized-closes (said-closes (c .before .before .shape-at .ensures) (c .enum-told .given .1))
+
+returns-4 : tie.Need-returns-4
+returns-4 c = sized-unlaid (said-nothing (c .before .before .shape-at .ensures) (c .enum-told2 .given .1))
+
+pub value-at-spec : {M : Type 1} → statement M
+value-at-spec =
+    tie.close
+    (tie.spec
+    shape-at-requires
+    enum-known-v
+    held-size-requires
+    enum-known-o
+    enum-told
+    enum-told-2
+    returns
+    returns-2
+    returns-3
+    returns-4)

@@ -1,0 +1,10 @@
+pub mod Frames
+pub mod Values
+pub mod Lists
+pub mod Keys
+pub mod Stands
+pub mod Leaves
+pub mod Trees
+pub mod Forests
+pub mod Turns
+pub mod Hives

@@ -1,0 +1,48 @@
+use mathlib.Core.Path.{refl}
+use native.Mathlib.Omega.{arith}
+use Rattle.laying.proofs.Values.{value-is-one, held-fits, holding-laid}
+use Rattle.laying.proofs.Lists.{listed-low, listed-more}
+use borrow.Author.Needs.{needs}
+use Rattle.laying.proofs.list_next.Statement.{statement}
+use Rattle.laying.proofs.list_next.Tie as tie
+
+held-at-requires : tie.Need-held-at-requires
+held-at-requires c κs = value-is-one _ _ (c .before .before .pre .1 .is)
+
+value-size-requires : tie.Need-value-size-requires
+value-size-requires c κs = held-fits _ _ _ _ (c .before .before .before .pre .1 .is) (c .before .before .before .pre .1 .allowed) (c .held-at .ensures)
+
+cast-put-u32 : tie.Need-cast-put-u32
+cast-put-u32 c = search needs
+
+put-u32-requires : tie.Need-put-u32-requires
+put-u32-requires c κs = search needs
+
+frame-end-requires : tie.Need-frame-end-requires
+frame-end-requires c κs = holding-laid _ _ _ (c .before .before .before .before .before .before .held-at .ensures)
+
+add-t11 : tie.Need-add-t11
+add-t11 c = omega (arith, listed-low _ _ _ (c .before .before .before .before .before .before .before .before .held-at .ensures) _ (c .before .before .before .before .before .before .before .value-size .ensures) _ _ (c .before .before .before .before .before .before .before .before .before .before .before .pre .1))
+
+add-t12 : tie.Need-add-t12
+add-t12 c = search needs
+
+same-length : tie.Need-same-length
+same-length c = search needs
+
+returns : tie.Need-returns
+returns c = λ v e. listed-more _ _ _ (c .before .before .before .before .before .before .before .before .before .held-at .ensures) _ (c .before .before .before .before .before .before .before .before .value-size .ensures) _ _ _ (c .before .before .before .before .before .put-u32 .ensures) (c .before .before .frame-end .ensures) refl refl v e
+
+pub list-next-spec : {M : Type 1} → statement M
+list-next-spec =
+    tie.close
+    (tie.spec
+    held-at-requires
+    value-size-requires
+    cast-put-u32
+    put-u32-requires
+    frame-end-requires
+    add-t11
+    add-t12
+    same-length
+    returns)

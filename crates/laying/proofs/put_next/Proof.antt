@@ -1,0 +1,43 @@
+use mathlib.Core.Path.{refl}
+use native.Mathlib.Omega.{arith}
+use Rattle.laying.proofs.Values.{value-is-one, next-held, holding-laid, one-more}
+use borrow.Author.Needs.{needs}
+use Rattle.laying.proofs.put_next.Statement.{statement}
+use Rattle.laying.proofs.put_next.Tie as tie
+
+held-at-requires : tie.Need-held-at-requires
+held-at-requires c κs = value-is-one _ _ (c .before .before .pre .1 .is)
+
+put-held-requires : tie.Need-put-held-requires
+put-held-requires c κs = next-held _ _ _ _ _ (c .before .before .before .before .pre .1) (c .before .held-at .ensures)
+
+frame-end-requires : tie.Need-frame-end-requires
+frame-end-requires c κs = holding-laid _ _ _ (c .before .before .before .before .held-at .ensures)
+
+add-t11 : tie.Need-add-t11
+add-t11 c = omega (arith, c .before .before .before .before .before .before .before .before .before .pre .1 .few, c .before .before .before .before .before .before .before .before .before .pre .1 .room .low)
+
+larger-requires : tie.Need-larger-requires
+larger-requires c κs = search needs
+
+larger-requires-2 : tie.Need-larger-requires-2
+larger-requires-2 c κs = search needs
+
+same-length : tie.Need-same-length
+same-length c = search needs
+
+returns : tie.Need-returns
+returns c = λ v e. one-more _ _ _ _ _ _ (c .before .before .before .before .before .before .before .before .held-at .ensures) (c .before .before .before .before .before .before .put-held .ensures .0) (c .before .before .before .before .before .before .put-held .ensures .1) (c .before .before .before .frame-end .ensures) refl (c .before .larger .ensures) (c .larger2 .ensures) v e
+
+pub put-next-spec : {M : Type 1} → statement M
+put-next-spec =
+    tie.close
+    (tie.spec
+    held-at-requires
+    put-held-requires
+    frame-end-requires
+    add-t11
+    larger-requires
+    larger-requires-2
+    same-length
+    returns)

@@ -1,0 +1,83 @@
+use native.Mathlib.Omega.{arith}
+use mathlib.Core.Path.{_∙_}
+use Rattle.laying.proofs.Trees.{known-few, known-bounds, own-room, own-record, own-put}
+use borrow.Author.Needs.{needs}
+use Rattle.laying.proofs.put_own.Statement.{statement}
+use Rattle.laying.proofs.put_own.Tie as tie
+
+list-size-requires : tie.Need-list-size-requires
+list-size-requires c κs = omega (arith, (known-few _ _ _ _ _ _ _ _ (c .before .before .before .pre .4)) .0)
+
+sub-list : tie.Need-sub-list
+sub-list c = omega (arith, (known-few _ _ _ _ _ _ _ _ (c .before .before .before .before .before .pre .4)) .1, c .before .list-size .ensures)
+
+cast-key-flags : tie.Need-cast-key-flags
+cast-key-flags c = search needs
+
+key-flags-requires : tie.Need-key-flags-requires
+key-flags-requires c κs = search needs
+
+cast-t15 : tie.Need-cast-t15
+cast-t15 c = search needs
+
+cast-t16 : tie.Need-cast-t16
+cast-t16 c = search needs
+
+if-any-requires : tie.Need-if-any-requires
+if-any-requires c κs = search needs
+
+cast-t18 : tie.Need-cast-t18
+cast-t18 c = omega (arith, (known-few _ _ _ _ _ _ _ _ (c .before .before .before .before .before .before .before .before .before .pre .4)) .0)
+
+if-any-requires-2 : tie.Need-if-any-requires-2
+if-any-requires-2 c κs = search needs
+
+cast-t20 : tie.Need-cast-t20
+cast-t20 c = search needs
+
+cast-t21 : tie.Need-cast-t21
+cast-t21 c = omega (arith, (known-bounds _ _ _ _ _ _ _ _ (c .before .before .before .before .before .before .before .before .before .before .before .pre .4)) .0)
+
+cast-t22 : tie.Need-cast-t22
+cast-t22 c = omega (arith, (known-bounds _ _ _ _ _ _ _ _ (c .before .before .before .before .before .before .before .before .before .before .before .before .pre .4)) .1)
+
+cast-t23 : tie.Need-cast-t23
+cast-t23 c = omega (arith, (known-bounds _ _ _ _ _ _ _ _ (c .before .before .before .before .before .before .before .before .before .before .before .before .before .pre .4)) .2)
+
+part-of-requires : tie.Need-part-of-requires
+part-of-requires c κs = c .before .before .before .before .before .before .before .before .before .before .before .before .before .pre .4 .lies .inside
+
+add-put-key : tie.Need-add-put-key
+add-put-key c = omega (arith, c .before .before .before .before .before .before .before .before .before .before .before .before .before .before .before .pre .4 .low)
+
+put-key-requires : tie.Need-put-key-requires
+put-key-requires c κs = own-room _ _ _ _ _ _ _ _ (c .before .before .before .before .before .before .before .before .before .before .before .before .before .before .before .pre .4) _ (c .before .part-of .ensures) _ (c .before .before .before .before .before .before .before .before .before .before .before .before .before .before .before .pre .7)
+
+same-length : tie.Need-same-length
+same-length c = search needs
+
+returns : tie.Need-returns
+returns c = λ sh x vs b k. c .before .before .put-key .ensures ∙ own-put _ _ (own-record _ _ _ _ _ _ _ _ k _ (c .before .before .before .before .part-of .ensures) _ _ _ _ _ _ (c .before .before .before .before .before .before .before .before .before .before .before .before .key-flags .ensures) (c .before .before .before .before .before .before .before .before .before .before .if-any .ensures) (c .before .before .before .before .before .before .before .before .before .before .before .before .before .before .list-size .ensures) (c .before .before .before .before .before .before .before .before .if-any2 .ensures))
+
+pub put-own-spec : {M : Type 1} → statement M
+put-own-spec =
+    tie.close
+    (tie.spec
+    list-size-requires
+    sub-list
+    cast-key-flags
+    key-flags-requires
+    cast-t15
+    cast-t16
+    if-any-requires
+    cast-t18
+    if-any-requires-2
+    cast-t20
+    cast-t21
+    cast-t22
+    cast-t23
+    part-of-requires
+    add-put-key
+    put-key-requires
+    same-length
+    returns)

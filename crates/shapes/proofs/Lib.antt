@@ -1,0 +1,4 @@
+pub mod Frames
+pub mod Arms
+pub mod Names
+pub mod Sizes

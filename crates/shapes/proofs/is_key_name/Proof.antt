@@ -1,0 +1,34 @@
+use native.Mathlib.Omega.{arith}
+use mathlib.Core.Path.{sym, ap, _∙_}
+use mathlib.Core.Bool.{false, not}
+use mathlib.Core.List.{List}
+use Prim.Native.Nat.{ℕ}
+use Rattle.names.specs.Codes.{codes, hasCode, backslash}
+use Rattle.shapes.specs.Steps.{nameIn}
+use Rattle.shapes.proofs.Names.{key-empty, key-long, key-by-backslash}
+use borrow.Author.Needs.{needs}
+use Rattle.shapes.proofs.is_key_name.Statement.{statement}
+use Rattle.shapes.proofs.is_key_name.Tie as tie
+
+returns : tie.Need-returns
+returns c = λ n. sym (key-empty _ _ (c .before .before .before .pre) n (omega arith))
+
+returns-2 : tie.Need-returns-2
+returns-2 c = λ n. sym (key-long _ _ (c .before .before .before .before .before .pre) n (omega arith) (omega arith))
+
+part-of-requires : tie.Need-part-of-requires
+part-of-requires c κs = search needs
+
+has-in-turn-requires : tie.Need-has-in-turn-requires
+has-in-turn-requires c κs = search needs
+
+returns-3 : tie.Need-returns-3
+unfolding nameIn
+returns-3 c =
+    let p = c .before .before .before .before .before .before .before .pre in
+    λ n. ap not (c .has-in-turn .ensures ∙ ap (λ (x : List ℕ). hasCode backslash (codes false x)) (c .before .part-of .ensures))
+    ∙ sym (key-by-backslash _ _ p n (omega arith) (omega arith))
+
+pub is-key-name-spec : {M : Type 1} → statement M
+is-key-name-spec =
+    tie.close (tie.spec returns returns-2 part-of-requires has-in-turn-requires returns-3)

@@ -1,0 +1,4 @@
+pub mod Rows
+pub mod Scans
+pub mod Laws
+pub mod Judged

@@ -1,0 +1,57 @@
+use borrow.Author.Needs.{needs}
+use native.Mathlib.Omega.{arith}
+use mathlib.Core.Path.{refl}
+use Rattle.repeats.proofs.Scans.{take-one, take-none}
+use Rattle.twins.proofs.take_in.Statement.{statement}
+use Rattle.twins.proofs.take_in.Tie as tie
+
+insert-requires : tie.Need-insert-requires
+insert-requires c κs =
+    let p = c .before .before .before .before .before .before .before .before .pre in
+    let l = c .before .before .before .if1 .taken in
+    (p .0, (l, omega (arith, l, p .1 .0), omega (arith, l, p .1 .2)))
+
+mul-starts : tie.Need-mul-starts
+mul-starts c = search needs
+
+slice-write-starts : tie.Need-slice-write-starts
+slice-write-starts c = search needs
+
+add-result : tie.Need-add-result
+add-result c = search needs
+
+same-length : tie.Need-same-length
+same-length c = search needs
+
+same-length-2 : tie.Need-same-length-2
+same-length-2 c = search needs
+
+same-length-3 : tie.Need-same-length-3
+same-length-3 c = search needs
+
+same-length-4 : tie.Need-same-length-4
+same-length-4 c = search needs
+
+returns : tie.Need-returns
+returns c =
+    let e = c .before .before .before .before .before .before .insert .ensures in
+    let l = c .before .before .before .before .before .before .before .before .before .before .if1 .taken in
+    (take-one l (e .0), (take-one l refl, e .1))
+
+returns-2 : tie.Need-returns-2
+returns-2 c = let l = c .if1 .left in (take-none l, (take-none l, c .before .before .before .before .before .pre .0))
+
+pub take-in-spec : {M : Type 1} → statement M
+take-in-spec =
+    tie.close
+    (tie.spec
+    insert-requires
+    mul-starts
+    slice-write-starts
+    add-result
+    same-length
+    same-length-2
+    same-length-3
+    same-length-4
+    returns
+    returns-2)

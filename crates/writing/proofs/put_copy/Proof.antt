@@ -1,0 +1,48 @@
+use Rattle.stream.proofs.Puts.{part-put}
+use borrow.Rule.Slice.PartMut.{post-is}
+use lib.ListN.{length, take}
+use Prim.Native.Nat.{ℕ, _+_}
+use mathlib.Core.List.{List, _++_}
+use native.Mathlib.Omega.{arith}
+use mathlib.Core.Path.{ap₂, _∙_}
+use borrow.Author.Needs.{needs}
+use Rattle.writing.proofs.put_copy.Statement.{statement}
+use Rattle.writing.proofs.put_copy.Tie as tie
+
+add-stop : tie.Need-add-stop
+add-stop c = search needs
+
+sub-copy-all : tie.Need-sub-copy-all
+sub-copy-all c = search needs
+
+part-copy-all-start : tie.Need-part-copy-all-start
+part-copy-all-start c = search needs
+
+part-copy-all-end : tie.Need-part-copy-all-end
+part-copy-all-end c = search needs
+
+copy-all-requires : tie.Need-copy-all-requires
+copy-all-requires c κs = search needs
+
+same-length : tie.Need-same-length
+same-length c = search needs
+
+returns : tie.Need-returns
+returns c =
+    let a = c .before .before .before .before .before .before .args in
+    let out = a .out .now in
+    let n = length (a .body .now) in
+    ap₂ (λ (ys zs : List ℕ). take (a .at) out ++ (ys ++ zs)) (c .before .before .copy-all .ensures) (post-is (a .at) (a .at + n) out (omega arith))
+    ∙ part-put out (a .body .now) (a .at) (a .at + n) (omega arith) (omega arith)
+
+pub put-copy-spec : {M : Type 1} → statement M
+put-copy-spec =
+    tie.close
+    (tie.spec
+    add-stop
+    sub-copy-all
+    part-copy-all-start
+    part-copy-all-end
+    copy-all-requires
+    same-length
+    returns)
