@@ -7,12 +7,14 @@ use mathlib.Core.Logic.{⊎-elim}
 use mathlib.Core.List.{List, [], _∷_, _++_, append-assoc, List·Memᴰ, List·Memᴰ·head, List·Memᴰ·tail, List·Memᴰ·cases-cons, List·Memᴰ·not-nil, List·Memᴰ·append-cases}
 use lib.Dec.{eqb, leb, ltb}
 use lib.ListN.{length, take, drop, getD, length-append}
+use lib.Seq.{take-all}
 use borrow.Author.Tests.{leb-true, leb-false, ltb-true, ltb-false}
 use Rattle.fields.specs.declared.Offset.{Offset}
 use Rattle.fields.specs.Number.{u16At, u32At, le32}
 use Rattle.fields.specs.Faults.{nowhere}
 use Rattle.fields.proofs.Numbers.{u32-below}
-use Rattle.cells.specs.Named.{cellAt, dataAt, dataOf}
+use Rattle.cells.specs.Named.{dataAt}
+use Rattle.cells.proofs.Parts.{part-bytes}
 use Rattle.names.specs.Codes.{codes}
 use Rattle.names.specs.Comparison.{sameName}
 use Rattle.records.specs.Keys.{codesOf}
@@ -41,9 +43,19 @@ unfolding codes
 codes-fit true s f x m = let p = f x m in omega arith
 codes-fit false s f x m = codes-below s f x m
 
+none-below : (l : List ℕ) → length l ≡ 0 → AllBelow 256 l
+none-below [] e x m = absurd (List·Memᴰ·not-nil m)
+none-below (y ∷ l) e x m = absurd (omega arith)
+
+-- a cell's data are a part of the bins data, as `cells` says
 pub data-fits : (d : List ℕ) (o : Offset) → AllBelow 256 d → AllBelow 256 (dataAt d o)
-unfolding dataAt dataOf
-data-fits d o f = below-take 256 (cellAt d o .len) (drop (o .0 + 4) d) (below-drop 256 (o .0 + 4) d f)
+data-fits d o f = by (length (dataAt d o)) refl
+  where
+    by : (n : ℕ) → length (dataAt d o) ≡ n → AllBelow 256 (dataAt d o)
+    by zero e = none-below (dataAt d o) e
+    by (suc n) e =
+        let p = part-bytes d o 0 (suc n) (record { some = omega arith; ends = omega (arith, e) }) in
+        subst (AllBelow 256) (p ∙ take-all (suc n) (dataAt d o) (omega (arith, e))) (below-take 256 (suc n) (drop (o .0 + 4 + 0) d) (below-drop 256 (o .0 + 4 + 0) d f))
 
 take-most : (n : ℕ) (l : List ℕ) → length (take n l) ≤ n
 take-most zero l = omega arith
