@@ -9,26 +9,8 @@ use borrow.Author.Needs.{needs}
 use Rattle.base.proofs.bins_of.Statement.{statement}
 use Rattle.base.proofs.bins_of.Tie as tie
 
-sub-bins-size : tie.Need-sub-bins-size
-sub-bins-size c = search needs
-
-part-bins-size-start : tie.Need-part-bins-size-start
-part-bins-size-start c = search needs
-
 part-bins-size-end : tie.Need-part-bins-size-end
 part-bins-size-end c = let b = base-facts _ (c .before .pre) in omega arith
-
-bins-size-requires : tie.Need-bins-size-requires
-bins-size-requires c κs = search needs
-
-add-end : tie.Need-add-end
-add-end c = search needs
-
-sub-result : tie.Need-sub-result
-sub-result c = search needs
-
-part-result-start : tie.Need-part-result-start
-part-result-start c = search needs
 
 part-result-end : tie.Need-part-result-end
 part-result-end c = let b = base-facts _ (c .before .before .before .pre) in omega arith
@@ -42,12 +24,12 @@ pub bins-of-spec : {M : Type 1} → statement M
 bins-of-spec =
     tie.close
     (tie.spec
-    sub-bins-size
-    part-bins-size-start
+    (λ c. search needs)
+    (λ c. search needs)
     part-bins-size-end
-    bins-size-requires
-    add-end
-    sub-result
-    part-result-start
+    (λ c κs. search needs)
+    (λ c. search needs)
+    (λ c. search needs)
+    (λ c. search needs)
     part-result-end
     returns)

@@ -6,44 +6,17 @@ use borrow.Author.Needs.{needs}
 use Rattle.base.proofs.block_flaw.Statement.{statement}
 use Rattle.base.proofs.block_flaw.Tie as tie
 
-is-regf-requires : tie.Need-is-regf-requires
-is-regf-requires c κs = search needs
-
-flawed-requires : tie.Need-flawed-requires
-flawed-requires c κs = search needs
-
 returns : tie.Need-returns
 unfolding blockFault
 returns c = c .flawed .ensures ∙ sym (stop _ _ (fails _ (sym (c .before .before .is-regf .ensures) ∙ not-true _ (c .before .if1 .taken))))
-
-is-summed-requires : tie.Need-is-summed-requires
-is-summed-requires c κs = search needs
-
-flawed-requires-2 : tie.Need-flawed-requires-2
-flawed-requires-2 c κs = search needs
 
 returns-2 : tie.Need-returns-2
 unfolding blockFault
 returns-2 c = c .flawed2 .ensures ∙ sym (on _ _ (holds _ (sym (c .before .before .before .before .is-regf .ensures) ∙ not-false _ (c .before .before .before .if1 .left))) ∙ stop _ _ (fails _ (sym (c .before .before .is-summed .ensures) ∙ not-true _ (c .before .if2 .taken))))
 
-is-version-requires : tie.Need-is-version-requires
-is-version-requires c κs = search needs
-
-flawed-requires-3 : tie.Need-flawed-requires-3
-flawed-requires-3 c κs = search needs
-
 returns-3 : tie.Need-returns-3
 unfolding blockFault
 returns-3 c = c .flawed3 .ensures ∙ sym (on _ _ (holds _ (sym (c .before .before .before .before .before .before .is-regf .ensures) ∙ not-false _ (c .before .before .before .before .before .if1 .left))) ∙ on _ _ (holds _ (sym (c .before .before .before .before .is-summed .ensures) ∙ not-false _ (c .before .before .before .if2 .left))) ∙ stop _ _ (fails _ (sym (c .before .before .is-version .ensures) ∙ not-true _ (c .before .if3 .taken))))
-
-u32-at-requires : tie.Need-u32-at-requires
-u32-at-requires c κs = search needs
-
-is-bins-size-requires : tie.Need-is-bins-size-requires
-is-bins-size-requires c κs = search needs
-
-flawed-requires-4 : tie.Need-flawed-requires-4
-flawed-requires-4 c κs = search needs
 
 returns-4 : tie.Need-returns-4
 unfolding blockFault
@@ -57,17 +30,17 @@ pub block-flaw-spec : {M : Type 1} → statement M
 block-flaw-spec =
     tie.close
     (tie.spec
-    is-regf-requires
-    flawed-requires
+    (λ c κs. search needs)
+    (λ c κs. search needs)
     returns
-    is-summed-requires
-    flawed-requires-2
+    (λ c κs. search needs)
+    (λ c κs. search needs)
     returns-2
-    is-version-requires
-    flawed-requires-3
+    (λ c κs. search needs)
+    (λ c κs. search needs)
     returns-3
-    u32-at-requires
-    is-bins-size-requires
-    flawed-requires-4
+    (λ c κs. search needs)
+    (λ c κs. search needs)
+    (λ c κs. search needs)
     returns-4
     returns-5)

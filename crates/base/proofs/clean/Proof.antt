@@ -4,19 +4,13 @@ use borrow.Author.Needs.{needs}
 use Rattle.base.proofs.clean.Statement.{statement}
 use Rattle.base.proofs.clean.Tie as tie
 
-usable-requires : tie.Need-usable-requires
-usable-requires c κs = search needs
-
 returns : tie.Need-returns
 unfolding clean
 returns c = rw (← c .before .usable .ensures, not-true (c .before .usable .result) (c .if1 .taken))
-
-is-settled-requires : tie.Need-is-settled-requires
-is-settled-requires c κs = search needs
 
 returns-2 : tie.Need-returns-2
 unfolding clean
 returns-2 c = rw (← c .before .before .usable .ensures, not-false (c .before .before .usable .result) (c .before .if1 .left)) (c .is-settled .ensures)
 
 pub clean-spec : {M : Type 1} → statement M
-clean-spec = tie.close (tie.spec usable-requires returns is-settled-requires returns-2)
+clean-spec = tie.close (tie.spec (λ c κs. search needs) returns (λ c κs. search needs) returns-2)

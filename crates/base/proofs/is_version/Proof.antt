@@ -7,14 +7,8 @@ use Rattle.base.proofs.Tests.{other-major, low-minor, high-minor, other
 use Rattle.base.proofs.is_version.Statement.{statement}
 use Rattle.base.proofs.is_version.Tie as tie
 
-u32-at-requires : tie.Need-u32-at-requires
-u32-at-requires c κs = search needs
-
 returns : tie.Need-returns
 returns c = sym (other-major _ _ (λ e. omega arith))
-
-u32-at-requires-2 : tie.Need-u32-at-requires-2
-u32-at-requires-2 c κs = search needs
 
 returns-2 : tie.Need-returns-2
 returns-2 c = sym (low-minor _ _ (omega arith) (omega arith))
@@ -22,20 +16,11 @@ returns-2 c = sym (low-minor _ _ (omega arith) (omega arith))
 returns-3 : tie.Need-returns-3
 returns-3 c = sym (high-minor _ _ (omega arith) (omega arith))
 
-u32-at-requires-3 : tie.Need-u32-at-requires-3
-u32-at-requires-3 c κs = search needs
-
 returns-4 : tie.Need-returns-4
 returns-4 c = sym (other-type _ _ (omega arith) (omega arith) (omega arith) (λ e. omega arith))
 
-u32-at-requires-4 : tie.Need-u32-at-requires-4
-u32-at-requires-4 c κs = search needs
-
 returns-5 : tie.Need-returns-5
 returns-5 c = sym (other-format _ _ (omega arith) (omega arith) (omega arith) (omega arith) (λ e. omega arith))
-
-u32-at-requires-5 : tie.Need-u32-at-requires-5
-u32-at-requires-5 c κs = search needs
 
 returns-6 : tie.Need-returns-6
 returns-6 c =
@@ -46,14 +31,14 @@ pub is-version-spec : {M : Type 1} → statement M
 is-version-spec =
     tie.close
     (tie.spec
-    u32-at-requires
+    (λ c κs. search needs)
     returns
-    u32-at-requires-2
+    (λ c κs. search needs)
     returns-2
     returns-3
-    u32-at-requires-3
+    (λ c κs. search needs)
     returns-4
-    u32-at-requires-4
+    (λ c κs. search needs)
     returns-5
-    u32-at-requires-5
+    (λ c κs. search needs)
     returns-6)

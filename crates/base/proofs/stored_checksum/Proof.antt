@@ -4,15 +4,9 @@ use Rattle.base.specs.Block.{asStored, storedChecksum}
 use Rattle.base.proofs.stored_checksum.Statement.{statement}
 use Rattle.base.proofs.stored_checksum.Tie as tie
 
-xor-of-requires : tie.Need-xor-of-requires
-xor-of-requires c κs = search needs
-
-as-stored-requires : tie.Need-as-stored-requires
-as-stored-requires c κs = search needs
-
 returns : tie.Need-returns
 unfolding storedChecksum
 returns c = c .as-stored .ensures ∙ ap asStored (c .before .xor-of .ensures)
 
 pub stored-checksum-spec : {M : Type 1} → statement M
-stored-checksum-spec = tie.close (tie.spec xor-of-requires as-stored-requires returns)
+stored-checksum-spec = tie.close (tie.spec (λ c κs. search needs) (λ c κs. search needs) returns)

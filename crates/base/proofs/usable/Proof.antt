@@ -5,15 +5,6 @@ use borrow.Author.Needs.{needs}
 use Rattle.base.proofs.usable.Statement.{statement}
 use Rattle.base.proofs.usable.Tie as tie
 
-block-flaw-requires : tie.Need-block-flaw-requires
-block-flaw-requires c κs = search needs
-
-enum-told : tie.Need-enum-told
-enum-told c = search needs
-
-enum-told-2 : tie.Need-enum-told-2
-enum-told-2 c = search needs
-
 returns : tie.Need-returns
 unfolding usable
 returns c = sym (ap isSound (sym (c .before .before .block-flaw .ensures) ∙ c .enum-told .given .1))
@@ -23,4 +14,4 @@ unfolding usable
 returns-2 c = sym (ap isSound (sym (c .before .before .block-flaw .ensures) ∙ c .enum-told2 .given .1))
 
 pub usable-spec : {M : Type 1} → statement M
-usable-spec = tie.close (tie.spec block-flaw-requires enum-told enum-told-2 returns returns-2)
+usable-spec = tie.close (tie.spec (λ c κs. search needs) (λ c. search needs) (λ c. search needs) returns returns-2)

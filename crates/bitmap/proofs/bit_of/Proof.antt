@@ -6,20 +6,11 @@ use borrow.Author.Needs.{needs}
 use Rattle.bitmap.proofs.bit_of.Statement.{statement}
 use Rattle.bitmap.proofs.bit_of.Tie as tie
 
-shared-slice-read-b : tie.Need-shared-slice-read-b
-shared-slice-read-b c = search needs
-
 cast-b : tie.Need-cast-b
 cast-b c = omega (arith, c .shared-slice-known .given (c .before .before .args .index / 8))
-
-shr-result : tie.Need-shr-result
-shr-result c = search needs
-
-returns : tie.Need-returns
-returns c = search needs
 
 returns-2 : tie.Need-returns-2
 returns-2 c = rw (List·getD-eq-default (c .before .args .map .now) 0 (c .if1 .left), zero-div, zero-mod)
 
 pub bit-of-spec : {M : Type 1} → statement M
-bit-of-spec = tie.close (tie.spec shared-slice-read-b cast-b shr-result returns returns-2)
+bit-of-spec = tie.close (tie.spec (λ c. search needs) cast-b (λ c. search needs) (λ c. search needs) returns-2)

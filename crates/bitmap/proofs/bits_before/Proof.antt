@@ -7,12 +7,6 @@ use borrow.Author.Needs.{needs}
 use Rattle.bitmap.proofs.bits_before.Statement.{statement}
 use Rattle.bitmap.proofs.bits_before.Tie as tie
 
-bytes-before-requires : tie.Need-bytes-before-requires
-bytes-before-requires c κs = search needs
-
-mul-words : tie.Need-mul-words
-mul-words c = search needs
-
 ones-of-words-requires : tie.Need-ones-of-words-requires
 ones-of-words-requires c κs = (omega arith, (omega arith, omega arith))
 
@@ -32,9 +26,6 @@ add-result c =
     let s = c .before .before .before .before in
     omega (arith, whole c, before-le (s .args .map .now) (8 * (s .args .index / 8)))
 
-ones-in-byte-requires : tie.Need-ones-in-byte-requires
-ones-in-byte-requires c κs = search needs
-
 counted : (c : tie.After-ones-in-byte)
     → c .before .before .ones-of-words .result + c .before .ones-of-bytes .result + c .ones-in-byte .result
     ≡ bitsBefore (c .before .before .before .before .before .args .map .now) (c .before .before .before .before .before .args .index)
@@ -52,11 +43,11 @@ pub bits-before-spec : {M : Type 1} → statement M
 bits-before-spec =
     tie.close
     (tie.spec
-    bytes-before-requires
-    mul-words
+    (λ c κs. search needs)
+    (λ c. search needs)
     ones-of-words-requires
     ones-of-bytes-requires
     add-result
-    ones-in-byte-requires
+    (λ c κs. search needs)
     add-result-2
     returns)

@@ -12,8 +12,5 @@ returns c =
     let map = c .before .args .map .now in
     (omega arith, omega (arith, c .if1 .taken), sym (past-end map (8 * length map) (8 * (c .before .args .index / 8)) (omega arith) (omega (arith, c .if1 .taken))))
 
-returns-2 : tie.Need-returns-2
-returns-2 c = search needs
-
 pub bytes-before-spec : {M : Type 1} → statement M
-bytes-before-spec = tie.close (tie.spec returns returns-2)
+bytes-before-spec = tie.close (tie.spec returns (λ c. search needs))

@@ -18,9 +18,6 @@ abbrev μ-loop : tie.MeasureT-loop
 loop-holds : tie.Need-loop-holds Inv-loop μ-loop
 loop-holds c = refl
 
-shared-slice-read-if1 : tie.Need-shared-slice-read-if1 Inv-loop μ-loop
-shared-slice-read-if1 c = search needs
-
 mul-index : tie.Need-mul-index Inv-loop μ-loop
 mul-index c = omega arith
 
@@ -32,9 +29,6 @@ loop-less c = omega arith
 
 loop-again : tie.Need-loop-again Inv-loop μ-loop
 loop-again c = sym (next-byte (c .before .before .before .before .before .args .map .now) (c .before .before .before .loop .index) (omega arith) (c .if1 .taken)) ∙ c .before .before .before .loop .inv
-
-is-marked-requires : tie.Need-is-marked-requires Inv-loop μ-loop
-is-marked-requires c κs = search needs
 
 returns : tie.Need-returns Inv-loop μ-loop
 returns c = sym (next-here (c .before .before .before .before .before .before .before .args .map .now) (c .before .before .before .before .before .loop .index) (omega arith) (sym (c .before .is-marked .ensures) ∙ c .if2 .taken)) ∙ c .before .before .before .before .before .loop .inv
@@ -58,12 +52,12 @@ next-marked-spec =
     Inv-loop
     μ-loop
     loop-holds
-    shared-slice-read-if1
+    (λ c. search needs)
     mul-index
     add-index
     loop-less
     loop-again
-    is-marked-requires
+    (λ c κs. search needs)
     returns
     add-index-2
     loop-less-2

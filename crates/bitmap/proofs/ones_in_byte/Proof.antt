@@ -16,15 +16,6 @@ use Rattle.bitmap.proofs.ones_in_byte.Tie as tie
 power : (k : ℕ) → k < 8 → 1 * 2 ^ k % 2 ^ 8 ≡ 2 ^ k
 power k h = ap (λ (n : ℕ). n % 2 ^ 8) (one-mul (2 ^ k)) ∙ mod-eq-of-lt (pow-lt {j = 8} h)
 
-shared-slice-read-result : tie.Need-shared-slice-read-result
-shared-slice-read-result c = search needs
-
-cast-result : tie.Need-cast-result
-cast-result c = search needs
-
-shl-result : tie.Need-shl-result
-shl-result c = search needs
-
 rem-result : tie.Need-rem-result
 rem-result c =
     let k = c .before .before .args .index % 8 in
@@ -56,9 +47,9 @@ pub ones-in-byte-spec : {M : Type 1} → statement M
 ones-in-byte-spec =
     tie.close
     (tie.spec
-    shared-slice-read-result
-    cast-result
-    shl-result
+    (λ c. search needs)
+    (λ c. search needs)
+    (λ c. search needs)
     rem-result
     cast-result-2
     returns

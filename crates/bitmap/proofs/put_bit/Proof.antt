@@ -14,20 +14,8 @@ case s a b =
     let m = now (s .args .map) in
     ap₂ (λ (x y : Bool). cond (cond x (not y) y) (turned m (s .args .index)) m) a b
 
-is-marked-requires : tie.Need-is-marked-requires
-is-marked-requires c κs = search needs
-
-same-length : tie.Need-same-length
-same-length c = search needs
-
 returns : tie.Need-returns
 returns c = let s = c .before .before .before .before .before in sym (case s (c .before .if1 .taken) (sym (c .before .before .is-marked .ensures) ∙ c .if2 .taken))
-
-turn-requires : tie.Need-turn-requires
-turn-requires c κs = search needs
-
-same-length-2 : tie.Need-same-length-2
-same-length-2 c = search needs
 
 returns-2 : tie.Need-returns-2
 returns-2 c =
@@ -35,20 +23,11 @@ returns-2 c =
     c .before .before .turn .ensures
     ∙ sym (case s (c .before .before .before .before .before .if1 .taken) (sym (c .before .before .before .before .before .before .is-marked .ensures) ∙ c .before .before .before .before .if2 .left))
 
-turn-requires-2 : tie.Need-turn-requires-2
-turn-requires-2 c κs = search needs
-
-same-length-3 : tie.Need-same-length-3
-same-length-3 c = search needs
-
 returns-3 : tie.Need-returns-3
 returns-3 c =
     let s = c .before .before .before .before .before .before .before .before .before in
     c .before .before .turn2 .ensures
     ∙ sym (case s (c .before .before .before .before .before .if1 .left) (sym (c .before .before .before .before .before .before .is-marked .ensures) ∙ c .before .before .before .before .if3 .taken))
-
-same-length-4 : tie.Need-same-length-4
-same-length-4 c = search needs
 
 returns-4 : tie.Need-returns-4
 returns-4 c = let s = c .before .before .before .before .before in sym (case s (c .before .if1 .left) (sym (c .before .before .is-marked .ensures) ∙ c .if3 .left))
@@ -57,14 +36,14 @@ pub put-bit-spec : {M : Type 1} → statement M
 put-bit-spec =
     tie.close
     (tie.spec
-    is-marked-requires
-    same-length
+    (λ c κs. search needs)
+    (λ c. search needs)
     returns
-    turn-requires
-    same-length-2
+    (λ c κs. search needs)
+    (λ c. search needs)
     returns-2
-    turn-requires-2
-    same-length-3
+    (λ c κs. search needs)
+    (λ c. search needs)
     returns-3
-    same-length-4
+    (λ c. search needs)
     returns-4)

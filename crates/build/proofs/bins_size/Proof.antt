@@ -5,15 +5,6 @@ use borrow.Author.Needs.{needs}
 use Rattle.build.proofs.bins_size.Statement.{statement}
 use Rattle.build.proofs.bins_size.Tie as tie
 
-add-result : tie.Need-add-result
-add-result c = search needs
-
-add-cell-size : tie.Need-add-cell-size
-add-cell-size c = search needs
-
-cell-size-requires : tie.Need-cell-size-requires
-cell-size-requires c κs = search needs
-
 add-result-2 : tie.Need-add-result-2
 add-result-2 c = let k = cell-few (20 + c .before .args .n) in omega (arith, k, c .before .pre .0, c .before .pre .1, c .cell-size .ensures)
 
@@ -23,17 +14,14 @@ add-result-3 c = let k = cell-few (20 + c .before .args .n) in omega (arith, k, 
 mul-result : tie.Need-mul-result
 mul-result c = let k = cell-few (20 + c .before .args .n) in omega (arith, k, c .before .pre .0, c .before .pre .1, c .cell-size .ensures)
 
-returns : tie.Need-returns
-returns c = search needs
-
 pub bins-size-spec : {M : Type 1} → statement M
 bins-size-spec =
     tie.close
     (tie.spec
-    add-result
-    add-cell-size
-    cell-size-requires
+    (λ c. search needs)
+    (λ c. search needs)
+    (λ c κs. search needs)
     add-result-2
     add-result-3
     mul-result
-    returns)
+    (λ c. search needs))

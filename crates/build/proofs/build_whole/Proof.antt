@@ -8,18 +8,6 @@ use borrow.Author.Needs.{needs}
 use Rattle.build.proofs.build_whole.Statement.{statement}
 use Rattle.build.proofs.build_whole.Tie as tie
 
-size-answer-requires : tie.Need-size-answer-requires
-size-answer-requires c κs = search needs
-
-enum-known-u : tie.Need-enum-known-u
-enum-known-u c = search needs
-
-enum-known-k : tie.Need-enum-known-k
-enum-known-k c = search needs
-
-refuse-size-requires : tie.Need-refuse-size-requires
-refuse-size-requires c κs = search needs
-
 returns : tie.Need-returns
 returns c =
     let a = c .before .before .before .before .before .before .before .before .before .args in
@@ -42,9 +30,6 @@ returns-2 c =
     let q = c .before .before .before .size-answer .ensures (sizeOf (x .forest)) (x .size-is) ∙ measure-fits (now (a .stream)) _ x in
     call-refused (now (a .stream)) (now (a .descriptor)) (now (a .out)) q (c .before .u .given .1)
 
-same-length : tie.Need-same-length
-same-length c = search needs
-
 returns-3 : tie.Need-returns-3
 returns-3 c =
     let a = c .before .before .before .before .before .before .before .before .before .before .before .before .args in
@@ -56,12 +41,12 @@ pub build-whole-spec : {M : Type 1} → statement M
 build-whole-spec =
     tie.close
     (tie.spec
-    size-answer-requires
-    enum-known-u
-    enum-known-k
-    refuse-size-requires
+    (λ c κs. search needs)
+    (λ c. search needs)
+    (λ c. search needs)
+    (λ c κs. search needs)
     returns
     put-hive-requires
     returns-2
-    same-length
+    (λ c. search needs)
     returns-3)

@@ -8,21 +8,6 @@ use borrow.Author.Needs.{needs}
 use Rattle.build.proofs.measure.Statement.{statement}
 use Rattle.build.proofs.measure.Tie as tie
 
-measure-stream-requires : tie.Need-measure-stream-requires
-measure-stream-requires c κs = search needs
-
-enum-known-x : tie.Need-enum-known-x
-enum-known-x c = search needs
-
-refuse-requires : tie.Need-refuse-requires
-refuse-requires c κs = search needs
-
-enum-known-w : tie.Need-enum-known-w
-enum-known-w c = search needs
-
-size-answer-requires : tie.Need-size-answer-requires
-size-answer-requires c κs = search needs
-
 returns : tie.Need-returns
 returns c =
     let a = c .before .before .before .before .before .before .before .args in
@@ -39,10 +24,10 @@ pub measure-spec : {M : Type 1} → statement M
 measure-spec =
     tie.close
     (tie.spec
-    measure-stream-requires
-    enum-known-x
-    refuse-requires
-    enum-known-w
-    size-answer-requires
+    (λ c κs. search needs)
+    (λ c. search needs)
+    (λ c κs. search needs)
+    (λ c. search needs)
+    (λ c κs. search needs)
     returns
     returns-2)

@@ -11,9 +11,6 @@ put-hive-requires c κs =
     let a = c .before .before .before .before .args in
     (forestIn (now (a .stream)), planned (now (a .stream)) (now (a .descriptor)) (c .before .before .before .before .pre))
 
-same-length : tie.Need-same-length
-same-length c = search needs
-
 returns : tie.Need-returns
 returns c =
     let a = c .before .before .before .before .before .before .before .args in
@@ -23,4 +20,4 @@ returns c =
     hive-put s sd x (now (a .out)) refl (c .before .before .put-hive .ensures (forestIn s) (planned s sd x))
 
 pub put-hive-spec : {M : Type 1} → statement M
-put-hive-spec = tie.close (tie.spec put-hive-requires same-length returns)
+put-hive-spec = tie.close (tie.spec put-hive-requires (λ c. search needs) returns)

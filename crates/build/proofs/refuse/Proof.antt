@@ -5,11 +5,8 @@ use borrow.Author.Needs.{needs}
 use Rattle.build.proofs.refuse.Statement.{statement}
 use Rattle.build.proofs.refuse.Tie as tie
 
-refused-requires : tie.Need-refused-requires
-refused-requires c κs = search needs
-
 returns : tie.Need-returns
 returns c = ap (λ (x : Refusal). Refused (record { refusal = x; at = record { 0 = c .before .args .at } })) (c .refused .ensures)
 
 pub refuse-spec : {M : Type 1} → statement M
-refuse-spec = tie.close (tie.spec refused-requires returns)
+refuse-spec = tie.close (tie.spec (λ c κs. search needs) returns)

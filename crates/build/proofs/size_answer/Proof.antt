@@ -5,30 +5,15 @@ use borrow.Author.Needs.{needs}
 use Rattle.build.proofs.size_answer.Statement.{statement}
 use Rattle.build.proofs.size_answer.Tie as tie
 
-refuse-size-requires : tie.Need-refuse-size-requires
-refuse-size-requires c κs = search needs
-
 returns : tie.Need-returns
 returns c = λ t e. c .refuse-size .ensures ∙ keys-past t (c .before .before .args .n) _ e (c .before .if1 .taken)
-
-refuse-size-requires-2 : tie.Need-refuse-size-requires-2
-refuse-size-requires-2 c κs = search needs
 
 returns-2 : tie.Need-returns-2
 returns-2 c = λ t e. c .refuse-size2 .ensures ∙ descriptor-past t _ _ e (c .before .if2 .taken)
 
-bins-size-requires : tie.Need-bins-size-requires
-bins-size-requires c κs = search needs
-
-refuse-size-requires-3 : tie.Need-refuse-size-requires-3
-refuse-size-requires-3 c κs = search needs
-
 returns-3 : tie.Need-returns-3
 returns-3 c = λ t e.
     c .refuse-size3 .ensures ∙ bins-past t _ _ e (omega (arith, c .before .before .before .before .if1 .left)) (c .before .before .bins-size .ensures) (c .before .if3 .taken)
-
-add-t8 : tie.Need-add-t8
-add-t8 c = search needs
 
 returns-4 : tie.Need-returns-4
 returns-4 c = λ t e.
@@ -38,12 +23,12 @@ pub size-answer-spec : {M : Type 1} → statement M
 size-answer-spec =
     tie.close
     (tie.spec
-    refuse-size-requires
+    (λ c κs. search needs)
     returns
-    refuse-size-requires-2
+    (λ c κs. search needs)
     returns-2
-    bins-size-requires
-    refuse-size-requires-3
+    (λ c κs. search needs)
+    (λ c κs. search needs)
     returns-3
-    add-t8
+    (λ c. search needs)
     returns-4)

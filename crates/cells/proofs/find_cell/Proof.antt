@@ -5,9 +5,6 @@ use borrow.Author.Needs.{needs}
 use Rattle.cells.proofs.find_cell.Statement.{statement}
 use Rattle.cells.proofs.find_cell.Tie as tie
 
-named-length-requires : tie.Need-named-length-requires
-named-length-requires c κs = search needs
-
 returns : tie.Need-returns
 returns c = sym (length-none _ _ _ _ (sym (c .before .named-length .ensures) ∙ c .if1 .taken))
 
@@ -20,4 +17,4 @@ returns-2 c = sym (length-some _ _ _ _ _ (c .before .named-length .ensures) (c .
 pub find-cell-spec : {M : Type 1} → statement M
 find-cell-spec =
     tie.close
-    (tie.spec named-length-requires returns sub-t9 returns-2)
+    (tie.spec (λ c κs. search needs) returns sub-t9 returns-2)

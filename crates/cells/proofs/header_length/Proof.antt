@@ -5,35 +5,17 @@ use borrow.Author.Needs.{needs}
 use Rattle.cells.proofs.header_length.Statement.{statement}
 use Rattle.cells.proofs.header_length.Tie as tie
 
-cast-at : tie.Need-cast-at
-cast-at c = search needs
-
 returns : tie.Need-returns
 returns c = sym (low _ _ (c .if1 .taken))
 
 returns-2 : tie.Need-returns-2
 returns-2 c = sym (odd _ _ (c .before .if1 .left) (c .if2 .taken))
 
-add-if3 : tie.Need-add-if3
-add-if3 c = search needs
-
 returns-3 : tie.Need-returns-3
 returns-3 c = sym (past _ _ (c .before .before .if1 .left) (c .before .if2 .left) (c .if3 .taken))
 
-size-at-requires : tie.Need-size-at-requires
-size-at-requires c κs = search needs
-
-cast-n : tie.Need-cast-n
-cast-n c = search needs
-
 returns-4 : tie.Need-returns-4
 returns-4 c = sym (unused _ _ (c .before .before .before .before .before .before .if1 .left) (c .before .before .before .before .before .if2 .left) (c .before .before .before .before .if3 .left) _ (c .before .before .before .size-at .ensures) (not-true _ (c .if4 .taken)))
-
-sub-good-size : tie.Need-sub-good-size
-sub-good-size c = search needs
-
-good-size-requires : tie.Need-good-size-requires
-good-size-requires c κs = search needs
 
 returns-5 : tie.Need-returns-5
 returns-5 c = sym (unsized _ _ (c .before .before .before .before .before .before .before .before .if1 .left) (c .before .before .before .before .before .before .before .if2 .left) (c .before .before .before .before .before .before .if3 .left) _ (c .before .before .before .before .before .size-at .ensures) (not-false _ (c .before .before .if4 .left)) (sym (c .before .good-size .ensures) ∙ not-true _ (c .if5 .taken)))
@@ -45,15 +27,15 @@ pub header-length-spec : {M : Type 1} → statement M
 header-length-spec =
     tie.close
     (tie.spec
-    cast-at
+    (λ c. search needs)
     returns
     returns-2
-    add-if3
+    (λ c. search needs)
     returns-3
-    size-at-requires
-    cast-n
+    (λ c κs. search needs)
+    (λ c. search needs)
     returns-4
-    sub-good-size
-    good-size-requires
+    (λ c. search needs)
+    (λ c κs. search needs)
     returns-5
     returns-6)

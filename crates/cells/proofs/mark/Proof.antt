@@ -8,21 +8,6 @@ use borrow.Author.Needs.{needs}
 use Rattle.cells.proofs.mark.Statement.{statement}
 use Rattle.cells.proofs.mark.Tie as tie
 
-slice-read-map : tie.Need-slice-read-map
-slice-read-map c = search needs
-
-cast-map : tie.Need-cast-map
-cast-map c = search needs
-
-shl-map : tie.Need-shl-map
-shl-map c = search needs
-
-slice-write-map : tie.Need-slice-write-map
-slice-write-map c = search needs
-
-same-length : tie.Need-same-length
-same-length c = search needs
-
 returns : tie.Need-returns
 unfolding markAt
 returns c = rw (shifted (c .before .before .args .at / 8 % 8) (omega arith))
@@ -33,4 +18,4 @@ returns-2 c = sym (set-out _ _ _ (omega arith))
 
 pub mark-spec : {M : Type 1} → statement M
 mark-spec =
-    tie.close (tie.spec slice-read-map cast-map shl-map slice-write-map same-length returns returns-2)
+    tie.close (tie.spec (λ c. search needs) (λ c. search needs) (λ c. search needs) (λ c. search needs) (λ c. search needs) returns returns-2)

@@ -25,9 +25,6 @@ add-u32-at c = let s = c .before .before .loop .inv .0 in omega (arith, s .insid
 u32-at-requires : tie.Need-u32-at-requires Inv-loop μ-loop
 u32-at-requires c κs = let b = bin-size _ (c .before .before .loop .inv .0) (c .before .loop-test .taken) (c .if1 .taken) .header in omega (arith, b .inside, b .some, b .pages)
 
-cast-n : tie.Need-cast-n Inv-loop μ-loop
-cast-n c = search needs
-
 add-cell : tie.Need-add-cell Inv-loop μ-loop
 add-cell c = let s = c .before .before .before .loop .inv .0 in omega (arith, s .inside, s .small)
 
@@ -46,9 +43,6 @@ loop-again c =
 
 size-at-requires : tie.Need-size-at-requires Inv-loop μ-loop
 size-at-requires c κs = let s = c .before .before .loop .inv .0 in let g = cell-size _ s (c .before .loop-test .taken) (c .if1 .left) .good in omega (arith, s .inside, s .order, g .some, g .eights, g .inside)
-
-cast-next : tie.Need-cast-next Inv-loop μ-loop
-cast-next c = search needs
 
 add-next : tie.Need-add-next Inv-loop μ-loop
 add-next c = let s = c .before .before .before .before .loop .inv .0 in let t = turn-cell _ s (c .before .before .before .loop-test .taken) (c .before .before .if1 .left) in rw (c .before .size-at .ensures) (omega (arith, t .order, t .inside, t .small))
@@ -89,13 +83,13 @@ next-free-spec =
     loop-holds
     add-u32-at
     u32-at-requires
-    cast-n
+    (λ c. search needs)
     add-cell
     add-bin
     loop-less
     loop-again
     size-at-requires
-    cast-next
+    (λ c. search needs)
     add-next
     returns
     loop-less-2

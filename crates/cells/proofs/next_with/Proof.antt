@@ -32,9 +32,6 @@ returns c = c .before .before .before .loop .inv
 add-o : tie.Need-add-o Inv-loop μ-loop
 add-o c = let b = c .before .before .before .before .pre .0 in omega (arith, b .inside, b .small)
 
-loop-less : tie.Need-loop-less Inv-loop μ-loop
-loop-less c = search needs
-
 loop-again : tie.Need-loop-again Inv-loop μ-loop
 loop-again c =
     let p = c .before .before .before .before .pre in
@@ -45,4 +42,4 @@ returns-2 c = c .before .loop .inv
 
 pub next-with-spec : {M : Type 1} → statement M
 next-with-spec =
-    tie.close (tie.spec Inv-loop μ-loop loop-holds add-if1 add-if1-2 shared-slice-read-if1 returns add-o loop-less loop-again returns-2)
+    tie.close (tie.spec Inv-loop μ-loop loop-holds add-if1 add-if1-2 shared-slice-read-if1 returns add-o (λ c. search needs) loop-again returns-2)

@@ -5,23 +5,11 @@ use borrow.Author.Needs.{needs}
 use Rattle.cells.proofs.part_in.Statement.{statement}
 use Rattle.cells.proofs.part_in.Tie as tie
 
-cast-start : tie.Need-cast-start
-cast-start c = search needs
-
-add-start : tie.Need-add-start
-add-start c = search needs
-
 add-start-2 : tie.Need-add-start-2
 add-start-2 c = let h = part-room _ _ _ _ (c .before .pre) in search needs
 
 add-end : tie.Need-add-end
 add-end c = let h = part-room _ _ _ _ (c .before .pre) in search needs
-
-sub-result : tie.Need-sub-result
-sub-result c = search needs
-
-part-result-start : tie.Need-part-result-start
-part-result-start c = search needs
 
 part-result-end : tie.Need-part-result-end
 part-result-end c = let h = part-room _ _ _ _ (c .before .pre) in search needs
@@ -35,11 +23,11 @@ pub part-in-spec : {M : Type 1} → statement M
 part-in-spec =
     tie.close
     (tie.spec
-    cast-start
-    add-start
+    (λ c. search needs)
+    (λ c. search needs)
     add-start-2
     add-end
-    sub-result
-    part-result-start
+    (λ c. search needs)
+    (λ c. search needs)
     part-result-end
     returns)

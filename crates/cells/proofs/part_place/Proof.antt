@@ -7,25 +7,10 @@ use borrow.Author.Needs.{needs}
 use Rattle.cells.proofs.part_place.Statement.{statement}
 use Rattle.cells.proofs.part_place.Tie as tie
 
-to-place-requires : tie.Need-to-place-requires
-to-place-requires c κs = search needs
-
-add-t6 : tie.Need-add-t6
-add-t6 c = search needs
-
-add-t7 : tie.Need-add-t7
-add-t7 c = search needs
-
 returns : tie.Need-returns
 returns c =
     let a = c .before .before .before .args in
     rw (place-some (a .o) (a .at) (a .len) (λ e. omega arith), c .before .to-place .ensures)
-
-to-place-requires-2 : tie.Need-to-place-requires-2
-to-place-requires-2 c κs = search needs
-
-add-t9 : tie.Need-add-t9
-add-t9 c = search needs
 
 returns-2 : tie.Need-returns-2
 returns-2 c =
@@ -39,4 +24,4 @@ returns-3 c = let a = c .before .before .args in sym (place-none (a .o) (a .at) 
 pub part-place-spec : {M : Type 1} → statement M
 part-place-spec =
     tie.close
-    (tie.spec to-place-requires add-t6 add-t7 returns to-place-requires-2 add-t9 returns-2 returns-3)
+    (tie.spec (λ c κs. search needs) (λ c. search needs) (λ c. search needs) returns (λ c κs. search needs) (λ c. search needs) returns-2 returns-3)

@@ -10,31 +10,10 @@ use borrow.Author.Needs.{needs}
 use Rattle.cells.proofs.scan.Statement.{statement}
 use Rattle.cells.proofs.scan.Tie as tie
 
-clear-requires : tie.Need-clear-requires
-clear-requires c κs = search needs
-
-walk-requires : tie.Need-walk-requires
-walk-requires c κs = search needs
-
-enum-told : tie.Need-enum-told
-enum-told c = search needs
-
-enum-told-2 : tie.Need-enum-told-2
-enum-told-2 c = search needs
-
-clear-requires-2 : tie.Need-clear-requires-2
-clear-requires-2 c κs = search needs
-
-same-length : tie.Need-same-length
-same-length c = search needs
-
 returns : tie.Need-returns
 unfolding mapAfter
 returns c = let w = c .before .before .before .before .walk .ensures in
     (w .0, rw (c .enum-told .given .1) (w .1 ∙ ap (marksAll _) (c .before .before .before .before .before .before .before .before .clear .ensures)))
-
-same-length-2 : tie.Need-same-length-2
-same-length-2 c = search needs
 
 returns-2 : tie.Need-returns-2
 unfolding mapAfter
@@ -51,12 +30,12 @@ pub scan-spec : {M : Type 1} → statement M
 scan-spec =
     tie.close
     (tie.spec
-    clear-requires
-    walk-requires
-    enum-told
-    enum-told-2
-    clear-requires-2
-    same-length
+    (λ c κs. search needs)
+    (λ c κs. search needs)
+    (λ c. search needs)
+    (λ c. search needs)
+    (λ c κs. search needs)
+    (λ c. search needs)
     returns
-    same-length-2
+    (λ c. search needs)
     returns-2)

@@ -5,15 +5,6 @@ use borrow.Author.Needs.{needs}
 use Rattle.cells.proofs.survey.Statement.{statement}
 use Rattle.cells.proofs.survey.Tie as tie
 
-front-flaw-requires : tie.Need-front-flaw-requires
-front-flaw-requires c κs = search needs
-
-enum-known-f : tie.Need-enum-known-f
-enum-known-f c = search needs
-
-enum-told : tie.Need-enum-told
-enum-told c = search needs
-
 bins-of-requires : tie.Need-bins-of-requires
 bins-of-requires c κs = front-facts _ _ (sym (c .before .before .front-flaw .ensures) ∙ c .enum-told .given .1) .0
 
@@ -24,9 +15,6 @@ scan-requires c κs =
 returns : tie.Need-returns
 returns c = let s = survey-front _ _ (sym (c .before .before .before .front-flaw .ensures) ∙ c .before .f .given .1) in
     (sym (s .0), sym (s .1))
-
-same-length : tie.Need-same-length
-same-length c = search needs
 
 returns-2 : tie.Need-returns-2
 returns-2 c =
@@ -39,11 +27,11 @@ pub survey-spec : {M : Type 1} → statement M
 survey-spec =
     tie.close
     (tie.spec
-    front-flaw-requires
-    enum-known-f
-    enum-told
+    (λ c κs. search needs)
+    (λ c. search needs)
+    (λ c. search needs)
     bins-of-requires
     scan-requires
     returns
-    same-length
+    (λ c. search needs)
     returns-2)

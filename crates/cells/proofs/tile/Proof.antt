@@ -20,21 +20,6 @@ abbrev μ-loop : tie.MeasureT-loop
 loop-holds : tie.Need-loop-holds Inv-loop μ-loop
 loop-holds c = record { before-end = omega arith; eights = omega arith; small = omega arith; kept = refl; counts = refl; bits = refl }
 
-size-at-requires : tie.Need-size-at-requires Inv-loop μ-loop
-size-at-requires c κs = search needs
-
-cast-n : tie.Need-cast-n Inv-loop μ-loop
-cast-n c = search needs
-
-sub-good-size : tie.Need-sub-good-size Inv-loop μ-loop
-sub-good-size c = search needs
-
-good-size-requires : tie.Need-good-size-requires Inv-loop μ-loop
-good-size-requires c κs = search needs
-
-cast-t15 : tie.Need-cast-t15 Inv-loop μ-loop
-cast-t15 c = search needs
-
 same-length : tie.Need-same-length Inv-loop μ-loop
 same-length c = c .before .before .before .before .before .loop .inv .kept
 
@@ -54,9 +39,6 @@ is-good c = sym (c .before .good-size .ensures) ∙ not-false _ (c .if1 .left)
 
 add-next : tie.Need-add-next Inv-loop μ-loop
 add-next c = let g = good _ _ (is-good c) in omega arith
-
-mark-requires : tie.Need-mark-requires Inv-loop μ-loop
-mark-requires c κs = search needs
 
 add-used : tie.Need-add-used Inv-loop μ-loop
 add-used c = let g = good _ _ (is-good (c .before .before .before .before .before)) in omega arith
@@ -96,15 +78,15 @@ tile-spec =
     Inv-loop
     μ-loop
     loop-holds
-    size-at-requires
-    cast-n
-    sub-good-size
-    good-size-requires
-    cast-t15
+    (λ c κs. search needs)
+    (λ c. search needs)
+    (λ c. search needs)
+    (λ c κs. search needs)
+    (λ c. search needs)
     same-length
     returns
     add-next
-    mark-requires
+    (λ c κs. search needs)
     add-used
     add-free
     loop-less

@@ -23,9 +23,6 @@ loop-holds c = record { before-end = omega arith; pages = omega arith; few = ome
 bin-size-requires : tie.Need-bin-size-requires Inv-loop μ-loop
 bin-size-requires c κs = omega arith
 
-cast-t15 : tie.Need-cast-t15 Inv-loop μ-loop
-cast-t15 c = search needs
-
 same-length : tie.Need-same-length Inv-loop μ-loop
 same-length c = c .before .before .before .loop .inv .kept
 
@@ -46,9 +43,6 @@ tile-requires c κs = let l = c .before .before .before .before .loop .inv in
     let g = fits l (c .before .before .before .loop-test .taken) (c .before .before .bin-size .ensures) in
     record { order = omega arith; eights = omega arith; ends = omega arith; inside = omega arith; small = omega arith }
 
-enum-known-f : tie.Need-enum-known-f Inv-loop μ-loop
-enum-known-f c = search needs
-
 same-length-2 : tie.Need-same-length-2 Inv-loop μ-loop
 same-length-2 c = ap length (c .before .before .before .before .before .tile .ensures .1) ∙ length-marks _ _ ∙ c .before .before .before .before .before .before .before .before .before .before .loop .inv .kept
 
@@ -56,9 +50,6 @@ returns-2 : tie.Need-returns-2 Inv-loop μ-loop
 returns-2 c = let e = sym (c .before .before .before .before .before .tile .ensures .0) ∙ c .before .f .given .1 in
     let r = refused (c .before .before .before .before .before .before .before .before .before .before .loop .inv) (c .before .before .before .before .before .before .before .before .before .loop-test .taken) (c .before .before .before .before .before .before .before .before .bin-size .ensures) (c .before .before .before .before .before .before .before .if1 .left) e in
     (sym (r .0), c .before .before .before .before .before .tile .ensures .1 ∙ sym (r .1))
-
-enum-known-u : tie.Need-enum-known-u Inv-loop μ-loop
-enum-known-u c = search needs
 
 -- the turn after a good bin
 again : tie.Need-loop-again Inv-loop μ-loop
@@ -99,16 +90,16 @@ walk-spec =
     μ-loop
     loop-holds
     bin-size-requires
-    cast-t15
+    (λ c. search needs)
     same-length
     returns
     add-next
     add-tile
     tile-requires
-    enum-known-f
+    (λ c. search needs)
     same-length-2
     returns-2
-    enum-known-u
+    (λ c. search needs)
     add-used
     add-free
     add-count

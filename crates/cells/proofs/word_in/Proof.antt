@@ -5,12 +5,6 @@ use borrow.Author.Needs.{needs}
 use Rattle.cells.proofs.word_in.Statement.{statement}
 use Rattle.cells.proofs.word_in.Tie as tie
 
-cast-u32-at : tie.Need-cast-u32-at
-cast-u32-at c = search needs
-
-add-u32-at : tie.Need-add-u32-at
-add-u32-at c = search needs
-
 add-u32-at-2 : tie.Need-add-u32-at-2
 add-u32-at-2 c = let h = word-room _ _ _ (c .before .before .pre) in search needs
 
@@ -21,4 +15,4 @@ returns : tie.Need-returns
 returns c = c .u32-at .ensures ∙ word-is _ _ _ (c .before .before .before .pre)
 
 pub word-in-spec : {M : Type 1} → statement M
-word-in-spec = tie.close (tie.spec cast-u32-at add-u32-at add-u32-at-2 u32-at-requires returns)
+word-in-spec = tie.close (tie.spec (λ c. search needs) (λ c. search needs) add-u32-at-2 u32-at-requires returns)

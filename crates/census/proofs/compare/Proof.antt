@@ -33,12 +33,6 @@ shared-slice-read-k-2 c = omega (arith, c .before .before .before .before .befor
 returns : tie.Need-returns Inv-loop μ-loop
 returns c = compare-stop _ _ _ _ (c .before .before .before .before .before .before .loop .inv) (c .before .before .before .before .before .loop-test .taken) refl (c .before .before .before .item-at .ensures) refl (c .if1 .taken)
 
-cast-wrapping-add-u64 : tie.Need-cast-wrapping-add-u64 Inv-loop μ-loop
-cast-wrapping-add-u64 c = search needs
-
-wrapping-add-u64-requires : tie.Need-wrapping-add-u64-requires Inv-loop μ-loop
-wrapping-add-u64-requires c κs = search needs
-
 add-i : tie.Need-add-i Inv-loop μ-loop
 add-i c = omega (arith, c .before .before .before .before .before .before .loop-test .taken, c .before .before .before .before .before .before .before .before .before .before .before .pre .numbers)
 
@@ -65,8 +59,8 @@ compare-spec =
     mul-k-2
     shared-slice-read-k-2
     returns
-    cast-wrapping-add-u64
-    wrapping-add-u64-requires
+    (λ c. search needs)
+    (λ c κs. search needs)
     add-i
     loop-less
     loop-again

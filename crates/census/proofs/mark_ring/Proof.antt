@@ -17,9 +17,6 @@ abbrev μ-loop : tie.MeasureT-loop
 loop-holds : tie.Need-loop-holds Inv-loop μ-loop
 loop-holds c = marking-start _ _ _ (c .before .before .pre .0) (c .before .before .pre .1 .room)
 
-cast-put-bit : tie.Need-cast-put-bit Inv-loop μ-loop
-cast-put-bit c = search needs
-
 put-bit-requires : tie.Need-put-bit-requires Inv-loop μ-loop
 put-bit-requires c κs = marking-room _ _ _ (c .before .before .before .loop .inv)
 
@@ -56,7 +53,7 @@ mark-ring-spec =
     Inv-loop
     μ-loop
     loop-holds
-    cast-put-bit
+    (λ c. search needs)
     put-bit-requires
     item-at-requires
     same-length

@@ -24,26 +24,11 @@ run-batch-requires c κs =
     let r = c .before .loop .inv in
     record { item = trail-item _ _ _ (r .trail); once = round-once _ _ _ _ r 2048; walk = c .before .before .before .before .pre .1 }
 
-enum-known-t : tie.Need-enum-known-t Inv-loop μ-loop
-enum-known-t c = search needs
-
 returns : tie.Need-returns Inv-loop μ-loop
 returns c = round-flawed _ _ _ _ (c .before .before .before .before .before .loop .inv) 2048 (sym (c .before .before .before .run-batch .ensures) ∙ c .before .t .given .1)
 
-enum-known-t-2 : tie.Need-enum-known-t-2 Inv-loop μ-loop
-enum-known-t-2 c = search needs
-
-wrapping-add-u64-requires : tie.Need-wrapping-add-u64-requires Inv-loop μ-loop
-wrapping-add-u64-requires c κs = search needs
-
 returns-2 : tie.Need-returns-2 Inv-loop μ-loop
 returns-2 c = rw (c .wrapping-add-u64 .ensures) (round-ended _ _ _ _ (c .before .before .before .before .before .before .loop .inv) 2048 (sym (c .before .before .before .before .run-batch .ensures) ∙ c .before .before .t2 .given .1))
-
-enum-known-t-3 : tie.Need-enum-known-t-3 Inv-loop μ-loop
-enum-known-t-3 c = search needs
-
-wrapping-add-u64-requires-2 : tie.Need-wrapping-add-u64-requires-2 Inv-loop μ-loop
-wrapping-add-u64-requires-2 c κs = search needs
 
 add-met : tie.Need-add-met Inv-loop μ-loop
 add-met c =
@@ -67,13 +52,13 @@ ring-sum-spec =
     μ-loop
     loop-holds
     run-batch-requires
-    enum-known-t
+    (λ c. search needs)
     returns
-    enum-known-t-2
-    wrapping-add-u64-requires
+    (λ c. search needs)
+    (λ c κs. search needs)
     returns-2
-    enum-known-t-3
-    wrapping-add-u64-requires-2
+    (λ c. search needs)
+    (λ c κs. search needs)
     add-met
     loop-less
     loop-again

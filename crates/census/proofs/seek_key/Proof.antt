@@ -4,18 +4,6 @@ use Rattle.chains.proofs.Laws.{none-yet, zeros-are}
 use Rattle.census.proofs.seek_key.Statement.{statement}
 use Rattle.census.proofs.seek_key.Tie as tie
 
-slice-aggregate-count-key : tie.Need-slice-aggregate-count-key
-slice-aggregate-count-key c = search needs
-
-slice-aggregate-count-key-2 : tie.Need-slice-aggregate-count-key-2
-slice-aggregate-count-key-2 c = search needs
-
-slice-aggregate-count-key-3 : tie.Need-slice-aggregate-count-key-3
-slice-aggregate-count-key-3 c = search needs
-
-slice-aggregate-count-key-4 : tie.Need-slice-aggregate-count-key-4
-slice-aggregate-count-key-4 c = search needs
-
 count-key-requires : tie.Need-count-key-requires
 count-key-requires c κs = (c .before .before .before .before .before .before .pre, record { chained = none-yet _ _ _ (omega arith) (λ b. zeros-are 1 b); room = omega arith })
 
@@ -26,9 +14,9 @@ pub seek-key-spec : {M : Type 1} → statement M
 seek-key-spec =
     tie.close
     (tie.spec
-    slice-aggregate-count-key
-    slice-aggregate-count-key-2
-    slice-aggregate-count-key-3
-    slice-aggregate-count-key-4
+    (λ c. search needs)
+    (λ c. search needs)
+    (λ c. search needs)
+    (λ c. search needs)
     count-key-requires
     returns)

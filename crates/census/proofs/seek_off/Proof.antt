@@ -21,18 +21,6 @@ scan-requires c κs =
     let p = c .before .before .before .before .before .before .before .before .before .before .before .before .before .pre in
     marked-data _ _ (p .1 .0) _ (p .0) (c .before .before .before .before .before .before .before .before .before .clear .ensures) (c .before .before .before .before .before .mark-ring .ensures)
 
-enum-told : tie.Need-enum-told
-enum-told c = search needs
-
-enum-known-s : tie.Need-enum-known-s
-enum-known-s c = search needs
-
-refused-at-requires : tie.Need-refused-at-requires
-refused-at-requires c κs = search needs
-
-same-length : tie.Need-same-length
-same-length c = search needs
-
 returns : tie.Need-returns
 returns c =
     let p = c .before .before .before .before .before .before .before .before .before .before .before .before .before .before .before .before .before .before .pre in
@@ -41,9 +29,6 @@ returns c =
       seek-none _ (c .enum-told .given .1) (key-sought _ _ (p .1 .0) _ (p .0) k m _ (c .before .before .before .before .before .before .seek-key .ensures)),
       map-restored _ _ (p .1 .0) _ (p .0) k m (p .1 .1 .1) (c .before .before .before .before .scan .ensures .0) (c .before .before .before .before .scan .ensures .1),
     )
-
-same-length-2 : tie.Need-same-length-2
-same-length-2 c = search needs
 
 returns-2 : tie.Need-returns-2
 returns-2 c =
@@ -62,10 +47,10 @@ seek-off-spec =
     mark-ring-requires
     seek-key-requires
     scan-requires
-    enum-told
-    enum-known-s
-    refused-at-requires
-    same-length
+    (λ c. search needs)
+    (λ c. search needs)
+    (λ c κs. search needs)
+    (λ c. search needs)
     returns
-    same-length-2
+    (λ c. search needs)
     returns-2)

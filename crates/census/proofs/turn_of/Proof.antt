@@ -4,21 +4,6 @@ use Rattle.census.proofs.Answers.{turn-flawed, turn-closed, turn-broken
 use Rattle.census.proofs.turn_of.Statement.{statement}
 use Rattle.census.proofs.turn_of.Tie as tie
 
-enum-known-a : tie.Need-enum-known-a
-enum-known-a c = search needs
-
-enum-known-a-2 : tie.Need-enum-known-a-2
-enum-known-a-2 c = search needs
-
-enum-told : tie.Need-enum-told
-enum-told c = search needs
-
-enum-known-b : tie.Need-enum-known-b
-enum-known-b c = search needs
-
-enum-known-b-2 : tie.Need-enum-known-b-2
-enum-known-b-2 c = search needs
-
 returns : tie.Need-returns
 returns c = sym (turn-flawed _ _ (c .before .a .given .1))
 
@@ -35,11 +20,11 @@ pub turn-of-spec : {M : Type 1} → statement M
 turn-of-spec =
     tie.close
     (tie.spec
-    enum-known-a
-    enum-known-a-2
-    enum-told
-    enum-known-b
-    enum-known-b-2
+    (λ c. search needs)
+    (λ c. search needs)
+    (λ c. search needs)
+    (λ c. search needs)
+    (λ c. search needs)
     returns
     returns-2
     returns-3

@@ -11,9 +11,6 @@ use Rattle.counting.proofs.count_item.Tie as tie
 find-requires : tie.Need-find-requires
 find-requires c κs = c .before .before .before .before .pre .chained
 
-sub-i : tie.Need-sub-i
-sub-i c = search needs
-
 mul-wrapping-add-u32 : tie.Need-mul-wrapping-add-u32
 mul-wrapping-add-u32 c =
     let f = c .before .find in
@@ -26,9 +23,6 @@ slice-read-wrapping-add-u32 c =
     let a = c .before .before .before .before .before .before .before .args in
     omega (arith, f .ensures, find-most (now (a .table)) (a .x) (a .n), c .before .before .before .before .before .before .before .pre .room)
 
-wrapping-add-u32-requires : tie.Need-wrapping-add-u32-requires
-wrapping-add-u32-requires c κs = search needs
-
 mul-counts : tie.Need-mul-counts
 mul-counts c =
     let f = c .before .before .before .find in
@@ -40,9 +34,6 @@ slice-write-counts c =
     let f = c .before .before .before .find in
     let a = c .before .before .before .before .before .before .before .before .args in
     omega (arith, f .ensures, find-most (now (a .table)) (a .x) (a .n), c .before .before .before .before .before .before .before .before .pre .room)
-
-same-length : tie.Need-same-length
-same-length c = search needs
 
 returns : tie.Need-returns
 returns c =
@@ -60,12 +51,12 @@ count-item-spec =
     tie.close
     (tie.spec
     find-requires
-    sub-i
+    (λ c. search needs)
     mul-wrapping-add-u32
     slice-read-wrapping-add-u32
-    wrapping-add-u32-requires
+    (λ c κs. search needs)
     mul-counts
     slice-write-counts
-    same-length
+    (λ c. search needs)
     returns
     returns-2)

@@ -10,9 +10,6 @@ use Rattle.counting.proofs.count_key.Tie as tie
 visit-requires : tie.Need-visit-requires
 visit-requires c κs = let p = c .before .before .before .before .before .before .before .pre in (key-room (p .0), p .1)
 
-same-length : tie.Need-same-length
-same-length c = search needs
-
 returns : tie.Need-returns
 returns c =
     let v = c .before .before .before .visit .ensures in
@@ -27,9 +24,6 @@ count-list-requires c κs =
     let p = c .before .before .before .before .before .before .before .before .before .before .before .before .pre in
     (level-again (p .0), ready-still (p .1) (ap length (c .before .before .before .before .visit .ensures .1) ∙ length-visited _ _ _ _ _))
 
-same-length-2 : tie.Need-same-length-2
-same-length-2 c = search needs
-
 returns-2 : tie.Need-returns-2
 returns-2 c =
     let v = c .before .before .before .before .before .before .before .visit .ensures in
@@ -38,4 +32,4 @@ returns-2 c =
     (s .sought, s .counts)
 
 pub count-key-spec : {M : Type 1} → statement M
-count-key-spec = tie.close (tie.spec visit-requires same-length returns sub-count-list count-list-requires same-length-2 returns-2)
+count-key-spec = tie.close (tie.spec visit-requires (λ c. search needs) returns sub-count-list count-list-requires (λ c. search needs) returns-2)

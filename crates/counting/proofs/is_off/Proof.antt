@@ -6,17 +6,11 @@ use Rattle.counting.proofs.Laws.{off-past, off-inside}
 use Rattle.counting.proofs.is_off.Statement.{statement}
 use Rattle.counting.proofs.is_off.Tie as tie
 
-cast-if1 : tie.Need-cast-if1
-cast-if1 c = search needs
-
 returns : tie.Need-returns
 returns c = sym (off-past _ _ _ (c .if1 .taken))
-
-is-marked-requires : tie.Need-is-marked-requires
-is-marked-requires c κs = search needs
 
 returns-2 : tie.Need-returns-2
 returns-2 c = ap not (c .is-marked .ensures) ∙ sym (off-inside _ _ _ (c .before .if1 .left))
 
 pub is-off-spec : {M : Type 1} → statement M
-is-off-spec = tie.close (tie.spec cast-if1 returns is-marked-requires returns-2)
+is-off-spec = tie.close (tie.spec (λ c. search needs) returns (λ c κs. search needs) returns-2)

@@ -8,27 +8,12 @@ use borrow.Author.Needs.{needs}
 use Rattle.entries.proofs.is_entry.Statement.{statement}
 use Rattle.entries.proofs.is_entry.Tie as tie
 
-sub-room : tie.Need-sub-room
-sub-room c = search needs
-
 returns : tie.Need-returns
 returns c = sym (not-entered _ _ _ (λ e. omega (arith, e .head)))
-
-slice-aggregate-stands-at : tie.Need-slice-aggregate-stands-at
-slice-aggregate-stands-at c = search needs
-
-stands-at-requires : tie.Need-stands-at-requires
-stands-at-requires c κs = search needs
 
 returns-2 : tie.Need-returns-2
 returns-2 c =
     sym (not-entered _ _ _ (λ e. never _ (e .signed) (sym (c .before .stands-at .ensures) ∙ not-true _ (c .if2 .taken))))
-
-add-wide-at : tie.Need-add-wide-at
-add-wide-at c = search needs
-
-wide-at-requires : tie.Need-wide-at-requires
-wide-at-requires c κs = search needs
 
 returns-3 : tie.Need-returns-3
 returns-3 c = sym (not-entered _ _ _ (λ e. omega (arith, e .least)))
@@ -39,41 +24,17 @@ returns-4 c = sym (not-entered _ _ _ (λ e. omega (arith, e .sectors)))
 returns-5 : tie.Need-returns-5
 returns-5 c = sym (not-entered _ _ _ (λ e. omega (arith, e .inside)))
 
-is-hashed-requires : tie.Need-is-hashed-requires
-is-hashed-requires c κs = search needs
-
 returns-6 : tie.Need-returns-6
 returns-6 c =
     sym (not-entered _ _ _ (λ e. never _ (e .hashed) (sym (c .before .is-hashed .ensures) ∙ not-true _ (c .if6 .taken))))
 
-add-u32-at : tie.Need-add-u32-at
-add-u32-at c = search needs
-
-u32-at-requires : tie.Need-u32-at-requires
-u32-at-requires c κs = search needs
-
-cast-if7 : tie.Need-cast-if7
-cast-if7 c = search needs
-
 returns-7 : tie.Need-returns-7
 returns-7 c = sym (not-entered _ _ _ (λ e. omega (arith, e .numbered)))
-
-add-u32-at-2 : tie.Need-add-u32-at-2
-add-u32-at-2 c = search needs
-
-u32-at-requires-2 : tie.Need-u32-at-requires-2
-u32-at-requires-2 c κs = search needs
-
-is-bins-size-requires : tie.Need-is-bins-size-requires
-is-bins-size-requires c κs = search needs
 
 returns-8 : tie.Need-returns-8
 returns-8 c =
     let bins = sym (c .before .is-bins-size .ensures ∙ ap isBinsSize (c .before .before .u32-at2 .ensures)) in
     sym (not-entered _ _ _ (λ e. never _ (e .bins) (bins ∙ not-true _ (c .if8 .taken))))
-
-refs-fit-requires : tie.Need-refs-fit-requires
-refs-fit-requires c κs = search needs
 
 returns-9 : tie.Need-returns-9
 returns-9 c =
@@ -89,25 +50,25 @@ pub is-entry-spec : {M : Type 1} → statement M
 is-entry-spec =
     tie.close
     (tie.spec
-    sub-room
+    (λ c. search needs)
     returns
-    slice-aggregate-stands-at
-    stands-at-requires
+    (λ c. search needs)
+    (λ c κs. search needs)
     returns-2
-    add-wide-at
-    wide-at-requires
+    (λ c. search needs)
+    (λ c κs. search needs)
     returns-3
     returns-4
     returns-5
-    is-hashed-requires
+    (λ c κs. search needs)
     returns-6
-    add-u32-at
-    u32-at-requires
-    cast-if7
+    (λ c. search needs)
+    (λ c κs. search needs)
+    (λ c. search needs)
     returns-7
-    add-u32-at-2
-    u32-at-requires-2
-    is-bins-size-requires
+    (λ c. search needs)
+    (λ c κs. search needs)
+    (λ c κs. search needs)
     returns-8
-    refs-fit-requires
+    (λ c κs. search needs)
     returns-9)

@@ -20,61 +20,10 @@ body c =
     let n : s .args .at + c .before .wide-at .result - (s .args .at + 40) ≡ sizeAt (s .args .log .now) (s .args .at) - 40 = omega arith in
     ap (λ (k : ℕ). hashOf (take k (drop (s .args .at + 40) (s .args .log .now)))) n
 
-add-wide-at : tie.Need-add-wide-at
-add-wide-at c = search needs
-
-wide-at-requires : tie.Need-wide-at-requires
-wide-at-requires c κs = search needs
-
-add-end : tie.Need-add-end
-add-end c = search needs
-
-add-u64-at : tie.Need-add-u64-at
-add-u64-at c = search needs
-
-u64-at-requires : tie.Need-u64-at-requires
-u64-at-requires c κs = search needs
-
-add-hash : tie.Need-add-hash
-add-hash c = search needs
-
-sub-hash : tie.Need-sub-hash
-sub-hash c = search needs
-
-part-hash-start : tie.Need-part-hash-start
-part-hash-start c = search needs
-
-part-hash-end : tie.Need-part-hash-end
-part-hash-end c = search needs
-
-hash-requires : tie.Need-hash-requires
-hash-requires c κs = search needs
-
 returns : tie.Need-returns
 returns c =
     let f = c .before .before .before in
     sym (wrong-first _ _ (λ e. c .if1 .taken (f .u64-at .ensures ∙ e ∙ sym (c .before .hash .ensures ∙ body f))))
-
-add-u64-at-2 : tie.Need-add-u64-at-2
-add-u64-at-2 c = search needs
-
-u64-at-requires-2 : tie.Need-u64-at-requires-2
-u64-at-requires-2 c κs = search needs
-
-add-hash-2 : tie.Need-add-hash-2
-add-hash-2 c = search needs
-
-sub-hash-2 : tie.Need-sub-hash-2
-sub-hash-2 c = search needs
-
-part-hash-start-2 : tie.Need-part-hash-start-2
-part-hash-start-2 c = search needs
-
-part-hash-end-2 : tie.Need-part-hash-end-2
-part-hash-end-2 c = search needs
-
-hash-requires-2 : tie.Need-hash-requires-2
-hash-requires-2 c κs = search needs
 
 returns-2 : tie.Need-returns-2
 returns-2 c =
@@ -90,22 +39,22 @@ pub is-hashed-spec : {M : Type 1} → statement M
 is-hashed-spec =
     tie.close
     (tie.spec
-    add-wide-at
-    wide-at-requires
-    add-end
-    add-u64-at
-    u64-at-requires
-    add-hash
-    sub-hash
-    part-hash-start
-    part-hash-end
-    hash-requires
+    (λ c. search needs)
+    (λ c κs. search needs)
+    (λ c. search needs)
+    (λ c. search needs)
+    (λ c κs. search needs)
+    (λ c. search needs)
+    (λ c. search needs)
+    (λ c. search needs)
+    (λ c. search needs)
+    (λ c κs. search needs)
     returns
-    add-u64-at-2
-    u64-at-requires-2
-    add-hash-2
-    sub-hash-2
-    part-hash-start-2
-    part-hash-end-2
-    hash-requires-2
+    (λ c. search needs)
+    (λ c κs. search needs)
+    (λ c. search needs)
+    (λ c. search needs)
+    (λ c. search needs)
+    (λ c. search needs)
+    (λ c κs. search needs)
     returns-2)

@@ -12,21 +12,6 @@ use borrow.Author.Needs.{needs}
 use Rattle.export.proofs.begin.Statement.{statement}
 use Rattle.export.proofs.begin.Tie as tie
 
-check-requires : tie.Need-check-requires
-check-requires c κs = search needs
-
-enum-known-r : tie.Need-enum-known-r
-enum-known-r c = search needs
-
-enum-told : tie.Need-enum-told
-enum-told c = search needs
-
-short-requires : tie.Need-short-requires
-short-requires c κs = search needs
-
-same-length : tie.Need-same-length
-same-length c = search needs
-
 returns : tie.Need-returns
 returns c =
     let a = c .before .before .before .before .before .before .before .before .before .before .before .args in
@@ -36,23 +21,11 @@ returns c =
 root-of-requires : tie.Need-root-of-requires
 root-of-requires c κs = accepted-base _ _ (sym (c .before .before .before .before .before .before .check .ensures .0) ∙ c .before .before .enum-told .given .1)
 
-put-key-requires : tie.Need-put-key-requires
-put-key-requires c κs = search needs
-
-same-length-2 : tie.Need-same-length-2
-same-length-2 c = search needs
-
 returns-2 : tie.Need-returns-2
 returns-2 c =
     let a = c .before .before .before .before .before .before .before .before .before .before .args in
     let q = begin-unread (a .hive .now) (now (a .map)) (sym (c .before .before .before .before .before .check .ensures .0) ∙ c .before .r .given .1) (now (a .levels)) in
     (sym (q .0), (c .before .before .before .before .before .check .ensures .1, sym (q .1)))
-
-same-length-3 : tie.Need-same-length-3
-same-length-3 c = search needs
-
-same-length-4 : tie.Need-same-length-4
-same-length-4 c = search needs
 
 returns-3 : tie.Need-returns-3
 returns-3 c =
@@ -64,16 +37,16 @@ pub begin-spec : {M : Type 1} → statement M
 begin-spec =
     tie.close
     (tie.spec
-    check-requires
-    enum-known-r
-    enum-told
-    short-requires
-    same-length
+    (λ c κs. search needs)
+    (λ c. search needs)
+    (λ c. search needs)
+    (λ c κs. search needs)
+    (λ c. search needs)
     returns
     root-of-requires
-    put-key-requires
-    same-length-2
+    (λ c κs. search needs)
+    (λ c. search needs)
     returns-2
-    same-length-3
-    same-length-4
+    (λ c. search needs)
+    (λ c. search needs)
     returns-3)

@@ -13,30 +13,6 @@ use Rattle.export.proofs.due_frame.Tie as tie
 returns : tie.Need-returns
 returns c = sym (due-over _ _ _ _ (c .if1 .taken))
 
-sub-i : tie.Need-sub-i
-sub-i c = search needs
-
-mul-i : tie.Need-mul-i
-mul-i c = search needs
-
-mul-t12 : tie.Need-mul-t12
-mul-t12 c = search needs
-
-shared-slice-read-t14 : tie.Need-shared-slice-read-t14
-shared-slice-read-t14 c = search needs
-
-top-flaw-requires : tie.Need-top-flaw-requires
-top-flaw-requires c κs = search needs
-
-enum-known-f : tie.Need-enum-known-f
-enum-known-f c = search needs
-
-refused-requires : tie.Need-refused-requires
-refused-requires c κs = search needs
-
-enum-told : tie.Need-enum-told
-enum-told c = search needs
-
 key-fields-requires : tie.Need-key-fields-requires
 key-fields-requires c κs = key-room Header _ [] _ (sym (c .before .before .top-flaw .ensures) ∙ c .enum-told .given .1)
 
@@ -54,14 +30,14 @@ due-frame-spec =
     tie.close
     (tie.spec
     returns
-    sub-i
-    mul-i
-    mul-t12
-    shared-slice-read-t14
-    top-flaw-requires
-    enum-known-f
-    refused-requires
-    enum-told
+    (λ c. search needs)
+    (λ c. search needs)
+    (λ c. search needs)
+    (λ c. search needs)
+    (λ c κs. search needs)
+    (λ c. search needs)
+    (λ c κs. search needs)
+    (λ c. search needs)
     key-fields-requires
     top-due-requires
     returns-2

@@ -22,9 +22,6 @@ loop-holds c = (refl, c .before .before .pre, refl)
 due-frame-requires : tie.Need-due-frame-requires Inv-loop μ-loop
 due-frame-requires c κs = (c .before .before .loop .inv .1, λ e. absurd (let z : _≡_ {A = ℕ} 0 1 = cc in omega arith))
 
-enum-told : tie.Need-enum-told Inv-loop μ-loop
-enum-told c = search needs
-
 same-length : tie.Need-same-length Inv-loop μ-loop
 same-length c = c .before .before .before .before .before .loop .inv .2
 
@@ -34,9 +31,6 @@ returns c =
     let a = c .before .before .before .before .before .before .before .before .args in
     let w = l .inv .0 ∙ went-over (a .bins .now) (a .minor) (l .left) (l .levels) (l .next) (omega arith) (sym (c .before .before .due-frame .ensures) ∙ c .enum-told .given .1) in
     (sym (ap (λ (g : Went). g .answer) w), (sym (ap (λ (g : Went). g .levels) w), tt))
-
-enum-known-r : tie.Need-enum-known-r Inv-loop μ-loop
-enum-known-r c = search needs
 
 same-length-2 : tie.Need-same-length-2 Inv-loop μ-loop
 same-length-2 c = c .before .before .before .before .before .before .loop .inv .2
@@ -48,20 +42,11 @@ returns-2 c =
     let w = l .inv .0 ∙ went-bad (a .bins .now) (a .minor) (l .left) (l .levels) (l .next) (omega arith) (sym (c .before .before .before .due-frame .ensures) ∙ c .before .r .given .1) in
     (sym (ap (λ (g : Went). g .answer) w), (sym (ap (λ (g : Went). g .levels) w), tt))
 
-enum-known-f : tie.Need-enum-known-f Inv-loop μ-loop
-enum-known-f c = search needs
-
 move-on-requires : tie.Need-move-on-requires Inv-loop μ-loop
 move-on-requires c κs =
     let l = c .before .before .before .before .before .before .before .loop in
     let a = c .before .before .before .before .before .before .before .before .before .before .args in
     due-lies (a .bins .now) (a .minor) (l .levels) (l .next) (sym (c .before .before .before .before .due-frame .ensures) ∙ c .before .before .f .given .1) .goes
-
-sub-left : tie.Need-sub-left Inv-loop μ-loop
-sub-left c = search needs
-
-loop-less : tie.Need-loop-less Inv-loop μ-loop
-loop-less c = search needs
 
 loop-again : tie.Need-loop-again Inv-loop μ-loop
 loop-again c =
@@ -90,16 +75,16 @@ pass-spec =
     μ-loop
     loop-holds
     due-frame-requires
-    enum-told
+    (λ c. search needs)
     same-length
     returns
-    enum-known-r
+    (λ c. search needs)
     same-length-2
     returns-2
-    enum-known-f
+    (λ c. search needs)
     move-on-requires
-    sub-left
-    loop-less
+    (λ c. search needs)
+    (λ c. search needs)
     loop-again
     same-length-3
     returns-3)

@@ -4,50 +4,26 @@ use borrow.Author.Needs.{needs}
 use Rattle.export.proofs.put_frame.Statement.{statement}
 use Rattle.export.proofs.put_frame.Tie as tie
 
-enum-told : tie.Need-enum-told
-enum-told c = search needs
-
 put-open-requires : tie.Need-put-open-requires
 put-open-requires c κs = let e = c .before .enum-told .given .1 in (rw e at (c .before .before .before .before .before .before .pre .0), rw e at (c .before .before .before .before .before .before .pre .1))
-
-enum-known-what : tie.Need-enum-known-what
-enum-known-what c = search needs
 
 put-value-requires : tie.Need-put-value-requires
 put-value-requires c κs = let e = c .before .before .what .given .1 in (rw e at (c .before .before .before .before .before .before .before .pre .0), rw e at (c .before .before .before .before .before .before .before .pre .1))
 
-enum-told-2 : tie.Need-enum-told-2
-enum-told-2 c = search needs
-
 put-open-requires-2 : tie.Need-put-open-requires-2
 put-open-requires-2 c κs = let e = c .before .enum-told2 .given .1 in (rw e at (c .before .before .before .before .before .before .pre .0), rw e at (c .before .before .before .before .before .before .pre .1))
-
-enum-told-3 : tie.Need-enum-told-3
-enum-told-3 c = search needs
 
 put-close-requires : tie.Need-put-close-requires
 put-close-requires c κs = let e = c .before .enum-told3 .given .1 in let p = rw e at (c .before .before .before .before .before .before .pre .1) in omega (arith, close-length)
 
-same-length : tie.Need-same-length
-same-length c = search needs
-
 returns : tie.Need-returns
 returns c = rw (c .before .before .before .before .enum-told .given .1) (c .before .before .put-open .ensures)
-
-same-length-2 : tie.Need-same-length-2
-same-length-2 c = search needs
 
 returns-2 : tie.Need-returns-2
 returns-2 c = rw (c .before .before .before .before .before .what .given .1) (c .before .before .put-value .ensures)
 
-same-length-3 : tie.Need-same-length-3
-same-length-3 c = search needs
-
 returns-3 : tie.Need-returns-3
 returns-3 c = rw (c .before .before .before .before .enum-told2 .given .1) (c .before .before .put-open2 .ensures)
-
-same-length-4 : tie.Need-same-length-4
-same-length-4 c = search needs
 
 returns-4 : tie.Need-returns-4
 returns-4 c = rw (c .before .before .before .before .enum-told3 .given .1) (c .before .before .put-close .ensures)
@@ -56,19 +32,19 @@ pub put-frame-spec : {M : Type 1} → statement M
 put-frame-spec =
     tie.close
     (tie.spec
-    enum-told
+    (λ c. search needs)
     put-open-requires
-    enum-known-what
+    (λ c. search needs)
     put-value-requires
-    enum-told-2
+    (λ c. search needs)
     put-open-requires-2
-    enum-told-3
+    (λ c. search needs)
     put-close-requires
-    same-length
+    (λ c. search needs)
     returns
-    same-length-2
+    (λ c. search needs)
     returns-2
-    same-length-3
+    (λ c. search needs)
     returns-3
-    same-length-4
+    (λ c. search needs)
     returns-4)

@@ -8,29 +8,11 @@ use borrow.Author.Needs.{needs}
 use Rattle.export.proofs.run.Statement.{statement}
 use Rattle.export.proofs.run.Tie as tie
 
-base-flaw-requires : tie.Need-base-flaw-requires
-base-flaw-requires c κs = search needs
-
-enum-known-f : tie.Need-enum-known-f
-enum-known-f c = search needs
-
-refused-requires : tie.Need-refused-requires
-refused-requires c κs = search needs
-
-enum-told : tie.Need-enum-told
-enum-told c = search needs
-
-short-requires : tie.Need-short-requires
-short-requires c κs = search needs
-
 returns : tie.Need-returns
 returns c =
     let a = c .before .before .before .before .before .before .before .before .args in
     let q = run-few (a .hive .now) (now (a .levels)) (a .c) (now (a .out)) (sym (c .before .before .before .before .base-flaw .ensures) ∙ c .before .before .enum-told .given .1) (omega arith) in
     (ap ran.Refused (c .short .ensures) ∙ sym (q .0), (sym (q .1), sym (q .2)))
-
-short-requires-2 : tie.Need-short-requires-2
-short-requires-2 c κs = search needs
 
 returns-2 : tie.Need-returns-2
 returns-2 c =
@@ -44,20 +26,11 @@ bins-of-requires c κs = sym (c .before .before .before .before .before .base-fl
 minor-of-requires : tie.Need-minor-of-requires
 minor-of-requires c κs = sym (c .before .before .before .before .before .before .base-flaw .ensures) ∙ c .before .before .before .before .enum-told .given .1
 
-run-in-requires : tie.Need-run-in-requires
-run-in-requires c κs = search needs
-
 returns-3 : tie.Need-returns-3
 returns-3 c =
     let a = c .before .before .before .before .before .before .before .before .args in
     let q = run-unread (a .hive .now) (now (a .levels)) (a .c) (now (a .out)) (sym (c .before .before .before .before .base-flaw .ensures) ∙ c .before .before .f .given .1) in
     (ap ran.Refused (c .refused .ensures) ∙ sym (q .0), (sym (q .2), sym (q .1)))
-
-same-length : tie.Need-same-length
-same-length c = search needs
-
-same-length-2 : tie.Need-same-length-2
-same-length-2 c = search needs
 
 returns-4 : tie.Need-returns-4
 returns-4 c =
@@ -69,18 +42,18 @@ pub run-spec : {M : Type 1} → statement M
 run-spec =
     tie.close
     (tie.spec
-    base-flaw-requires
-    enum-known-f
-    refused-requires
-    enum-told
-    short-requires
+    (λ c κs. search needs)
+    (λ c. search needs)
+    (λ c κs. search needs)
+    (λ c. search needs)
+    (λ c κs. search needs)
     returns
-    short-requires-2
+    (λ c κs. search needs)
     returns-2
     bins-of-requires
     minor-of-requires
-    run-in-requires
+    (λ c κs. search needs)
     returns-3
-    same-length
-    same-length-2
+    (λ c. search needs)
+    (λ c. search needs)
     returns-4)

@@ -34,12 +34,6 @@ take-turn-requires c κs =
     let o = out-size (a .bins .now) (a .minor) (now (a .levels)) (a .c) (now (a .out)) (l .inv .0) in
     ((l .inv .0 .room, l .inv .1), omega (arith, l .inv .0 .within))
 
-enum-told : tie.Need-enum-told Inv-loop μ-loop
-enum-told c = search needs
-
-ended-requires : tie.Need-ended-requires Inv-loop μ-loop
-ended-requires c κs = search needs
-
 same-length : tie.Need-same-length Inv-loop μ-loop
 same-length c =
     let l = c .before .before .before .before .before .before .before .before .before .before .loop in
@@ -59,12 +53,6 @@ returns c =
     let t = sym (c .before .before .before .before .before .before .before .take-turn .ensures .0) ∙ c .before .enum-told .given .1 in
     let s = stops-over (dueAt (a .bins .now) (a .minor) (l .levels) (l .next)) (l .next .depth) (length (l .out) - l .at) (l .at) t in
     (c .ended .ensures ∙ stop-answer (a .bins .now) (a .minor) (now (a .levels)) (a .c) (now (a .out)) (l .inv .0) s, (c .before .before .before .before .before .before .before .take-turn .ensures .1 .0 ∙ stop-levels (a .bins .now) (a .minor) (now (a .levels)) (a .c) (now (a .out)) (l .inv .0) s, c .before .before .before .before .before .before .before .take-turn .ensures .1 .1 ∙ stop-out (a .bins .now) (a .minor) (now (a .levels)) (a .c) (now (a .out)) (l .inv .0) s))
-
-enum-known-r : tie.Need-enum-known-r Inv-loop μ-loop
-enum-known-r c = search needs
-
-ended-requires-2 : tie.Need-ended-requires-2 Inv-loop μ-loop
-ended-requires-2 c κs = search needs
 
 same-length-3 : tie.Need-same-length-3 Inv-loop μ-loop
 same-length-3 c =
@@ -86,9 +74,6 @@ returns-2 c =
     let s = stops-bad (dueAt (a .bins .now) (a .minor) (l .levels) (l .next)) (l .next .depth) (length (l .out) - l .at) (l .at) t in
     (c .ended2 .ensures ∙ stop-answer (a .bins .now) (a .minor) (now (a .levels)) (a .c) (now (a .out)) (l .inv .0) s, (c .before .before .before .before .before .before .before .before .take-turn .ensures .1 .0 ∙ stop-levels (a .bins .now) (a .minor) (now (a .levels)) (a .c) (now (a .out)) (l .inv .0) s, c .before .before .before .before .before .before .before .before .take-turn .ensures .1 .1 ∙ stop-out (a .bins .now) (a .minor) (now (a .levels)) (a .c) (now (a .out)) (l .inv .0) s))
 
-enum-known-behind : tie.Need-enum-known-behind Inv-loop μ-loop
-enum-known-behind c = search needs
-
 add-frames : tie.Need-add-frames Inv-loop μ-loop
 add-frames c =
     let l = c .before .before .before .before .before .before .before .before .before .before .loop in
@@ -96,9 +81,6 @@ add-frames c =
     let t = sym (c .before .before .before .before .before .before .before .take-turn .ensures .0) ∙ c .before .behind .given .1 in
     let z = run-less (a .bins .now) (a .minor) (now (a .levels)) (a .c) (now (a .out)) (l .inv .0) t in
     omega (arith, z .2)
-
-is-known-requires : tie.Need-is-known-requires Inv-loop μ-loop
-is-known-requires c κs = search needs
 
 loop-less : tie.Need-loop-less Inv-loop μ-loop
 loop-less c =
@@ -126,18 +108,18 @@ run-in-spec =
     μ-loop
     loop-holds
     take-turn-requires
-    enum-told
-    ended-requires
+    (λ c. search needs)
+    (λ c κs. search needs)
     same-length
     same-length-2
     returns
-    enum-known-r
-    ended-requires-2
+    (λ c. search needs)
+    (λ c κs. search needs)
     same-length-3
     same-length-4
     returns-2
-    enum-known-behind
+    (λ c. search needs)
     add-frames
-    is-known-requires
+    (λ c κs. search needs)
     loop-less
     loop-again)

@@ -10,41 +10,8 @@ use borrow.Author.Needs.{needs}
 use Rattle.export.proofs.step_in.Statement.{statement}
 use Rattle.export.proofs.step_in.Tie as tie
 
-slice-aggregate-put-key : tie.Need-slice-aggregate-put-key
-slice-aggregate-put-key c = search needs
-
-put-key-requires : tie.Need-put-key-requires
-put-key-requires c κs = search needs
-
-slice-aggregate-pass : tie.Need-slice-aggregate-pass
-slice-aggregate-pass c = search needs
-
-pass-requires : tie.Need-pass-requires
-pass-requires c κs = search needs
-
-enum-told : tie.Need-enum-told
-enum-told c = search needs
-
-enum-known-r : tie.Need-enum-known-r
-enum-known-r c = search needs
-
-enum-known-c : tie.Need-enum-known-c
-enum-known-c c = search needs
-
-slice-aggregate-take-turn : tie.Need-slice-aggregate-take-turn
-slice-aggregate-take-turn c = search needs
-
 take-turn-requires : tie.Need-take-turn-requires
 take-turn-requires c κs = ((rw (c .before .before .before .c .given .1) at (c .before .before .before .before .before .before .pass .ensures .1 .1), λ e. absurd (let z : _≡_ {A = ℕ} 0 1 = cc in omega arith)), omega arith)
-
-enum-told-2 : tie.Need-enum-told-2
-enum-told-2 c = search needs
-
-enum-known-r-2 : tie.Need-enum-known-r-2
-enum-known-r-2 c = search needs
-
-enum-known-end : tie.Need-enum-known-end
-enum-known-end c = search needs
 
 returns : tie.Need-returns
 returns c =
@@ -58,9 +25,6 @@ returns-2 c =
     let q = step-by (a .bins .now) (a .minor) (a .root) (a .n) (now (a .out)) (sym (c .before .r .given .1) ∙ c .before .before .before .before .pass .ensures .0 ∙ ap (λ (ws : List ℕ). went (a .bins .now) (a .minor) (a .n) ws start .answer) (c .before .before .before .before .before .before .before .put-key .ensures)) in
     (sym (q .0), sym (q .1))
 
-same-length : tie.Need-same-length
-same-length c = search needs
-
 returns-3 : tie.Need-returns-3
 returns-3 c =
     let a = c .before .before .before .before .before .before .before .before .before .before .before .before .before .before .before .before .before .before .before .args in
@@ -69,9 +33,6 @@ returns-3 c =
     let u = turn-by (a .bins .now) (a .minor) (a .root) (a .n) (now (a .out)) e f (sym (c .enum-told2 .given .1) ∙ c .before .before .before .before .before .take-turn .ensures .0) in
     (u .0, c .before .before .before .before .before .take-turn .ensures .1 .1 ∙ u .1)
 
-same-length-2 : tie.Need-same-length-2
-same-length-2 c = search needs
-
 returns-4 : tie.Need-returns-4
 returns-4 c =
     let a = c .before .before .before .before .before .before .before .before .before .before .before .before .before .before .before .before .before .before .before .before .args in
@@ -79,9 +40,6 @@ returns-4 c =
     let f = c .before .before .before .before .before .before .before .before .before .before .before .before .before .pass .ensures .1 .0 ∙ ap (λ (ws : List ℕ). went (a .bins .now) (a .minor) (a .n) ws start .levels) (c .before .before .before .before .before .before .before .before .before .before .before .before .before .before .before .before .put-key .ensures) in
     let u = turn-by (a .bins .now) (a .minor) (a .root) (a .n) (now (a .out)) e f (sym (c .before .r2 .given .1) ∙ c .before .before .before .before .before .before .take-turn .ensures .0) in
     (u .0, c .before .before .before .before .before .before .take-turn .ensures .1 .1 ∙ u .1)
-
-same-length-3 : tie.Need-same-length-3
-same-length-3 c = search needs
 
 returns-5 : tie.Need-returns-5
 returns-5 c =
@@ -95,23 +53,23 @@ pub step-in-spec : {M : Type 1} → statement M
 step-in-spec =
     tie.close
     (tie.spec
-    slice-aggregate-put-key
-    put-key-requires
-    slice-aggregate-pass
-    pass-requires
-    enum-told
-    enum-known-r
-    enum-known-c
-    slice-aggregate-take-turn
+    (λ c. search needs)
+    (λ c κs. search needs)
+    (λ c. search needs)
+    (λ c κs. search needs)
+    (λ c. search needs)
+    (λ c. search needs)
+    (λ c. search needs)
+    (λ c. search needs)
     take-turn-requires
-    enum-told-2
-    enum-known-r-2
-    enum-known-end
+    (λ c. search needs)
+    (λ c. search needs)
+    (λ c. search needs)
     returns
     returns-2
-    same-length
+    (λ c. search needs)
     returns-3
-    same-length-2
+    (λ c. search needs)
     returns-4
-    same-length-3
+    (λ c. search needs)
     returns-5)

@@ -14,27 +14,6 @@ use borrow.Author.Needs.{needs}
 use Rattle.export.proofs.take_turn.Statement.{statement}
 use Rattle.export.proofs.take_turn.Tie as tie
 
-due-frame-requires : tie.Need-due-frame-requires
-due-frame-requires c κs = search needs
-
-enum-told : tie.Need-enum-told
-enum-told c = search needs
-
-enum-known-r : tie.Need-enum-known-r
-enum-known-r c = search needs
-
-enum-known-f : tie.Need-enum-known-f
-enum-known-f c = search needs
-
-sub-if1 : tie.Need-sub-if1
-sub-if1 c = search needs
-
-short-requires : tie.Need-short-requires
-short-requires c κs = search needs
-
-same-length : tie.Need-same-length
-same-length c = search needs
-
 returns : tie.Need-returns
 returns c =
     let a = c .before .before .before .before .before .before .before .before .before .before .before .args in
@@ -60,9 +39,6 @@ move-on-requires c κs =
     let a = c .before .before .before .before .before .before .before .before .before .before .before .before .before .before .before .args in
     due-lies (a .bins .now) (a .minor) (now (a .levels)) (a .c) (sym (c .before .before .before .before .before .before .before .before .before .before .due-frame .ensures) ∙ c .before .before .before .before .before .before .before .before .f .given .1) .goes
 
-same-length-2 : tie.Need-same-length-2
-same-length-2 c = search needs
-
 returns-2 : tie.Need-returns-2
 returns-2 c =
     let a = c .before .before .before .before .before .before .before .args in
@@ -73,9 +49,6 @@ returns-2 c =
     let e = sym (c .before .before .due-frame .ensures) ∙ c .enum-told .given .1 in
     (sym (ap (λ (x : Due). turnOf x (a .c .depth) room (a .at)) e), (sym (ap (λ (x : Due). turnWords ws (a .c .depth) x room) e), sym (ap (λ (x : Due). sets out (a .at) (turnBytes d x room)) e)))
 
-same-length-3 : tie.Need-same-length-3
-same-length-3 c = search needs
-
 returns-3 : tie.Need-returns-3
 returns-3 c =
     let a = c .before .before .before .before .before .before .before .before .args in
@@ -85,12 +58,6 @@ returns-3 c =
     let room = length out - a .at in
     let e = sym (c .before .before .before .due-frame .ensures) ∙ c .before .r .given .1 in
     (sym (ap (λ (x : Due). turnOf x (a .c .depth) room (a .at)) e), (sym (ap (λ (x : Due). turnWords ws (a .c .depth) x room) e), sym (ap (λ (x : Due). sets out (a .at) (turnBytes d x room)) e)))
-
-same-length-4 : tie.Need-same-length-4
-same-length-4 c = search needs
-
-same-length-5 : tie.Need-same-length-5
-same-length-5 c = search needs
 
 returns-4 : tie.Need-returns-4
 returns-4 c =
@@ -107,21 +74,21 @@ pub take-turn-spec : {M : Type 1} → statement M
 take-turn-spec =
     tie.close
     (tie.spec
-    due-frame-requires
-    enum-told
-    enum-known-r
-    enum-known-f
-    sub-if1
-    short-requires
-    same-length
+    (λ c κs. search needs)
+    (λ c. search needs)
+    (λ c. search needs)
+    (λ c. search needs)
+    (λ c. search needs)
+    (λ c κs. search needs)
+    (λ c. search needs)
     returns
     add-end
     put-frame-requires
     move-on-requires
-    same-length-2
+    (λ c. search needs)
     returns-2
-    same-length-3
+    (λ c. search needs)
     returns-3
-    same-length-4
-    same-length-5
+    (λ c. search needs)
+    (λ c. search needs)
     returns-4)

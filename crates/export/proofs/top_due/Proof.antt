@@ -11,15 +11,6 @@ open-len-requires c κs = let a = c .before .before .before .before .args in own
 returns : tie.Need-returns
 returns c = let a = c .before .before .before .before .before .args in sym (own-is (a .bins .now) (a .minor) (a .levels .now) (a .c) (a .key) (a .k) (c .before .before .before .before .before .pre .0 .0) (c .before .before .before .before .before .pre .0 .1) (c .before .before .if1 .taken) (c .open-len .ensures))
 
-cast-if2 : tie.Need-cast-if2
-cast-if2 c = search needs
-
-sub-value-due : tie.Need-sub-value-due
-sub-value-due c = search needs
-
-value-due-requires : tie.Need-value-due-requires
-value-due-requires c κs = search needs
-
 returns-2 : tie.Need-returns-2
 returns-2 c = let a = c .before .before .before .before .before .before .args in c .value-due .ensures ∙ sym (value-is (a .bins .now) (a .minor) (a .levels .now) (a .c) (a .key) (a .k) (c .before .before .before .before .before .before .pre .0 .0) (c .before .before .before .if1 .left) (omega arith))
 
@@ -35,9 +26,9 @@ top-due-spec =
     (tie.spec
     open-len-requires
     returns
-    cast-if2
-    sub-value-due
-    value-due-requires
+    (λ c. search needs)
+    (λ c. search needs)
+    (λ c κs. search needs)
     returns-2
     walk-due-requires
     returns-3)

@@ -7,15 +7,6 @@ use Rattle.export.proofs.top_flaw.Tie as tie
 returns : tie.Need-returns
 returns c = sym (c .before .before .pre (c .if1 .taken))
 
-name-at-requires : tie.Need-name-at-requires
-name-at-requires c κs = search needs
-
-enum-known-f : tie.Need-enum-known-f
-enum-known-f c = search needs
-
-enum-told : tie.Need-enum-told
-enum-told c = search needs
-
 returns-2 : tie.Need-returns-2
 returns-2 c = sym (called-flawed _ _ (sym (c .before .before .before .name-at .ensures) ∙ c .before .f .given .1))
 
@@ -24,4 +15,4 @@ returns-3 c = sym (called-whole _ _ (sym (c .before .before .name-at .ensures) �
 
 pub top-flaw-spec : {M : Type 1} → statement M
 top-flaw-spec =
-    tie.close (tie.spec returns name-at-requires enum-known-f enum-told returns-2 returns-3)
+    tie.close (tie.spec returns (λ c κs. search needs) (λ c. search needs) (λ c. search needs) returns-2 returns-3)

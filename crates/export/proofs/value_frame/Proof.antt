@@ -5,36 +5,6 @@ use borrow.Author.Needs.{needs}
 use Rattle.export.proofs.value_frame.Statement.{statement}
 use Rattle.export.proofs.value_frame.Tie as tie
 
-slice-aggregate-value-at : tie.Need-slice-aggregate-value-at
-slice-aggregate-value-at c = search needs
-
-value-at-requires : tie.Need-value-at-requires
-value-at-requires c κs = search needs
-
-enum-known-f : tie.Need-enum-known-f
-enum-known-f c = search needs
-
-refused-requires : tie.Need-refused-requires
-refused-requires c κs = search needs
-
-enum-known-x : tie.Need-enum-known-x
-enum-known-x c = search needs
-
-slice-aggregate-data-flaw : tie.Need-slice-aggregate-data-flaw
-slice-aggregate-data-flaw c = search needs
-
-data-flaw-requires : tie.Need-data-flaw-requires
-data-flaw-requires c κs = search needs
-
-enum-known-f-2 : tie.Need-enum-known-f-2
-enum-known-f-2 c = search needs
-
-refused-requires-2 : tie.Need-refused-requires-2
-refused-requires-2 c κs = search needs
-
-enum-told : tie.Need-enum-told
-enum-told c = search needs
-
 value-len-requires : tie.Need-value-len-requires
 value-len-requires c κs =
     let a = c .before .before .before .before .before .before .before .before .before .before .args in
@@ -55,16 +25,16 @@ pub value-frame-spec : {M : Type 1} → statement M
 value-frame-spec =
     tie.close
     (tie.spec
-    slice-aggregate-value-at
-    value-at-requires
-    enum-known-f
-    refused-requires
-    enum-known-x
-    slice-aggregate-data-flaw
-    data-flaw-requires
-    enum-known-f-2
-    refused-requires-2
-    enum-told
+    (λ c. search needs)
+    (λ c κs. search needs)
+    (λ c. search needs)
+    (λ c κs. search needs)
+    (λ c. search needs)
+    (λ c. search needs)
+    (λ c κs. search needs)
+    (λ c. search needs)
+    (λ c κs. search needs)
+    (λ c. search needs)
     value-len-requires
     returns
     returns-2

@@ -6,24 +6,6 @@ use borrow.Author.Needs.{needs}
 use Rattle.export.proofs.walk_due.Statement.{statement}
 use Rattle.export.proofs.walk_due.Tie as tie
 
-ahead-of-requires : tie.Need-ahead-of-requires
-ahead-of-requires c κs = search needs
-
-enum-known-r : tie.Need-enum-known-r
-enum-known-r c = search needs
-
-enum-told : tie.Need-enum-told
-enum-told c = search needs
-
-enum-known-k : tie.Need-enum-known-k
-enum-known-k c = search needs
-
-enum-known-e : tie.Need-enum-known-e
-enum-known-e c = search needs
-
-characters-requires : tie.Need-characters-requires
-characters-requires c κs = search needs
-
 mul-len : tie.Need-mul-len
 mul-len c = omega (arith, c .characters .ensures, child-few _ _ _ (step-so _ _ _ (c .before .before .before .before .before .before .before .before .pre .0 .0) (c .before .before .before .before .before .before .before .before .pre .0 .1) (c .before .before .before .before .before .ahead-of .ensures) (c .before .before .before .e .given .1)))
 
@@ -46,12 +28,12 @@ pub walk-due-spec : {M : Type 1} → statement M
 walk-due-spec =
     tie.close
     (tie.spec
-    ahead-of-requires
-    enum-known-r
-    enum-told
-    enum-known-k
-    enum-known-e
-    characters-requires
+    (λ c κs. search needs)
+    (λ c. search needs)
+    (λ c. search needs)
+    (λ c. search needs)
+    (λ c. search needs)
+    (λ c κs. search needs)
     mul-len
     add-len
     returns

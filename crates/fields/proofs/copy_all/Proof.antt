@@ -8,12 +8,6 @@ use borrow.Author.Needs.{needs}
 use Rattle.fields.proofs.copy_all.Statement.{statement}
 use Rattle.fields.proofs.copy_all.Tie as tie
 
-copy-requires : tie.Need-copy-requires
-copy-requires c κs = search needs
-
-same-length : tie.Need-same-length
-same-length c = search needs
-
 returns : tie.Need-returns
 returns c =
     let a = c .before .before .before .before .before .before .args in
@@ -23,4 +17,4 @@ returns c =
     ∙ append-nil (a .src .now)
 
 pub copy-all-spec : {M : Type 1} → statement M
-copy-all-spec = tie.close (tie.spec copy-requires same-length returns)
+copy-all-spec = tie.close (tie.spec (λ c κs. search needs) (λ c. search needs) returns)

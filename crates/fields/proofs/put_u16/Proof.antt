@@ -5,23 +5,8 @@ use borrow.Author.Needs.{needs}
 use Rattle.fields.proofs.put_u16.Statement.{statement}
 use Rattle.fields.proofs.put_u16.Tie as tie
 
-cast-dst : tie.Need-cast-dst
-cast-dst c = search needs
-
-slice-write-dst : tie.Need-slice-write-dst
-slice-write-dst c = search needs
-
-cast-dst-2 : tie.Need-cast-dst-2
-cast-dst-2 c = search needs
-
-add-dst : tie.Need-add-dst
-add-dst c = search needs
-
 slice-write-dst-2 : tie.Need-slice-write-dst-2
 slice-write-dst-2 c = simp length-set (omega arith)
-
-same-length : tie.Need-same-length
-same-length c = search needs
 
 returns : tie.Need-returns
 returns c = put-two _ _ _ (omega arith)
@@ -29,4 +14,4 @@ returns c = put-two _ _ _ (omega arith)
 pub put-u16-spec : {M : Type 1} → statement M
 put-u16-spec =
     tie.close
-    (tie.spec cast-dst slice-write-dst cast-dst-2 add-dst slice-write-dst-2 same-length returns)
+    (tie.spec (λ c. search needs) (λ c. search needs) (λ c. search needs) (λ c. search needs) slice-write-dst-2 (λ c. search needs) returns)

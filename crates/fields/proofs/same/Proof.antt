@@ -22,28 +22,16 @@ returns c = sym (unequal _ _ (c .if1 .taken))
 loop-holds : tie.Need-loop-holds Inv-loop μ-loop
 loop-holds c = (omega arith, refl)
 
-sub-if2 : tie.Need-sub-if2 Inv-loop μ-loop
-sub-if2 c = search needs
-
 same-eight-requires : tie.Need-same-eight-requires Inv-loop μ-loop
 same-eight-requires c κs = omega arith
 
 returns-2 : tie.Need-returns-2 Inv-loop μ-loop
 returns-2 c = sym (c .before .before .before .before .loop .inv .1 ∙ c .before .same-eight .ensures .apart (not-true _ (c .if3 .taken)))
 
-add-i : tie.Need-add-i Inv-loop μ-loop
-add-i c = search needs
-
-loop-less : tie.Need-loop-less Inv-loop μ-loop
-loop-less c = search needs
-
 loop-again : tie.Need-loop-again Inv-loop μ-loop
 loop-again c =
     let l = c .before .before .before .before .loop in
     (omega arith, l .inv .1 ∙ c .before .same-eight .ensures .alike (not-false _ (c .if3 .left)))
-
-sub-if4 : tie.Need-sub-if4 Inv-loop μ-loop
-sub-if4 c = search needs
 
 u64-at-requires : tie.Need-u64-at-requires Inv-loop μ-loop
 u64-at-requires c κs = omega arith
@@ -56,33 +44,15 @@ returns-3 c =
     let l = c .before .before .before .before .before .before in
     sym (l .loop .inv .1 ∙ eight _ _ (λ (i : ℕ). l .before .before .before .shared-slice-known .given i .fits) (λ (i : ℕ). l .before .before .shared-slice-known2 .given i .fits) (l .loop .i) (omega arith) (omega arith) .apart (λ e. c .if5 .taken (c .before .before .u64-at .ensures ∙ e ∙ sym (c .before .u64-at2 .ensures))))
 
-add-i-2 : tie.Need-add-i-2 Inv-loop μ-loop
-add-i-2 c = search needs
-
-loop-less-2 : tie.Need-loop-less-2 Inv-loop μ-loop
-loop-less-2 c = search needs
-
 loop-again-2 : tie.Need-loop-again-2 Inv-loop μ-loop
 loop-again-2 c =
     let l = c .before .before .before .before .before .before in
     (omega arith, l .loop .inv .1 ∙ eight _ _ (λ (i : ℕ). l .before .before .before .shared-slice-known .given i .fits) (λ (i : ℕ). l .before .before .shared-slice-known2 .given i .fits) (l .loop .i) (omega arith) (omega arith) .alike (sym (c .before .before .u64-at .ensures) ∙ c .if5 .left ∙ c .before .u64-at2 .ensures))
 
-shared-slice-read-if6 : tie.Need-shared-slice-read-if6 Inv-loop μ-loop
-shared-slice-read-if6 c = search needs
-
-shared-slice-read-if6-2 : tie.Need-shared-slice-read-if6-2 Inv-loop μ-loop
-shared-slice-read-if6-2 c = search needs
-
 returns-4 : tie.Need-returns-4 Inv-loop μ-loop
 returns-4 c =
     let l = c .before .before .before .before .before .before .loop in
     sym (l .inv .1 ∙ differs _ _ (l .i) (omega arith) (omega arith) (c .if6 .taken))
-
-add-i-3 : tie.Need-add-i-3 Inv-loop μ-loop
-add-i-3 c = search needs
-
-loop-less-3 : tie.Need-loop-less-3 Inv-loop μ-loop
-loop-less-3 c = search needs
 
 loop-again-3 : tie.Need-loop-again-3 Inv-loop μ-loop
 loop-again-3 c =
@@ -102,23 +72,23 @@ same-spec =
     μ-loop
     returns
     loop-holds
-    sub-if2
+    (λ c. search needs)
     same-eight-requires
     returns-2
-    add-i
-    loop-less
+    (λ c. search needs)
+    (λ c. search needs)
     loop-again
-    sub-if4
+    (λ c. search needs)
     u64-at-requires
     u64-at-requires-2
     returns-3
-    add-i-2
-    loop-less-2
+    (λ c. search needs)
+    (λ c. search needs)
     loop-again-2
-    shared-slice-read-if6
-    shared-slice-read-if6-2
+    (λ c. search needs)
+    (λ c. search needs)
     returns-4
-    add-i-3
-    loop-less-3
+    (λ c. search needs)
+    (λ c. search needs)
     loop-again-3
     returns-5)

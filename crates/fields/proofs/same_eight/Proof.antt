@@ -4,20 +4,11 @@ use Rattle.fields.proofs.Same_bytes.{told-apart, told-both}
 use Rattle.fields.proofs.same_eight.Statement.{statement}
 use Rattle.fields.proofs.same_eight.Tie as tie
 
-same-four-requires : tie.Need-same-four-requires
-same-four-requires c κs = search needs
-
 returns : tie.Need-returns
 returns c = told-apart (c .before .same-four .ensures .apart (not-true _ (c .if1 .taken)))
-
-add-same-four : tie.Need-add-same-four
-add-same-four c = search needs
-
-same-four-requires-2 : tie.Need-same-four-requires-2
-same-four-requires-2 c κs = search needs
 
 returns-2 : tie.Need-returns-2
 returns-2 c = told-both (c .before .before .same-four .ensures) (not-false _ (c .before .if1 .left)) (c .same-four2 .ensures)
 
 pub same-eight-spec : {M : Type 1} → statement M
-same-eight-spec = tie.close (tie.spec same-four-requires returns add-same-four same-four-requires-2 returns-2)
+same-eight-spec = tie.close (tie.spec (λ c κs. search needs) returns (λ c. search needs) (λ c κs. search needs) returns-2)

@@ -6,12 +6,6 @@ use Rattle.fields.specs.Number.{sizeOf, sizeAt}
 use Rattle.fields.proofs.size_at.Statement.{statement}
 use Rattle.fields.proofs.size_at.Tie as tie
 
-i32-at-requires : tie.Need-i32-at-requires
-i32-at-requires c κs = search needs
-
-size-of-requires : tie.Need-size-of-requires
-size-of-requires c κs = search needs
-
 returns : tie.Need-returns
 unfolding sizeAt
 returns c =
@@ -19,4 +13,4 @@ returns c =
     ∙ ap sizeOf (toZ-ofZ w32 _ (record { sfits = c .before .i32-at .ok }) ∙ c .before .i32-at .ensures)
 
 pub size-at-spec : {M : Type 1} → statement M
-size-at-spec = tie.close (tie.spec i32-at-requires size-of-requires returns)
+size-at-spec = tie.close (tie.spec (λ c κs. search needs) (λ c κs. search needs) returns)

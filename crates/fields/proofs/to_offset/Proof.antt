@@ -12,12 +12,9 @@ returns-2 : tie.Need-returns-2
 unfolding offsetOf
 returns-2 c = rw (le-ltb _ 4096 (c .before .if1 .left), le-leb 4294967296 _ (c .if2 .taken))
 
-cast-t5 : tie.Need-cast-t5
-cast-t5 c = search needs
-
 returns-3 : tie.Need-returns-3
 unfolding offsetOf
 returns-3 c = rw (le-ltb _ 4096 (c .before .if1 .left), lt-leb 4294967296 _ (c .if2 .left))
 
 pub to-offset-spec : {M : Type 1} → statement M
-to-offset-spec = tie.close (tie.spec returns returns-2 cast-t5 returns-3)
+to-offset-spec = tie.close (tie.spec returns returns-2 (λ c. search needs) returns-3)

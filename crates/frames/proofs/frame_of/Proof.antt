@@ -4,21 +4,9 @@ use borrow.Author.Needs.{needs}
 use Rattle.frames.proofs.frame_of.Statement.{statement}
 use Rattle.frames.proofs.frame_of.Tie as tie
 
-u32-at-requires : tie.Need-u32-at-requires
-u32-at-requires c κs = search needs
-
 returns : tie.Need-returns
 unfolding frameOf
 returns c = rw (← c .before .u32-at .ensures, lt-ltb _ _ (c .if1 .taken))
-
-u16-at-requires : tie.Need-u16-at-requires
-u16-at-requires c κs = search needs
-
-cast-framed : tie.Need-cast-framed
-cast-framed c = search needs
-
-framed-requires : tie.Need-framed-requires
-framed-requires c κs = search needs
 
 returns-2 : tie.Need-returns-2
 unfolding frameOf
@@ -27,4 +15,4 @@ returns-2 c = rw (← c .before .before .before .u32-at .ensures, le-ltb _ _ (c 
 pub frame-of-spec : {M : Type 1} → statement M
 frame-of-spec =
     tie.close
-    (tie.spec u32-at-requires returns u16-at-requires cast-framed framed-requires returns-2)
+    (tie.spec (λ c κs. search needs) returns (λ c κs. search needs) (λ c. search needs) (λ c κs. search needs) returns-2)

@@ -4,23 +4,8 @@ use borrow.Author.Needs.{needs}
 use Rattle.frames.proofs.hive_line.Statement.{statement}
 use Rattle.frames.proofs.hive_line.Tie as tie
 
-check-requires : tie.Need-check-requires
-check-requires c κs = search needs
-
-enum-known-report : tie.Need-enum-known-report
-enum-known-report c = search needs
-
-enum-known-r : tie.Need-enum-known-r
-enum-known-r c = search needs
-
-same-length : tie.Need-same-length
-same-length c = search needs
-
 returns : tie.Need-returns
 returns c = (sym (ap checkedLine (sym (c .before .before .before .before .before .check .ensures .0) ∙ c .before .report .given .1)), c .before .before .before .before .before .check .ensures .1)
-
-same-length-2 : tie.Need-same-length-2
-same-length-2 c = search needs
 
 returns-2 : tie.Need-returns-2
 returns-2 c = (sym (ap checkedLine (sym (c .before .before .before .before .before .check .ensures .0) ∙ c .before .r .given .1)), c .before .before .before .before .before .check .ensures .1)
@@ -29,10 +14,10 @@ pub hive-line-spec : {M : Type 1} → statement M
 hive-line-spec =
     tie.close
     (tie.spec
-    check-requires
-    enum-known-report
-    enum-known-r
-    same-length
+    (λ c κs. search needs)
+    (λ c. search needs)
+    (λ c. search needs)
+    (λ c. search needs)
     returns
-    same-length-2
+    (λ c. search needs)
     returns-2)

@@ -9,38 +9,11 @@ use borrow.Author.Needs.{needs}
 use Rattle.frames.proofs.log_line.Statement.{statement}
 use Rattle.frames.proofs.log_line.Tie as tie
 
-start-requires : tie.Need-start-requires
-start-requires c κs = search needs
-
-enum-told : tie.Need-enum-told
-enum-told c = search needs
-
-enum-known-r : tie.Need-enum-known-r
-enum-known-r c = search needs
-
-enum-known-n : tie.Need-enum-known-n
-enum-known-n c = search needs
-
-all-pages-requires : tie.Need-all-pages-requires
-all-pages-requires c κs = search needs
-
-close-requires : tie.Need-close-requires
-close-requires c κs = search needs
-
-same-length : tie.Need-same-length
-same-length c = search needs
-
 returns : tie.Need-returns
 returns c = let e = sym (c .before .before .start .ensures) ∙ c .enum-told .given .1 in (sym (ap repairedLine e), sym (repaired-by _ _ _ e))
 
-same-length-2 : tie.Need-same-length-2
-same-length-2 c = search needs
-
 returns-2 : tie.Need-returns-2
 returns-2 c = let e = sym (c .before .before .before .start .ensures) ∙ c .before .r .given .1 in (sym (ap repairedLine e), sym (repaired-by _ _ _ e))
-
-same-length-3 : tie.Need-same-length-3
-same-length-3 c = search needs
 
 returns-3 : tie.Need-returns-3
 returns-3 c = let e = sym (c .before .before .before .before .before .before .before .before .before .before .before .start .ensures) ∙ c .before .before .before .before .before .before .before .before .before .n .given .1 in
@@ -51,15 +24,15 @@ pub log-line-spec : {M : Type 1} → statement M
 log-line-spec =
     tie.close
     (tie.spec
-    start-requires
-    enum-told
-    enum-known-r
-    enum-known-n
-    all-pages-requires
-    close-requires
-    same-length
+    (λ c κs. search needs)
+    (λ c. search needs)
+    (λ c. search needs)
+    (λ c. search needs)
+    (λ c κs. search needs)
+    (λ c κs. search needs)
+    (λ c. search needs)
     returns
-    same-length-2
+    (λ c. search needs)
     returns-2
-    same-length-3
+    (λ c. search needs)
     returns-3)

@@ -8,33 +8,6 @@ use borrow.Author.Needs.{needs}
 use Rattle.frames.proofs.log_turn.Statement.{statement}
 use Rattle.frames.proofs.log_turn.Tie as tie
 
-enum-told : tie.Need-enum-told
-enum-told c = search needs
-
-enum-known-held : tie.Need-enum-known-held
-enum-known-held c = search needs
-
-least-requires : tie.Need-least-requires
-least-requires c κs = search needs
-
-sub-log-line : tie.Need-sub-log-line
-sub-log-line c = search needs
-
-part-log-line-start : tie.Need-part-log-line-start
-part-log-line-start c = search needs
-
-part-log-line-end : tie.Need-part-log-line-end
-part-log-line-end c = search needs
-
-log-line-requires : tie.Need-log-line-requires
-log-line-requires c κs = search needs
-
-returns : tie.Need-returns
-returns c = search needs
-
-same-length : tie.Need-same-length
-same-length c = search needs
-
 returns-2 : tie.Need-returns-2
 returns-2 c =
     let a = c .before .before .before .before .before .before .before .before .before .before .args in
@@ -47,13 +20,13 @@ pub log-turn-spec : {M : Type 1} → statement M
 log-turn-spec =
     tie.close
     (tie.spec
-    enum-told
-    enum-known-held
-    least-requires
-    sub-log-line
-    part-log-line-start
-    part-log-line-end
-    log-line-requires
-    returns
-    same-length
+    (λ c. search needs)
+    (λ c. search needs)
+    (λ c κs. search needs)
+    (λ c. search needs)
+    (λ c. search needs)
+    (λ c. search needs)
+    (λ c κs. search needs)
+    (λ c. search needs)
+    (λ c. search needs)
     returns-2)

@@ -19,36 +19,12 @@ Inv-loop path units₀ n i₀ units i =
 abbrev μ-loop : tie.MeasureT-loop
 μ-loop path units₀ n i₀ units i = n - i
 
-loop-holds : tie.Need-loop-holds Inv-loop μ-loop
-loop-holds c = search needs
-
-mul-u16-at : tie.Need-mul-u16-at Inv-loop μ-loop
-mul-u16-at c = search needs
-
-u16-at-requires : tie.Need-u16-at-requires Inv-loop μ-loop
-u16-at-requires c κs = search needs
-
-mul-units : tie.Need-mul-units Inv-loop μ-loop
-mul-units c = search needs
-
-slice-write-units : tie.Need-slice-write-units Inv-loop μ-loop
-slice-write-units c = search needs
-
-add-i : tie.Need-add-i Inv-loop μ-loop
-add-i c = search needs
-
-loop-less : tie.Need-loop-less Inv-loop μ-loop
-loop-less c = search needs
-
 loop-again : tie.Need-loop-again Inv-loop μ-loop
 loop-again c = let p = c .before .before .before .before .before .args .path .now in
     let m = wide-length p in
     let i = c .before .before .loop .i in
     let below : i < length p / 2 = omega arith in
     (omega arith, simp length-set (c .before .before .loop .inv .1), one-more p _ _ _ (omega (arith, c .before .before .loop .inv .1)) (omega (arith, m)) (c .u16-at .ensures) (c .before .before .loop .inv .2), drop-set-lt (length p / 2) (c .before .before .loop .units) i _ below ∙ c .before .before .loop .inv .3)
-
-same-length : tie.Need-same-length Inv-loop μ-loop
-same-length c = search needs
 
 returns : tie.Need-returns Inv-loop μ-loop
 returns c = let p = c .before .before .before .before .args .path .now in
@@ -63,13 +39,13 @@ path-units-spec =
     (tie.spec
     Inv-loop
     μ-loop
-    loop-holds
-    mul-u16-at
-    u16-at-requires
-    mul-units
-    slice-write-units
-    add-i
-    loop-less
+    (λ c. search needs)
+    (λ c. search needs)
+    (λ c κs. search needs)
+    (λ c. search needs)
+    (λ c. search needs)
+    (λ c. search needs)
+    (λ c. search needs)
     loop-again
-    same-length
+    (λ c. search needs)
     returns)

@@ -5,24 +5,6 @@ use borrow.Author.Needs.{needs}
 use Rattle.hive_c.proofs.begun.Statement.{statement}
 use Rattle.hive_c.proofs.begun.Tie as tie
 
-enum-known-b : tie.Need-enum-known-b
-enum-known-b c = search needs
-
-granted-requires : tie.Need-granted-requires
-granted-requires c κs = search needs
-
-stands-requires : tie.Need-stands-requires
-stands-requires c κs = search needs
-
-enum-known-b-2 : tie.Need-enum-known-b-2
-enum-known-b-2 c = search needs
-
-refused-requires : tie.Need-refused-requires
-refused-requires c κs = search needs
-
-stands-requires-2 : tie.Need-stands-requires-2
-stands-requires-2 c κs = search needs
-
 returns : tie.Need-returns
 returns c = let g = c .before .before .before .b .given in c .stands .ensures ∙ ap (λ (a : HiveAnswer). exportWith a 2 (g .0 .0) 0 0) (c .before .granted .ensures) ∙ sym (ap begunIn (g .1))
 
@@ -33,11 +15,11 @@ pub begun-spec : {M : Type 1} → statement M
 begun-spec =
     tie.close
     (tie.spec
-    enum-known-b
-    granted-requires
-    stands-requires
-    enum-known-b-2
-    refused-requires
-    stands-requires-2
+    (λ c. search needs)
+    (λ c κs. search needs)
+    (λ c κs. search needs)
+    (λ c. search needs)
+    (λ c κs. search needs)
+    (λ c κs. search needs)
     returns
     returns-2)

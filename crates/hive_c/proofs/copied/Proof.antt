@@ -5,18 +5,6 @@ use borrow.Author.Needs.{needs}
 use Rattle.hive_c.proofs.copied.Statement.{statement}
 use Rattle.hive_c.proofs.copied.Tie as tie
 
-enum-known-c : tie.Need-enum-known-c
-enum-known-c c = search needs
-
-granted-requires : tie.Need-granted-requires
-granted-requires c κs = search needs
-
-enum-known-c-2 : tie.Need-enum-known-c-2
-enum-known-c-2 c = search needs
-
-refused-requires : tie.Need-refused-requires
-refused-requires c κs = search needs
-
 returns : tie.Need-returns
 returns c = let g = c .before .before .c .given in ap (λ (a : HiveAnswer). copyWith a (g .0 .0)) (c .granted .ensures) ∙ sym (ap copyIn (g .1))
 
@@ -26,4 +14,4 @@ returns-2 c = ap (λ (a : HiveAnswer). copyWith a 0) (c .refused .ensures) ∙ s
 pub copied-spec : {M : Type 1} → statement M
 copied-spec =
     tie.close
-    (tie.spec enum-known-c granted-requires enum-known-c-2 refused-requires returns returns-2)
+    (tie.spec (λ c. search needs) (λ c κs. search needs) (λ c. search needs) (λ c κs. search needs) returns returns-2)

@@ -5,24 +5,6 @@ use borrow.Author.Needs.{needs}
 use Rattle.hive_c.proofs.framed.Statement.{statement}
 use Rattle.hive_c.proofs.framed.Tie as tie
 
-enum-known-s : tie.Need-enum-known-s
-enum-known-s c = search needs
-
-granted-requires : tie.Need-granted-requires
-granted-requires c κs = search needs
-
-enum-told : tie.Need-enum-told
-enum-told c = search needs
-
-granted-requires-2 : tie.Need-granted-requires-2
-granted-requires-2 c κs = search needs
-
-enum-known-s-2 : tie.Need-enum-known-s-2
-enum-known-s-2 c = search needs
-
-refused-requires : tie.Need-refused-requires
-refused-requires c κs = search needs
-
 returns : tie.Need-returns
 returns c = let g = c .before .before .s .given in ap (λ (a : HiveAnswer). frameWith a 2 (g .0 .0)) (c .granted .ensures) ∙ sym (ap frameIn (g .1))
 
@@ -36,12 +18,12 @@ pub framed-spec : {M : Type 1} → statement M
 framed-spec =
     tie.close
     (tie.spec
-    enum-known-s
-    granted-requires
-    enum-told
-    granted-requires-2
-    enum-known-s-2
-    refused-requires
+    (λ c. search needs)
+    (λ c κs. search needs)
+    (λ c. search needs)
+    (λ c κs. search needs)
+    (λ c. search needs)
+    (λ c κs. search needs)
     returns
     returns-2
     returns-3)

@@ -4,17 +4,8 @@ use borrow.Author.Needs.{needs}
 use Rattle.hive_c.proofs.hive_check.Statement.{statement}
 use Rattle.hive_c.proofs.hive_check.Tie as tie
 
-check-requires : tie.Need-check-requires
-check-requires c κs = search needs
-
-reported-requires : tie.Need-reported-requires
-reported-requires c κs = search needs
-
-same-length : tie.Need-same-length
-same-length c = search needs
-
 returns : tie.Need-returns
 returns c = (c .reported .ensures ∙ ap reportIn (c .before .before .before .check .ensures .0), c .before .before .before .check .ensures .1)
 
 pub hive-check-spec : {M : Type 1} → statement M
-hive-check-spec = tie.close (tie.spec check-requires reported-requires same-length returns)
+hive-check-spec = tie.close (tie.spec (λ c κs. search needs) (λ c κs. search needs) (λ c. search needs) returns)

@@ -4,17 +4,8 @@ use borrow.Author.Needs.{needs}
 use Rattle.hive_c.proofs.hive_copy_at.Statement.{statement}
 use Rattle.hive_c.proofs.hive_copy_at.Tie as tie
 
-copy-at-requires : tie.Need-copy-at-requires
-copy-at-requires c κs = search needs
-
-copied-requires : tie.Need-copied-requires
-copied-requires c κs = search needs
-
-same-length : tie.Need-same-length
-same-length c = search needs
-
 returns : tie.Need-returns
 returns c = (c .copied .ensures ∙ ap copyIn (c .before .before .before .copy-at .ensures .0), c .before .before .before .copy-at .ensures .1)
 
 pub hive-copy-at-spec : {M : Type 1} → statement M
-hive-copy-at-spec = tie.close (tie.spec copy-at-requires copied-requires same-length returns)
+hive-copy-at-spec = tie.close (tie.spec (λ c κs. search needs) (λ c κs. search needs) (λ c. search needs) returns)

@@ -4,12 +4,6 @@ use borrow.Author.Needs.{needs}
 use Rattle.hive_c.proofs.hive_key_at.Statement.{statement}
 use Rattle.hive_c.proofs.hive_key_at.Tie as tie
 
-key-facts-requires : tie.Need-key-facts-requires
-key-facts-requires c κs = search needs
-
-key-told-requires : tie.Need-key-told-requires
-key-told-requires c κs = search needs
-
 returns : tie.Need-returns
 returns c = c .key-told .ensures ∙ ap factsIn (c .before .key-facts .ensures)
 
@@ -17,6 +11,6 @@ pub hive-key-at-spec : {M : Type 1} → statement M
 hive-key-at-spec =
     tie.close
     (tie.spec
-    key-facts-requires
-    key-told-requires
+    (λ c κs. search needs)
+    (λ c κs. search needs)
     returns)

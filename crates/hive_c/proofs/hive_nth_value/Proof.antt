@@ -4,12 +4,6 @@ use borrow.Author.Needs.{needs}
 use Rattle.hive_c.proofs.hive_nth_value.Statement.{statement}
 use Rattle.hive_c.proofs.hive_nth_value.Tie as tie
 
-nth-value-requires : tie.Need-nth-value-requires
-nth-value-requires c κs = search needs
-
-member-requires : tie.Need-member-requires
-member-requires c κs = search needs
-
 returns : tie.Need-returns
 returns c = c .member .ensures ∙ ap memberIn (c .before .nth-value .ensures)
 
@@ -17,6 +11,6 @@ pub hive-nth-value-spec : {M : Type 1} → statement M
 hive-nth-value-spec =
     tie.close
     (tie.spec
-    nth-value-requires
-    member-requires
+    (λ c κs. search needs)
+    (λ c κs. search needs)
     returns)

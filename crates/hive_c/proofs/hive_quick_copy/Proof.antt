@@ -4,17 +4,8 @@ use borrow.Author.Needs.{needs}
 use Rattle.hive_c.proofs.hive_quick_copy.Statement.{statement}
 use Rattle.hive_c.proofs.hive_quick_copy.Tie as tie
 
-quick-copy-requires : tie.Need-quick-copy-requires
-quick-copy-requires c κs = search needs
-
-copied-requires : tie.Need-copied-requires
-copied-requires c κs = search needs
-
-same-length : tie.Need-same-length
-same-length c = search needs
-
 returns : tie.Need-returns
 returns c = (c .copied .ensures ∙ ap copyIn (c .before .before .before .quick-copy .ensures .0), c .before .before .before .quick-copy .ensures .1)
 
 pub hive-quick-copy-spec : {M : Type 1} → statement M
-hive-quick-copy-spec = tie.close (tie.spec quick-copy-requires copied-requires same-length returns)
+hive-quick-copy-spec = tie.close (tie.spec (λ c κs. search needs) (λ c κs. search needs) (λ c. search needs) returns)

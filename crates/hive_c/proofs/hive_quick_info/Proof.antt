@@ -4,14 +4,8 @@ use borrow.Author.Needs.{needs}
 use Rattle.hive_c.proofs.hive_quick_info.Statement.{statement}
 use Rattle.hive_c.proofs.hive_quick_info.Tie as tie
 
-quick-info-requires : tie.Need-quick-info-requires
-quick-info-requires c κs = search needs
-
-value-answer-requires : tie.Need-value-answer-requires
-value-answer-requires c κs = search needs
-
 returns : tie.Need-returns
 returns c = c .value-answer .ensures ∙ ap valueIn (c .before .quick-info .ensures)
 
 pub hive-quick-info-spec : {M : Type 1} → statement M
-hive-quick-info-spec = tie.close (tie.spec quick-info-requires value-answer-requires returns)
+hive-quick-info-spec = tie.close (tie.spec (λ c κs. search needs) (λ c κs. search needs) returns)

@@ -4,17 +4,8 @@ use borrow.Author.Needs.{needs}
 use Rattle.hive_c.proofs.hive_recover_all.Statement.{statement}
 use Rattle.hive_c.proofs.hive_recover_all.Tie as tie
 
-all-pages-requires : tie.Need-all-pages-requires
-all-pages-requires c κs = search needs
-
-stepped-requires : tie.Need-stepped-requires
-stepped-requires c κs = search needs
-
-same-length : tie.Need-same-length
-same-length c = search needs
-
 returns : tie.Need-returns
 returns c = (c .stepped .ensures ∙ ap stepIn (c .before .before .before .all-pages .ensures .0), c .before .before .before .all-pages .ensures .1)
 
 pub hive-recover-all-spec : {M : Type 1} → statement M
-hive-recover-all-spec = tie.close (tie.spec all-pages-requires stepped-requires same-length returns)
+hive-recover-all-spec = tie.close (tie.spec (λ c κs. search needs) (λ c κs. search needs) (λ c. search needs) returns)

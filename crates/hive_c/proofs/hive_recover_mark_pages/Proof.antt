@@ -4,17 +4,8 @@ use borrow.Author.Needs.{needs}
 use Rattle.hive_c.proofs.hive_recover_mark_pages.Statement.{statement}
 use Rattle.hive_c.proofs.hive_recover_mark_pages.Tie as tie
 
-mark-pages-requires : tie.Need-mark-pages-requires
-mark-pages-requires c κs = search needs
-
-mapped-requires : tie.Need-mapped-requires
-mapped-requires c κs = search needs
-
-same-length : tie.Need-same-length
-same-length c = search needs
-
 returns : tie.Need-returns
 returns c = (c .mapped .ensures ∙ ap mapIn (c .before .before .before .mark-pages .ensures .0), c .before .before .before .mark-pages .ensures .1)
 
 pub hive-recover-mark-pages-spec : {M : Type 1} → statement M
-hive-recover-mark-pages-spec = tie.close (tie.spec mark-pages-requires mapped-requires same-length returns)
+hive-recover-mark-pages-spec = tie.close (tie.spec (λ c κs. search needs) (λ c κs. search needs) (λ c. search needs) returns)

@@ -4,14 +4,8 @@ use borrow.Author.Needs.{needs}
 use Rattle.hive_c.proofs.hive_recover_start.Statement.{statement}
 use Rattle.hive_c.proofs.hive_recover_start.Tie as tie
 
-start-requires : tie.Need-start-requires
-start-requires c κs = search needs
-
-started-requires : tie.Need-started-requires
-started-requires c κs = search needs
-
 returns : tie.Need-returns
 returns c = c .started .ensures ∙ ap startIn (c .before .start .ensures)
 
 pub hive-recover-start-spec : {M : Type 1} → statement M
-hive-recover-start-spec = tie.close (tie.spec start-requires started-requires returns)
+hive-recover-start-spec = tie.close (tie.spec (λ c κs. search needs) (λ c κs. search needs) returns)

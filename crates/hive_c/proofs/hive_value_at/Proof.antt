@@ -4,12 +4,6 @@ use borrow.Author.Needs.{needs}
 use Rattle.hive_c.proofs.hive_value_at.Statement.{statement}
 use Rattle.hive_c.proofs.hive_value_at.Tie as tie
 
-info-at-requires : tie.Need-info-at-requires
-info-at-requires c κs = search needs
-
-value-answer-requires : tie.Need-value-answer-requires
-value-answer-requires c κs = search needs
-
 returns : tie.Need-returns
 returns c = c .value-answer .ensures ∙ ap valueIn (c .before .info-at .ensures)
 
@@ -17,6 +11,6 @@ pub hive-value-at-spec : {M : Type 1} → statement M
 hive-value-at-spec =
     tie.close
     (tie.spec
-    info-at-requires
-    value-answer-requires
+    (λ c κs. search needs)
+    (λ c κs. search needs)
     returns)

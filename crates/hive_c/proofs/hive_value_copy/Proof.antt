@@ -4,17 +4,8 @@ use borrow.Author.Needs.{needs}
 use Rattle.hive_c.proofs.hive_value_copy.Statement.{statement}
 use Rattle.hive_c.proofs.hive_value_copy.Tie as tie
 
-value-copy-requires : tie.Need-value-copy-requires
-value-copy-requires c κs = search needs
-
-copied-requires : tie.Need-copied-requires
-copied-requires c κs = search needs
-
-same-length : tie.Need-same-length
-same-length c = search needs
-
 returns : tie.Need-returns
 returns c = (c .copied .ensures ∙ ap copyIn (c .before .before .before .value-copy .ensures .0), c .before .before .before .value-copy .ensures .1)
 
 pub hive-value-copy-spec : {M : Type 1} → statement M
-hive-value-copy-spec = tie.close (tie.spec value-copy-requires copied-requires same-length returns)
+hive-value-copy-spec = tie.close (tie.spec (λ c κs. search needs) (λ c κs. search needs) (λ c. search needs) returns)

@@ -4,14 +4,8 @@ use borrow.Author.Needs.{needs}
 use Rattle.hive_c.proofs.hive_value_info.Statement.{statement}
 use Rattle.hive_c.proofs.hive_value_info.Tie as tie
 
-value-info-requires : tie.Need-value-info-requires
-value-info-requires c κs = search needs
-
-value-answer-requires : tie.Need-value-answer-requires
-value-answer-requires c κs = search needs
-
 returns : tie.Need-returns
 returns c = c .value-answer .ensures ∙ ap valueIn (c .before .value-info .ensures)
 
 pub hive-value-info-spec : {M : Type 1} → statement M
-hive-value-info-spec = tie.close (tie.spec value-info-requires value-answer-requires returns)
+hive-value-info-spec = tie.close (tie.spec (λ c κs. search needs) (λ c κs. search needs) returns)

@@ -7,14 +7,8 @@ use borrow.Author.Needs.{needs}
 use Rattle.hive_c.proofs.hive_walk_step.Statement.{statement}
 use Rattle.hive_c.proofs.hive_walk_step.Tie as tie
 
-step-requires : tie.Need-step-requires
-step-requires c κs = search needs
-
 walked-requires : tie.Need-walked-requires
 walked-requires c κs = ap (λ (x : Walked). keepsCount x (c .before .before .before .before .before .before .args .depth)) (c .before .before .step .ensures .0) ∙ step-keeps _ _ _
-
-same-length : tie.Need-same-length
-same-length c = search needs
 
 returns : tie.Need-returns
 returns c = (
@@ -23,4 +17,4 @@ returns c = (
 )
 
 pub hive-walk-step-spec : {M : Type 1} → statement M
-hive-walk-step-spec = tie.close (tie.spec step-requires walked-requires same-length returns)
+hive-walk-step-spec = tie.close (tie.spec (λ c κs. search needs) walked-requires (λ c. search needs) returns)

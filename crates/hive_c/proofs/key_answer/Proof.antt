@@ -4,18 +4,6 @@ use borrow.Author.Needs.{needs}
 use Rattle.hive_c.proofs.key_answer.Statement.{statement}
 use Rattle.hive_c.proofs.key_answer.Tie as tie
 
-enum-known-k : tie.Need-enum-known-k
-enum-known-k c = search needs
-
-granted-requires : tie.Need-granted-requires
-granted-requires c κs = search needs
-
-enum-known-k-2 : tie.Need-enum-known-k-2
-enum-known-k-2 c = search needs
-
-refused-requires : tie.Need-refused-requires
-refused-requires c κs = search needs
-
 returns : tie.Need-returns
 returns c = c .granted .ensures ∙ sym (ap keyIn (c .before .before .k .given .1))
 
@@ -25,4 +13,4 @@ returns-2 c = c .refused .ensures ∙ sym (ap keyIn (c .before .before .k2 .give
 pub key-answer-spec : {M : Type 1} → statement M
 key-answer-spec =
     tie.close
-    (tie.spec enum-known-k granted-requires enum-known-k-2 refused-requires returns returns-2)
+    (tie.spec (λ c. search needs) (λ c κs. search needs) (λ c. search needs) (λ c κs. search needs) returns returns-2)

@@ -5,18 +5,6 @@ use borrow.Author.Needs.{needs}
 use Rattle.hive_c.proofs.key_told.Statement.{statement}
 use Rattle.hive_c.proofs.key_told.Tie as tie
 
-enum-known-k : tie.Need-enum-known-k
-enum-known-k c = search needs
-
-key-facts-requires : tie.Need-key-facts-requires
-key-facts-requires c κs = search needs
-
-enum-known-k-2 : tie.Need-enum-known-k-2
-enum-known-k-2 c = search needs
-
-refused-requires : tie.Need-refused-requires
-refused-requires c κs = search needs
-
 returns : tie.Need-returns
 returns c = c .key-facts .ensures ∙ sym (ap factsIn (c .before .before .k .given .1))
 
@@ -26,4 +14,4 @@ returns-2 c = ap (λ (a : HiveAnswer). keyWith a 0 0 0 0 0 0 0) (c .refused .ens
 pub key-told-spec : {M : Type 1} → statement M
 key-told-spec =
     tie.close
-    (tie.spec enum-known-k key-facts-requires enum-known-k-2 refused-requires returns returns-2)
+    (tie.spec (λ c. search needs) (λ c κs. search needs) (λ c. search needs) (λ c κs. search needs) returns returns-2)

@@ -5,18 +5,6 @@ use borrow.Author.Needs.{needs}
 use Rattle.hive_c.proofs.mapped.Statement.{statement}
 use Rattle.hive_c.proofs.mapped.Tie as tie
 
-enum-known-m : tie.Need-enum-known-m
-enum-known-m c = search needs
-
-granted-requires : tie.Need-granted-requires
-granted-requires c κs = search needs
-
-enum-known-m-2 : tie.Need-enum-known-m-2
-enum-known-m-2 c = search needs
-
-refused-requires : tie.Need-refused-requires
-refused-requires c κs = search needs
-
 returns : tie.Need-returns
 returns c = let g = c .before .before .m .given in ap (λ (a : HiveAnswer). recoveryWith a 2 (g .0 .0)) (c .granted .ensures) ∙ sym (ap mapIn (g .1))
 
@@ -26,4 +14,4 @@ returns-2 c = ap (λ (a : HiveAnswer). recoveryWith a 0 0) (c .refused .ensures)
 pub mapped-spec : {M : Type 1} → statement M
 mapped-spec =
     tie.close
-    (tie.spec enum-known-m granted-requires enum-known-m-2 refused-requires returns returns-2)
+    (tie.spec (λ c. search needs) (λ c κs. search needs) (λ c. search needs) (λ c κs. search needs) returns returns-2)

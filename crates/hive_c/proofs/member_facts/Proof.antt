@@ -6,12 +6,6 @@ use borrow.Author.Needs.{needs}
 use Rattle.hive_c.proofs.member_facts.Statement.{statement}
 use Rattle.hive_c.proofs.member_facts.Tie as tie
 
-granted-requires : tie.Need-granted-requires
-granted-requires c κs = search needs
-
-narrow-of-requires : tie.Need-narrow-of-requires
-narrow-of-requires c κs = search needs
-
 returns : tie.Need-returns
 returns c = let e = c .before .before .args .e in let n = c .narrow-of in ap (λ (a : HiveAnswer). memberWith a 2 (e .name .0) (e .len) (n .result)) (c .before .granted .ensures) ∙ ap (λ (k : ℕ). memberWith (granted (e .at .0)) 2 (e .name .0) (e .len) k) (n .ensures)
 
@@ -19,6 +13,6 @@ pub member-facts-spec : {M : Type 1} → statement M
 member-facts-spec =
     tie.close
     (tie.spec
-    granted-requires
-    narrow-of-requires
+    (λ c κs. search needs)
+    (λ c κs. search needs)
     returns)

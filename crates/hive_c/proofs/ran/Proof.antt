@@ -6,30 +6,6 @@ use borrow.Author.Needs.{needs}
 use Rattle.hive_c.proofs.ran.Statement.{statement}
 use Rattle.hive_c.proofs.ran.Tie as tie
 
-enum-known-r : tie.Need-enum-known-r
-enum-known-r c = search needs
-
-granted-requires : tie.Need-granted-requires
-granted-requires c κs = search needs
-
-enum-told : tie.Need-enum-told
-enum-told c = search needs
-
-granted-requires-2 : tie.Need-granted-requires-2
-granted-requires-2 c κs = search needs
-
-stands-requires : tie.Need-stands-requires
-stands-requires c κs = search needs
-
-enum-known-r-2 : tie.Need-enum-known-r-2
-enum-known-r-2 c = search needs
-
-refused-requires : tie.Need-refused-requires
-refused-requires c κs = search needs
-
-stands-requires-2 : tie.Need-stands-requires-2
-stands-requires-2 c κs = search needs
-
 returns : tie.Need-returns
 returns c = let g = c .before .before .before .r .given in let p = g .0 .0 in ap (λ (a : HiveAnswer). exportWith a 2 (p .next) (p .frames) (p .bytes)) (c .granted .ensures) ∙ sym (ap (λ (x : Ran). exportIn x (c .before .before .before .before .before .args .c)) (g .1))
 
@@ -47,14 +23,14 @@ pub ran-spec : {M : Type 1} → statement M
 ran-spec =
     tie.close
     (tie.spec
-    enum-known-r
-    granted-requires
-    enum-told
-    granted-requires-2
-    stands-requires
-    enum-known-r-2
-    refused-requires
-    stands-requires-2
+    (λ c. search needs)
+    (λ c κs. search needs)
+    (λ c. search needs)
+    (λ c κs. search needs)
+    (λ c κs. search needs)
+    (λ c. search needs)
+    (λ c κs. search needs)
+    (λ c κs. search needs)
     returns
     returns-2
     returns-3)

@@ -3,17 +3,8 @@ use borrow.Author.Needs.{needs}
 use Rattle.hive_c.proofs.remain_facts.Statement.{statement}
 use Rattle.hive_c.proofs.remain_facts.Tie as tie
 
-granted-requires : tie.Need-granted-requires
-granted-requires c κs = search needs
-
-kind-of-requires : tie.Need-kind-of-requires
-kind-of-requires c κs = search needs
-
-narrow-of-requires : tie.Need-narrow-of-requires
-narrow-of-requires c κs = search needs
-
 returns : tie.Need-returns
 returns c = rw (c .before .before .granted .ensures, c .before .kind-of .ensures, c .narrow-of .ensures)
 
 pub remain-facts-spec : {M : Type 1} → statement M
-remain-facts-spec = tie.close (tie.spec granted-requires kind-of-requires narrow-of-requires returns)
+remain-facts-spec = tie.close (tie.spec (λ c κs. search needs) (λ c κs. search needs) (λ c κs. search needs) returns)

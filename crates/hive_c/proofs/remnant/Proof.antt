@@ -5,24 +5,6 @@ use borrow.Author.Needs.{needs}
 use Rattle.hive_c.proofs.remnant.Statement.{statement}
 use Rattle.hive_c.proofs.remnant.Tie as tie
 
-enum-known-n : tie.Need-enum-known-n
-enum-known-n c = search needs
-
-remain-facts-requires : tie.Need-remain-facts-requires
-remain-facts-requires c κs = search needs
-
-enum-told : tie.Need-enum-told
-enum-told c = search needs
-
-granted-requires : tie.Need-granted-requires
-granted-requires c κs = search needs
-
-enum-known-n-2 : tie.Need-enum-known-n-2
-enum-known-n-2 c = search needs
-
-refused-requires : tie.Need-refused-requires
-refused-requires c κs = search needs
-
 returns : tie.Need-returns
 returns c = c .remain-facts .ensures ∙ sym (ap remnantIn (c .before .before .n .given .1))
 
@@ -36,12 +18,12 @@ pub remnant-spec : {M : Type 1} → statement M
 remnant-spec =
     tie.close
     (tie.spec
-    enum-known-n
-    remain-facts-requires
-    enum-told
-    granted-requires
-    enum-known-n-2
-    refused-requires
+    (λ c. search needs)
+    (λ c κs. search needs)
+    (λ c. search needs)
+    (λ c κs. search needs)
+    (λ c. search needs)
+    (λ c κs. search needs)
     returns
     returns-2
     returns-3)

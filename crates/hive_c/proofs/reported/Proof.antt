@@ -5,18 +5,6 @@ use borrow.Author.Needs.{needs}
 use Rattle.hive_c.proofs.reported.Statement.{statement}
 use Rattle.hive_c.proofs.reported.Tie as tie
 
-enum-known-c : tie.Need-enum-known-c
-enum-known-c c = search needs
-
-granted-requires : tie.Need-granted-requires
-granted-requires c κs = search needs
-
-enum-known-c-2 : tie.Need-enum-known-c-2
-enum-known-c-2 c = search needs
-
-refused-requires : tie.Need-refused-requires
-refused-requires c κs = search needs
-
 returns : tie.Need-returns
 returns c = let g = c .before .before .c .given in let r = g .0 .0 in ap (λ (a : HiveAnswer). reportWith a (r .bins) (r .keys) (r .values) (r .used) (r .free)) (c .granted .ensures) ∙ sym (ap reportIn (g .1))
 
@@ -26,4 +14,4 @@ returns-2 c = ap (λ (a : HiveAnswer). reportWith a 0 0 0 0 0) (c .refused .ensu
 pub reported-spec : {M : Type 1} → statement M
 reported-spec =
     tie.close
-    (tie.spec enum-known-c granted-requires enum-known-c-2 refused-requires returns returns-2)
+    (tie.spec (λ c. search needs) (λ c κs. search needs) (λ c. search needs) (λ c κs. search needs) returns returns-2)

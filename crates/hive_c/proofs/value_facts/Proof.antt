@@ -6,14 +6,8 @@ use borrow.Author.Needs.{needs}
 use Rattle.hive_c.proofs.value_facts.Statement.{statement}
 use Rattle.hive_c.proofs.value_facts.Tie as tie
 
-form-of-requires : tie.Need-form-of-requires
-form-of-requires c κs = search needs
-
-granted-requires : tie.Need-granted-requires
-granted-requires c κs = search needs
-
 returns : tie.Need-returns
 returns c = let i = c .before .before .args .i in let f = c .before .form-of in ap (λ (a : HiveAnswer). valueWith a (i .kind) (f .result) (i .at .0) (i .len)) (c .granted .ensures) ∙ ap (λ (n : ℕ). valueWith (granted 0) (i .kind) n (i .at .0) (i .len)) (f .ensures)
 
 pub value-facts-spec : {M : Type 1} → statement M
-value-facts-spec = tie.close (tie.spec form-of-requires granted-requires returns)
+value-facts-spec = tie.close (tie.spec (λ c κs. search needs) (λ c κs. search needs) returns)

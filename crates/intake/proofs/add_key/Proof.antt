@@ -16,9 +16,6 @@ add-capped c = let x = c .before .before .before .before .pre in let a = c .befo
 add-capped-2 : tie.Need-add-capped-2
 add-capped-2 c = let x = c .before .before .before .before .before .pre in let a = c .before .before .before .before .before .args in let k = key-few _ _ (x .lies) (x .short) in omega (arith, x .below-fits, x .size-fits, c .before .before .key-size .ensures, k)
 
-capped-requires : tie.Need-capped-requires
-capped-requires c κs = search needs
-
 add-t10 : tie.Need-add-t10
 add-t10 c = omega (arith, c .before .before .before .before .before .before .before .before .pre .keys-fit)
 
@@ -44,7 +41,7 @@ add-key-spec =
     key-size-requires
     add-capped
     add-capped-2
-    capped-requires
+    (λ c κs. search needs)
     add-t10
     add-t11
     add-t12

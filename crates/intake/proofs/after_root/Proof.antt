@@ -4,36 +4,6 @@ use borrow.Author.Needs.{needs}
 use Rattle.intake.proofs.after_root.Statement.{statement}
 use Rattle.intake.proofs.after_root.Tie as tie
 
-returns : tie.Need-returns
-returns c = search needs
-
-shape-at-requires : tie.Need-shape-at-requires
-shape-at-requires c κs = search needs
-
-enum-known-o : tie.Need-enum-known-o
-enum-known-o c = search needs
-
-flawed-requires : tie.Need-flawed-requires
-flawed-requires c κs = search needs
-
-enum-known-v : tie.Need-enum-known-v
-enum-known-v c = search needs
-
-flawed-requires-2 : tie.Need-flawed-requires-2
-flawed-requires-2 c κs = search needs
-
-enum-told : tie.Need-enum-told
-enum-told c = search needs
-
-flawed-requires-3 : tie.Need-flawed-requires-3
-flawed-requires-3 c κs = search needs
-
-enum-told-2 : tie.Need-enum-told-2
-enum-told-2 c = search needs
-
-flawed-requires-4 : tie.Need-flawed-requires-4
-flawed-requires-4 c κs = search needs
-
 returns-2 : tie.Need-returns-2
 returns-2 c = after-opens _ _ (c .before .before .before .before .before .before .before .pre) (c .before .before .before .before .before .if1 .left) (said-opens (c .before .before .before .before .shape-at .ensures) (c .before .before .o .given .1)) (c .flawed .ensures)
 
@@ -50,16 +20,16 @@ pub after-root-spec : {M : Type 1} → statement M
 after-root-spec =
     tie.close
     (tie.spec
-    returns
-    shape-at-requires
-    enum-known-o
-    flawed-requires
-    enum-known-v
-    flawed-requires-2
-    enum-told
-    flawed-requires-3
-    enum-told-2
-    flawed-requires-4
+    (λ c. search needs)
+    (λ c κs. search needs)
+    (λ c. search needs)
+    (λ c κs. search needs)
+    (λ c. search needs)
+    (λ c κs. search needs)
+    (λ c. search needs)
+    (λ c κs. search needs)
+    (λ c. search needs)
+    (λ c κs. search needs)
     returns-2
     returns-3
     returns-4

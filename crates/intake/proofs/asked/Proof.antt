@@ -9,20 +9,8 @@ use Rattle.intake.proofs.asked.Tie as tie
 shape-at-requires : tie.Need-shape-at-requires
 shape-at-requires c κs = c .before .pre .passed .inside
 
-enum-known-v : tie.Need-enum-known-v
-enum-known-v c = search needs
-
 add-result : tie.Need-add-result
 add-result c = let x = c .before .before .before .before .before .before .pre .passed in omega (arith, x .room, x .inside)
-
-enum-known-o : tie.Need-enum-known-o
-enum-known-o c = search needs
-
-enum-told : tie.Need-enum-told
-enum-told c = search needs
-
-enum-told-2 : tie.Need-enum-told-2
-enum-told-2 c = search needs
 
 returns : tie.Need-returns
 returns c = rw (add-one _) (asked-one (c .before .before .before .before .before .before .pre) _ (said-holds (c .before .before .before .before .shape-at .ensures) (c .before .before .v .given .1)))
@@ -41,11 +29,11 @@ asked-spec =
     tie.close
     (tie.spec
     shape-at-requires
-    enum-known-v
+    (λ c. search needs)
     add-result
-    enum-known-o
-    enum-told
-    enum-told-2
+    (λ c. search needs)
+    (λ c. search needs)
+    (λ c. search needs)
     returns
     returns-2
     returns-3

@@ -12,9 +12,6 @@ list-size-requires c κs = let x = c .before .pre .passed in omega (arith, x .ro
 add-capped : tie.Need-add-capped
 add-capped c = let x = c .before .before .before .pre .passed in let l = c .before .list-size .result in omega (arith, x .room, x .inside, passed-few x, c .before .list-size .ensures, list-few (c .before .before .before .args .r .count))
 
-capped-requires : tie.Need-capped-requires
-capped-requires c κs = search needs
-
 returns : tie.Need-returns
 returns c = record {
   place = refl;
@@ -30,5 +27,5 @@ begin-key-spec =
     (tie.spec
     list-size-requires
     add-capped
-    capped-requires
+    (λ c κs. search needs)
     returns)

@@ -16,9 +16,6 @@ leaf-size-requires c κs = omega (arith, c .before .before .pre .2)
 add-capped : tie.Need-add-capped
 add-capped c = let x = c .before .before .before .before .pre in omega (arith, x .1, x .2, c .before .leaf-size .ensures, leaf-few (c .before .before .before .before .args .w .subkeys))
 
-capped-requires : tie.Need-capped-requires
-capped-requires c κs = search needs
-
 returns : tie.Need-returns
 returns c = let a = c .before .before .before .before .before .args in record {
   place = c .before .before .before .frame-end .ensures;
@@ -33,5 +30,5 @@ end-key-spec =
     frame-end-requires
     leaf-size-requires
     add-capped
-    capped-requires
+    (λ c κs. search needs)
     returns)

@@ -5,9 +5,6 @@ use borrow.Author.Needs.{needs}
 use Rattle.intake.proofs.find_twice.Statement.{statement}
 use Rattle.intake.proofs.find_twice.Tie as tie
 
-asked-requires : tie.Need-asked-requires
-asked-requires c κs = search needs
-
 first-repeat-requires : tie.Need-first-repeat-requires
 first-repeat-requires c κs = c .asked .ensures .row
 
@@ -24,7 +21,7 @@ pub find-twice-spec : {M : Type 1} → statement M
 find-twice-spec =
     tie.close
     (tie.spec
-    asked-requires
+    (λ c κs. search needs)
     first-repeat-requires
     position-of-requires
     returns

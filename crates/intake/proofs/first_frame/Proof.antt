@@ -7,23 +7,8 @@ use Rattle.intake.proofs.first_frame.Tie as tie
 returns : tie.Need-returns
 returns c = no-frames _ (c .if1 .taken)
 
-shape-at-requires : tie.Need-shape-at-requires
-shape-at-requires c κs = search needs
-
-enum-known-o : tie.Need-enum-known-o
-enum-known-o c = search needs
-
 root-named-requires : tie.Need-root-named-requires
 root-named-requires c κs = record { says = said-opens (c .before .before .before .shape-at .ensures) (c .before .o .given .1); lies = opens-lies (c .before .before .before .shape-at .ensures) (c .before .o .given .1) }
-
-enum-known-v : tie.Need-enum-known-v
-enum-known-v c = search needs
-
-enum-told : tie.Need-enum-told
-enum-told c = search needs
-
-enum-told-2 : tie.Need-enum-told-2
-enum-told-2 c = search needs
 
 returns-2 : tie.Need-returns-2
 returns-2 c = c .root-named .ensures
@@ -42,12 +27,12 @@ first-frame-spec =
     tie.close
     (tie.spec
     returns
-    shape-at-requires
-    enum-known-o
+    (λ c κs. search needs)
+    (λ c. search needs)
     root-named-requires
-    enum-known-v
-    enum-told
-    enum-told-2
+    (λ c. search needs)
+    (λ c. search needs)
+    (λ c. search needs)
     returns-2
     returns-3
     returns-4

@@ -9,26 +9,11 @@ use borrow.Author.Needs.{needs}
 use Rattle.intake.proofs.frame_fault.Statement.{statement}
 use Rattle.intake.proofs.frame_fault.Tie as tie
 
-enum-known-f : tie.Need-enum-known-f
-enum-known-f c = search needs
-
 value-fault-requires : tie.Need-value-fault-requires
 value-fault-requires c κs = let a = c .before .before .before .before .args in subst (λ (q : Shape). Lies (now (a .s)) q) (c .before .f .given .1) (c .before .before .before .before .pre .0)
 
-enum-known-f-2 : tie.Need-enum-known-f-2
-enum-known-f-2 c = search needs
-
 key-fault-requires : tie.Need-key-fault-requires
 key-fault-requires c κs = let a = c .before .before .before .before .args in (subst (λ (q : Shape). Lies (now (a .s)) q) (c .before .f2 .given .1) (c .before .before .before .before .pre .0), c .before .before .before .before .pre .1)
-
-enum-told : tie.Need-enum-told
-enum-told c = search needs
-
-enum-told-2 : tie.Need-enum-told-2
-enum-told-2 c = search needs
-
-flawed-requires : tie.Need-flawed-requires
-flawed-requires c κs = search needs
 
 returns : tie.Need-returns
 returns c = let a = c .before .before .before .before .before .args in subst (λ (q : Shape). FaultHere (now (a .s)) (shapeIn (now (a .s)) q) (a .h) (c .value-fault .result)) (sym (c .before .before .f .given .1)) (c .value-fault .ensures)
@@ -46,13 +31,13 @@ pub frame-fault-spec : {M : Type 1} → statement M
 frame-fault-spec =
     tie.close
     (tie.spec
-    enum-known-f
+    (λ c. search needs)
     value-fault-requires
-    enum-known-f-2
+    (λ c. search needs)
     key-fault-requires
-    enum-told
-    enum-told-2
-    flawed-requires
+    (λ c. search needs)
+    (λ c. search needs)
+    (λ c κs. search needs)
     returns
     returns-2
     returns-3

@@ -7,14 +7,8 @@ use borrow.Author.Needs.{needs}
 use Rattle.intake.proofs.held_size.Statement.{statement}
 use Rattle.intake.proofs.held_size.Tie as tie
 
-is-value-name-requires : tie.Need-is-value-name-requires
-is-value-name-requires c κs = search needs
-
 returns : tie.Need-returns
 returns c = sized-misnamed (sym (c .before .is-value-name .ensures _ (c .before .before .before .pre)) ∙ not-true _ (c .if1 .taken))
-
-is-small-requires : tie.Need-is-small-requires
-is-small-requires c κs = search needs
 
 returns-2 : tie.Need-returns-2
 returns-2 c = sized-large (sym (c .before .is-small .ensures _ (c .before .before .before .before .before .pre)) ∙ not-true _ (c .if2 .taken))
@@ -33,9 +27,9 @@ pub held-size-spec : {M : Type 1} → statement M
 held-size-spec =
     tie.close
     (tie.spec
-    is-value-name-requires
+    (λ c κs. search needs)
     returns
-    is-small-requires
+    (λ c κs. search needs)
     returns-2
     value-size-requires
     returns-3)

@@ -9,29 +9,17 @@ use Rattle.intake.proofs.key_fault.Tie as tie
 is-in-order-requires : tie.Need-is-in-order-requires
 is-in-order-requires c κs = (c .before .before .pre .0 .inside, c .before .before .pre .1)
 
-flawed-requires : tie.Need-flawed-requires
-flawed-requires c κs = search needs
-
 returns : tie.Need-returns
 returns c = λ k ks x. c .flawed .ensures ∙ sym (key-unsorted x (sym (c .before .before .is-in-order .ensures _ (x .elders)) ∙ not-true _ (c .before .if1 .taken)))
 
 is-key-name-requires : tie.Need-is-key-name-requires
 is-key-name-requires c κs = c .before .before .before .before .pre .0
 
-flawed-requires-2 : tie.Need-flawed-requires-2
-flawed-requires-2 c κs = search needs
-
 returns-2 : tie.Need-returns-2
 returns-2 c = λ k ks x. c .flawed2 .ensures ∙ sym (key-misnamed x (sym (c .before .before .before .before .is-in-order .ensures _ (x .elders)) ∙ not-false _ (c .before .before .before .if1 .left)) (sym (c .before .before .is-key-name .ensures _) ∙ not-true _ (c .before .if2 .taken)))
 
-flawed-requires-3 : tie.Need-flawed-requires-3
-flawed-requires-3 c κs = search needs
-
 returns-3 : tie.Need-returns-3
 returns-3 c = λ k ks x. c .flawed3 .ensures ∙ sym (key-deep x (sym (c .before .before .before .before .before .before .is-in-order .ensures _ (x .elders)) ∙ not-false _ (c .before .before .before .before .before .if1 .left)) (sym (c .before .before .before .before .is-key-name .ensures _) ∙ not-false _ (c .before .before .before .if2 .left)) (c .before .if3 .taken))
-
-flawed-requires-4 : tie.Need-flawed-requires-4
-flawed-requires-4 c κs = search needs
 
 returns-4 : tie.Need-returns-4
 returns-4 c = λ k ks x. c .flawed4 .ensures ∙ sym (key-many x (sym (c .before .before .before .before .before .before .before .before .is-in-order .ensures _ (x .elders)) ∙ not-false _ (c .before .before .before .before .before .before .before .if1 .left)) (sym (c .before .before .before .before .before .before .is-key-name .ensures _) ∙ not-false _ (c .before .before .before .before .before .if2 .left)) (omega (arith, c .before .before .before .if3 .left)) (c .before .if4 .taken))
@@ -44,13 +32,13 @@ key-fault-spec =
     tie.close
     (tie.spec
     is-in-order-requires
-    flawed-requires
+    (λ c κs. search needs)
     returns
     is-key-name-requires
-    flawed-requires-2
+    (λ c κs. search needs)
     returns-2
-    flawed-requires-3
+    (λ c κs. search needs)
     returns-3
-    flawed-requires-4
+    (λ c κs. search needs)
     returns-4
     returns-5)

@@ -15,24 +15,12 @@ frame-end-requires c κs = root-laid _ (c .before .pre .opens)
 pass-key-requires : tie.Need-pass-key-requires
 pass-key-requires c κs = (c .frame-end .ensures .inside, omega arith)
 
-enum-known-x : tie.Need-enum-known-x
-enum-known-x c = search needs
-
-enum-known-t : tie.Need-enum-known-t
-enum-known-t c = search needs
-
 after-root-requires : tie.Need-after-root-requires
 after-root-requires c κs =
     let a = c .before .before .before .before .before .before .args in
     let by = all-bytes (now (a .s)) (λ i. c .before .before .before .before .before .shared-slice-known .given i .fits) in
     let t = told-closed (now (a .s)) (c .before .before .before .before .frame-end .result) 0 (c .before .t .given .1) (c .before .before .before .pass-key .ensures) in
     t .inside
-
-enum-known-x-2 : tie.Need-enum-known-x-2
-enum-known-x-2 c = search needs
-
-enum-told : tie.Need-enum-told
-enum-told c = search needs
 
 root-sums-requires : tie.Need-root-sums-requires
 root-sums-requires c κs =
@@ -67,11 +55,11 @@ measure-root-spec =
     (tie.spec
     frame-end-requires
     pass-key-requires
-    enum-known-x
-    enum-known-t
+    (λ c. search needs)
+    (λ c. search needs)
     after-root-requires
-    enum-known-x-2
-    enum-told
+    (λ c. search needs)
+    (λ c. search needs)
     root-sums-requires
     returns
     returns-2

@@ -4,15 +4,6 @@ use borrow.Author.Needs.{needs}
 use Rattle.intake.proofs.measure_stream.Statement.{statement}
 use Rattle.intake.proofs.measure_stream.Tie as tie
 
-first-frame-requires : tie.Need-first-frame-requires
-first-frame-requires c κs = search needs
-
-enum-known-x : tie.Need-enum-known-x
-enum-known-x c = search needs
-
-enum-known-o : tie.Need-enum-known-o
-enum-known-o c = search needs
-
 measure-root-requires : tie.Need-measure-root-requires
 measure-root-requires c κs = told-root (now (c .before .before .before .before .before .args .s)) (c .before .o .given .1) (c .before .before .before .first-frame .ensures)
 
@@ -26,9 +17,9 @@ pub measure-stream-spec : {M : Type 1} → statement M
 measure-stream-spec =
     tie.close
     (tie.spec
-    first-frame-requires
-    enum-known-x
-    enum-known-o
+    (λ c κs. search needs)
+    (λ c. search needs)
+    (λ c. search needs)
     measure-root-requires
     returns
     returns-2)

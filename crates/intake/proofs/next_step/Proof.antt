@@ -18,12 +18,6 @@ shape-at-requires c κs = c .before .before .pre .inside
 frame-fault-requires : tie.Need-frame-fault-requires
 frame-fault-requires c κs = (c .shape-at .ensures .lies, c .before .before .before .pre .here)
 
-enum-known-x : tie.Need-enum-known-x
-enum-known-x c = search needs
-
-enum-told : tie.Need-enum-told
-enum-told c = search needs
-
 sound-step-requires : tie.Need-sound-step-requires
 sound-step-requires c κs =
     let a = c .before .before .before .before .before .before .args in
@@ -42,8 +36,8 @@ next-step-spec =
     returns
     shape-at-requires
     frame-fault-requires
-    enum-known-x
-    enum-told
+    (λ c. search needs)
+    (λ c. search needs)
     sound-step-requires
     returns-2
     returns-3)

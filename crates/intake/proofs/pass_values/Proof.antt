@@ -15,9 +15,6 @@ Inv-loop s at p₀ n₀ size₀ k₀ p n size k = Passed s at n p size × Sized 
 abbrev μ-loop : tie.MeasureT-loop
 μ-loop s at p₀ n₀ size₀ k₀ p n size k = length s - p
 
-value-at-requires : tie.Need-value-at-requires Inv-loop μ-loop
-value-at-requires c κs = search needs
-
 loop-holds : tie.Need-loop-holds Inv-loop μ-loop
 loop-holds c = (passed-none _ _ (c .before .before .pre), c .value-at .ensures)
 
@@ -29,9 +26,6 @@ add-n c = let x = c .before .before .loop .inv .0 in omega (arith, x .room, x .i
 
 add-capped : tie.Need-add-capped Inv-loop μ-loop
 add-capped c = let x = c .before .before .loop .inv in omega (arith, passed-few (x .0), x .1 .few)
-
-capped-requires : tie.Need-capped-requires Inv-loop μ-loop
-capped-requires c κs = search needs
 
 value-at-requires-2 : tie.Need-value-at-requires-2 Inv-loop μ-loop
 value-at-requires-2 c κs = c .before .frame-end .ensures .inside
@@ -54,12 +48,12 @@ pass-values-spec =
     (tie.spec
     Inv-loop
     μ-loop
-    value-at-requires
+    (λ c κs. search needs)
     loop-holds
     frame-end-requires
     add-n
     add-capped
-    capped-requires
+    (λ c κs. search needs)
     value-at-requires-2
     loop-less
     loop-again

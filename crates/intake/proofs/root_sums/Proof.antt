@@ -13,9 +13,6 @@ key-size-requires c κs = (c .before .before .pre .lies, c .before .before .pre 
 add-capped : tie.Need-add-capped
 add-capped c = let x = c .before .before .before .before .pre in let k = key-few _ _ (x .lies) (x .short) in omega (arith, x .below-fits, c .before .key-size .ensures, k)
 
-capped-requires : tie.Need-capped-requires
-capped-requires c κs = search needs
-
 add-t8 : tie.Need-add-t8
 add-t8 c = omega (arith, c .before .before .before .before .before .before .pre .keys-fit)
 
@@ -31,6 +28,6 @@ root-sums-spec =
     (tie.spec
     key-size-requires
     add-capped
-    capped-requires
+    (λ c κs. search needs)
     add-t8
     returns)

@@ -4,18 +4,6 @@ use borrow.Author.Needs.{needs}
 use Rattle.intake.proofs.sound_step.Statement.{statement}
 use Rattle.intake.proofs.sound_step.Tie as tie
 
-enum-known-f : tie.Need-enum-known-f
-enum-known-f c = search needs
-
-enum-told : tie.Need-enum-told
-enum-told c = search needs
-
-enum-known-f-2 : tie.Need-enum-known-f-2
-enum-known-f-2 c = search needs
-
-enum-told-2 : tie.Need-enum-told-2
-enum-told-2 c = search needs
-
 returns : tie.Need-returns
 returns c = let q = c .before .before .before .pre in at-key _ _ _ (q .1) (q .2) (c .before .f .given .1)
 
@@ -32,10 +20,10 @@ pub sound-step-spec : {M : Type 1} → statement M
 sound-step-spec =
     tie.close
     (tie.spec
-    enum-known-f
-    enum-told
-    enum-known-f-2
-    enum-told-2
+    (λ c. search needs)
+    (λ c. search needs)
+    (λ c. search needs)
+    (λ c. search needs)
     returns
     returns-2
     returns-3

@@ -4,23 +4,8 @@ use borrow.Author.Needs.{needs}
 use Rattle.intake.proofs.value_at.Statement.{statement}
 use Rattle.intake.proofs.value_at.Tie as tie
 
-shape-at-requires : tie.Need-shape-at-requires
-shape-at-requires c κs = search needs
-
-enum-known-v : tie.Need-enum-known-v
-enum-known-v c = search needs
-
 held-size-requires : tie.Need-held-size-requires
 held-size-requires c κs = holds-lies (c .before .before .before .shape-at .ensures) (c .before .v .given .1)
-
-enum-known-o : tie.Need-enum-known-o
-enum-known-o c = search needs
-
-enum-told : tie.Need-enum-told
-enum-told c = search needs
-
-enum-told-2 : tie.Need-enum-told-2
-enum-told-2 c = search needs
 
 returns : tie.Need-returns
 returns c = sized-by (said-holds (c .before .before .before .before .shape-at .ensures) (c .before .before .v .given .1)) (c .held-size .ensures)
@@ -38,12 +23,12 @@ pub value-at-spec : {M : Type 1} → statement M
 value-at-spec =
     tie.close
     (tie.spec
-    shape-at-requires
-    enum-known-v
+    (λ c κs. search needs)
+    (λ c. search needs)
     held-size-requires
-    enum-known-o
-    enum-told
-    enum-told-2
+    (λ c. search needs)
+    (λ c. search needs)
+    (λ c. search needs)
     returns
     returns-2
     returns-3

@@ -6,26 +6,11 @@ use borrow.Author.Needs.{needs}
 use Rattle.intake.proofs.value_fault.Statement.{statement}
 use Rattle.intake.proofs.value_fault.Tie as tie
 
-flawed-requires : tie.Need-flawed-requires
-flawed-requires c κs = search needs
-
 returns : tie.Need-returns
 returns c = λ k ks x. c .flawed .ensures ∙ sym (value-late x (c .before .if1 .taken))
 
-is-value-name-requires : tie.Need-is-value-name-requires
-is-value-name-requires c κs = search needs
-
-flawed-requires-2 : tie.Need-flawed-requires-2
-flawed-requires-2 c κs = search needs
-
 returns-2 : tie.Need-returns-2
 returns-2 c = λ k ks x. c .flawed2 .ensures ∙ sym (value-misnamed x (omega (arith, c .before .before .before .if1 .left)) (sym (c .before .before .is-value-name .ensures _ (c .before .before .before .before .before .before .pre)) ∙ not-true _ (c .before .if2 .taken)))
-
-is-small-requires : tie.Need-is-small-requires
-is-small-requires c κs = search needs
-
-flawed-requires-3 : tie.Need-flawed-requires-3
-flawed-requires-3 c κs = search needs
 
 returns-3 : tie.Need-returns-3
 returns-3 c = λ k ks x. c .flawed3 .ensures ∙ sym (value-large x (omega (arith, c .before .before .before .before .before .if1 .left)) (sym (c .before .before .before .before .is-value-name .ensures _ (c .before .before .before .before .before .before .before .before .pre)) ∙ not-false _ (c .before .before .before .if2 .left)) (sym (c .before .before .is-small .ensures _ (c .before .before .before .before .before .before .before .before .pre)) ∙ not-true _ (c .before .if3 .taken)))
@@ -37,12 +22,12 @@ pub value-fault-spec : {M : Type 1} → statement M
 value-fault-spec =
     tie.close
     (tie.spec
-    flawed-requires
+    (λ c κs. search needs)
     returns
-    is-value-name-requires
-    flawed-requires-2
+    (λ c κs. search needs)
+    (λ c κs. search needs)
     returns-2
-    is-small-requires
-    flawed-requires-3
+    (λ c κs. search needs)
+    (λ c κs. search needs)
     returns-3
     returns-4)

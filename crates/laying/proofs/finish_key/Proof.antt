@@ -22,12 +22,6 @@ add-t16 c = omega (arith, (end-fits _ _ _ _ _ _ _ _ _ _ _ (c .before .before .be
 add-t17 : tie.Need-add-t17
 add-t17 c = omega (arith, (end-fits _ _ _ _ _ _ _ _ _ _ _ (c .before .before .before .before .before .before .before .before .before .before .before .before .before .before .before .pre .0 .6)) .2)
 
-larger-requires : tie.Need-larger-requires
-larger-requires c κs = search needs
-
-same-length : tie.Need-same-length
-same-length c = search needs
-
 returns : tie.Need-returns
 returns c = λ n sh x vs b t u. finished _ _ _ _ _ _ _ _ _ _ _ u _ _ _ _ _ _ _ (c .before .before .before .before .before .before .before .before .before .before .before .put-leaf .ensures) (c .before .before .before .before .before .before .before .put-own .ensures) (c .before .before .before .before .frame-end .ensures) (c .before .before .before .leaf-size .ensures) (c .larger .ensures)
 
@@ -41,6 +35,6 @@ finish-key-spec =
     leaf-size-requires
     add-t16
     add-t17
-    larger-requires
-    same-length
+    (λ c κs. search needs)
+    (λ c. search needs)
     returns)

@@ -7,9 +7,6 @@ use Rattle.laying.proofs.held_at.Tie as tie
 u32-at-requires : tie.Need-u32-at-requires
 u32-at-requires c κs = let a = c .before .args in let r = value-there (a .s .now) (a .at) (c .before .pre) in omega arith
 
-cast-len : tie.Need-cast-len
-cast-len c = search needs
-
 add-start : tie.Need-add-start
 add-start c = let a = c .before .before .args in let r = value-there (a .s .now) (a .at) (c .before .before .pre) in omega arith
 
@@ -18,9 +15,6 @@ add-u32-at c = let a = c .before .before .args in let r = value-there (a .s .now
 
 u32-at-requires-2 : tie.Need-u32-at-requires-2
 u32-at-requires-2 c κs = let a = c .before .before .args in let r = value-there (a .s .now) (a .at) (c .before .before .pre) in omega arith
-
-cast-n : tie.Need-cast-n
-cast-n c = search needs
 
 add-t9 : tie.Need-add-t9
 add-t9 c = let a = c .before .before .before .args in let r = value-there (a .s .now) (a .at) (c .before .before .before .pre) in omega arith
@@ -48,11 +42,11 @@ held-at-spec =
     tie.close
     (tie.spec
     u32-at-requires
-    cast-len
+    (λ c. search needs)
     add-start
     add-u32-at
     u32-at-requires-2
-    cast-n
+    (λ c. search needs)
     add-t9
     add-t9-2
     add-t10

@@ -7,11 +7,8 @@ use Rattle.laying.proofs.if_any.Tie as tie
 returns : tie.Need-returns
 returns c = sym (any-none _ _ (c .if1 .taken))
 
-cast-result : tie.Need-cast-result
-cast-result c = search needs
-
 returns-2 : tie.Need-returns-2
 returns-2 c = sym (any-some _ _ (c .if1 .left))
 
 pub if-any-spec : {M : Type 1} → statement M
-if-any-spec = tie.close (tie.spec returns cast-result returns-2)
+if-any-spec = tie.close (tie.spec returns (λ c. search needs) returns-2)

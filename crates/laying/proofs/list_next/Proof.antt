@@ -12,23 +12,11 @@ held-at-requires c κs = value-is-one _ _ (c .before .before .pre .1 .is)
 value-size-requires : tie.Need-value-size-requires
 value-size-requires c κs = held-fits _ _ _ _ (c .before .before .before .pre .1 .is) (c .before .before .before .pre .1 .allowed) (c .held-at .ensures)
 
-cast-put-u32 : tie.Need-cast-put-u32
-cast-put-u32 c = search needs
-
-put-u32-requires : tie.Need-put-u32-requires
-put-u32-requires c κs = search needs
-
 frame-end-requires : tie.Need-frame-end-requires
 frame-end-requires c κs = holding-laid _ _ _ (c .before .before .before .before .before .before .held-at .ensures)
 
 add-t11 : tie.Need-add-t11
 add-t11 c = omega (arith, listed-low _ _ _ (c .before .before .before .before .before .before .before .before .held-at .ensures) _ (c .before .before .before .before .before .before .before .value-size .ensures) _ _ (c .before .before .before .before .before .before .before .before .before .before .before .pre .1))
-
-add-t12 : tie.Need-add-t12
-add-t12 c = search needs
-
-same-length : tie.Need-same-length
-same-length c = search needs
 
 returns : tie.Need-returns
 returns c = λ v e. listed-more _ _ _ (c .before .before .before .before .before .before .before .before .before .held-at .ensures) _ (c .before .before .before .before .before .before .before .before .value-size .ensures) _ _ _ (c .before .before .before .before .before .put-u32 .ensures) (c .before .before .frame-end .ensures) refl refl v e
@@ -39,10 +27,10 @@ list-next-spec =
     (tie.spec
     held-at-requires
     value-size-requires
-    cast-put-u32
-    put-u32-requires
+    (λ c. search needs)
+    (λ c κs. search needs)
     frame-end-requires
     add-t11
-    add-t12
-    same-length
+    (λ c. search needs)
+    (λ c. search needs)
     returns)

@@ -7,9 +7,6 @@ use Rattle.laying.proofs.opening_at.Tie as tie
 u32-at-requires : tie.Need-u32-at-requires
 u32-at-requires c κs = let a = c .before .args in let r = opening-there (a .s .now) (a .at) (c .before .pre) in omega arith
 
-cast-len : tie.Need-cast-len
-cast-len c = search needs
-
 add-start : tie.Need-add-start
 add-start c = let a = c .before .before .args in let r = opening-there (a .s .now) (a .at) (c .before .before .pre) in omega arith
 
@@ -26,4 +23,4 @@ returns : tie.Need-returns
 returns c = opening-read _ _ (c .before .before .before .pre) _ _ (c .before .u32-at .ensures) (c .u64-at .ensures)
 
 pub opening-at-spec : {M : Type 1} → statement M
-opening-at-spec = tie.close (tie.spec u32-at-requires cast-len add-start add-t7 sub-t8 u64-at-requires returns)
+opening-at-spec = tie.close (tie.spec u32-at-requires (λ c. search needs) add-start add-t7 sub-t8 u64-at-requires returns)

@@ -24,9 +24,6 @@ loop-less c = let x = element-fits _ _ _ _ _ _ (c .before .before .before .befor
 loop-again : tie.Need-loop-again Inv-loop μ-loop
 loop-again c = (omega (arith, c .before .before .before .before .before .before .loop .inv .0), goes-on _ _ _ _ _ _ (c .before .before .before .before .before .before .loop .inv .1) (c .before .before .before .before .if1 .taken) _ _ (c .before .before .put-element .ensures))
 
-same-length : tie.Need-same-length Inv-loop μ-loop
-same-length c = search needs
-
 returns : tie.Need-returns Inv-loop μ-loop
 returns c = all-there _ _ _ _ _ _ (c .before .before .loop .inv .1) (c .if1 .left)
 
@@ -40,5 +37,5 @@ put-elements-spec =
     put-element-requires
     loop-less
     loop-again
-    same-length
+    (λ c. search needs)
     returns)

@@ -4,29 +4,8 @@ use borrow.Author.Needs.{needs}
 use Rattle.laying.proofs.put_held.Statement.{statement}
 use Rattle.laying.proofs.put_held.Tie as tie
 
-is-narrow-requires : tie.Need-is-narrow-requires
-is-narrow-requires c κs = search needs
-
-stored-by-requires : tie.Need-stored-by-requires
-stored-by-requires c κs = search needs
-
-add-cell-size : tie.Need-add-cell-size
-add-cell-size c = search needs
-
-cell-size-requires : tie.Need-cell-size-requires
-cell-size-requires c κs = search needs
-
 add-next : tie.Need-add-next
 add-next c = omega (arith, next-fits-in _ _ (c .before .before .before .before .before .before .before .pre .0) _ _ (c .before .before .before .before .before .before .before .pre .1) _ _ (c .cell-size .ensures) (c .before .stored-by .ensures .1 _ (c .before .before .before .before .before .before .before .pre .0 .lies .name) (c .before .before .is-narrow .ensures)))
-
-part-of-requires : tie.Need-part-of-requires
-part-of-requires c κs = search needs
-
-part-of-requires-2 : tie.Need-part-of-requires-2
-part-of-requires-2 c κs = search needs
-
-add-put-value : tie.Need-add-put-value
-add-put-value c = search needs
 
 put-value-requires : tie.Need-put-value-requires
 put-value-requires c κs = value-room _ _ (c .before .before .before .before .before .before .before .before .before .before .pre .0) _ _ (c .before .before .before .before .before .before .before .before .before .before .pre .1) _ _ (c .before .part-of2 .ensures) (c .before .before .part-of .ensures) _ (c .before .before .before .before .before .is-narrow .ensures)
@@ -43,9 +22,6 @@ data-size-requires c κs = body-few _ _ (c .before .before .before .before .befo
 add-result : tie.Need-add-result
 add-result c = omega (arith, c .before .before .before .before .before .before .before .before .before .before .before .before .before .before .before .before .before .before .pre .1 .low, held-end _ _ (c .before .before .before .before .before .before .before .before .before .before .before .before .before .before .before .before .before .before .pre .0) _ _ (c .before .before .before .before .before .before .before .before .before .before .before .before .before .before .before .before .before .before .pre .1) _ _ (c .before .before .before .before .before .before .before .before .before .part-of2 .ensures) (c .before .before .before .before .before .before .before .before .before .before .part-of .ensures) _ _ (next-given _ _ _ (c .before .before .before .before .before .before .before .before .before .before .before .cell-size .ensures)) (c .before .before .before .before .before .before .before .before .before .before .before .before .stored-by .ensures .1 _ (c .before .before .before .before .before .before .before .before .before .before .before .before .before .before .before .before .before .before .pre .0 .lies .name) (c .before .before .before .before .before .before .before .before .before .before .before .before .before .is-narrow .ensures)) _ (c .data-size .ensures))
 
-same-length : tie.Need-same-length
-same-length c = search needs
-
 returns : tie.Need-returns
 returns c = (rw (c .before .before .before .put-data .ensures, c .before .before .before .before .before .before .before .put-value .ensures) (held-put _ _ (c .before .before .before .before .before .before .before .before .before .before .before .before .before .before .before .before .before .before .pre .0) _ _ (c .before .before .before .before .before .before .before .before .before .before .before .before .before .before .before .before .before .before .pre .1) _ _ (c .before .before .before .before .before .before .before .before .before .part-of2 .ensures) (c .before .before .before .before .before .before .before .before .before .before .part-of .ensures) _ _ (next-given _ _ _ (c .before .before .before .before .before .before .before .before .before .before .before .cell-size .ensures)) (c .before .before .before .before .before .before .before .before .before .before .before .before .stored-by .ensures .1 _ (c .before .before .before .before .before .before .before .before .before .before .before .before .before .before .before .before .before .before .pre .0 .lies .name) (c .before .before .before .before .before .before .before .before .before .before .before .before .before .is-narrow .ensures)) _), held-end _ _ (c .before .before .before .before .before .before .before .before .before .before .before .before .before .before .before .before .before .before .pre .0) _ _ (c .before .before .before .before .before .before .before .before .before .before .before .before .before .before .before .before .before .before .pre .1) _ _ (c .before .before .before .before .before .before .before .before .before .part-of2 .ensures) (c .before .before .before .before .before .before .before .before .before .before .part-of .ensures) _ _ (next-given _ _ _ (c .before .before .before .before .before .before .before .before .before .before .before .cell-size .ensures)) (c .before .before .before .before .before .before .before .before .before .before .before .before .stored-by .ensures .1 _ (c .before .before .before .before .before .before .before .before .before .before .before .before .before .before .before .before .before .before .pre .0 .lies .name) (c .before .before .before .before .before .before .before .before .before .before .before .before .before .is-narrow .ensures)) _ (c .data-size .ensures))
 
@@ -53,18 +29,18 @@ pub put-held-spec : {M : Type 1} → statement M
 put-held-spec =
     tie.close
     (tie.spec
-    is-narrow-requires
-    stored-by-requires
-    add-cell-size
-    cell-size-requires
+    (λ c κs. search needs)
+    (λ c κs. search needs)
+    (λ c. search needs)
+    (λ c κs. search needs)
     add-next
-    part-of-requires
-    part-of-requires-2
-    add-put-value
+    (λ c κs. search needs)
+    (λ c κs. search needs)
+    (λ c. search needs)
     put-value-requires
     add-put-data
     put-data-requires
     data-size-requires
     add-result
-    same-length
+    (λ c. search needs)
     returns)

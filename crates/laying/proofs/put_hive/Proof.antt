@@ -58,9 +58,6 @@ sub-put-free c = omega (arith, (size-fits _ _ _ _ _ _ (c .before .before .before
 put-free-requires : tie.Need-put-free-requires
 put-free-requires c κs = ((left-whole _ _ _ _ _ _ (c .before .before .before .before .before .before .before .before .before .before .before .before .before .before .before .before .before .before .before .before .before .before .pre .1) _ (c .before .before .before .before .before .before .before .before .before .before .before .before .before .before .before .before .before .cell-size .ensures), omega (arith, (size-fits _ _ _ _ _ _ (c .before .before .before .before .before .before .before .before .before .before .before .before .before .before .before .before .before .before .before .before .before .before .pre .1) _ (c .before .before .before .before .before .before .before .before .before .before .before .before .before .before .before .before .before .cell-size .ensures)) .0)), omega (arith, (size-fits _ _ _ _ _ _ (c .before .before .before .before .before .before .before .before .before .before .before .before .before .before .before .before .before .before .before .before .before .before .pre .1) _ (c .before .before .before .before .before .before .before .before .before .before .before .before .before .before .before .before .before .cell-size .ensures)) .1, (size-fits _ _ _ _ _ _ (c .before .before .before .before .before .before .before .before .before .before .before .before .before .before .before .before .before .before .before .before .before .before .pre .1) _ (c .before .before .before .before .before .before .before .before .before .before .before .before .before .before .before .before .before .cell-size .ensures)) .2))
 
-same-length : tie.Need-same-length
-same-length c = search needs
-
 returns : tie.Need-returns
 returns c = λ f k. rw (c .before .before .put-free .ensures, c .before .before .before .before .before .before .put-item .ensures, (c .before .before .before .before .before .before .before .before .before .before .put-keys .ensures f _ (root-here _ _ _ _ _ _ k) (let r = keys-room _ _ _ _ _ _ k in record { low = r .low; inside = omega (arith, r .inside) })) .bytes, c .before .before .before .before .before .before .before .before .before .before .before .before .before .before .put-header .ensures, c .before .before .before .before .before .before .before .before .before .before .before .before .before .before .before .before .before .before .put-base .ensures) (hive-put _ _ _ _ _ _ k _ (c .before .before .before .before .before .before .before .before .before .before .before .before .before .before .before .before .before .before .before .before .cell-size .ensures) _ (c .before .before .before .before .before .before .before .before .before .before .before .before .before .before .before .before .before .before .before .before .before .opening-at .ensures) _)
 
@@ -86,5 +83,5 @@ put-hive-spec =
     add-put-free
     sub-put-free
     put-free-requires
-    same-length
+    (λ c. search needs)
     returns)

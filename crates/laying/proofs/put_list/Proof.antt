@@ -9,26 +9,17 @@ use Rattle.laying.proofs.put_list.Tie as tie
 returns : tie.Need-returns
 returns c = λ vs t h e. list-none _ _ _ _ (c .if1 .taken) vs e
 
-add-place : tie.Need-add-place
-add-place c = search needs
-
 mul-len : tie.Need-mul-len
 mul-len c = let f = list-few _ _ _ (c .if1 .left) (c .before .before .before .pre .5) in omega (arith, f .0)
 
 put-size-requires : tie.Need-put-size-requires
 put-size-requires c κs = let f = list-few _ _ _ (c .before .if1 .left) (c .before .before .before .before .pre .5) in (omega (arith, f .0), omega (arith, f .1, cell-room (4 * c .before .before .before .before .args .n)))
 
-add-put-offsets : tie.Need-add-put-offsets
-add-put-offsets c = search needs
-
 put-offsets-requires : tie.Need-put-offsets-requires
 put-offsets-requires c κs = let f = list-few _ _ _ (c .before .before .before .before .before .if1 .left) (c .before .before .before .before .before .before .before .before .pre .5) in (c .before .before .before .before .before .before .before .before .pre .0, c .before .before .before .before .before .before .before .before .pre .1, c .before .before .before .before .before .before .before .before .pre .2, c .before .before .before .before .before .before .before .before .pre .4, omega (arith, f .1, cell-room (4 * c .before .before .before .before .before .before .before .before .args .n), c .before .before .before .before .before .before .before .before .pre .3))
 
 put-pad-requires : tie.Need-put-pad-requires
 put-pad-requires c κs = let f = list-few _ _ _ (c .before .before .before .before .before .before .before .before .before .if1 .left) (c .before .before .before .before .before .before .before .before .before .before .before .before .pre .5) in (omega (arith, f .0), omega (arith, f .1))
-
-same-length : tie.Need-same-length
-same-length c = search needs
 
 returns-2 : tie.Need-returns-2
 returns-2 c = λ vs t h e. rw (c .before .before .put-pad .ensures, c .before .before .before .before .before .before .put-offsets .ensures vs t h, c .before .before .before .before .before .before .before .before .before .before .put-size .ensures) (list-put _ _ _ _ (c .before .before .before .before .before .before .before .before .before .before .before .before .if1 .left) vs e)
@@ -38,11 +29,11 @@ put-list-spec =
     tie.close
     (tie.spec
     returns
-    add-place
+    (λ c. search needs)
     mul-len
     put-size-requires
-    add-put-offsets
+    (λ c. search needs)
     put-offsets-requires
     put-pad-requires
-    same-length
+    (λ c. search needs)
     returns-2)

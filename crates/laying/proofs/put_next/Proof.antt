@@ -17,15 +17,6 @@ frame-end-requires c κs = holding-laid _ _ _ (c .before .before .before .before
 add-t11 : tie.Need-add-t11
 add-t11 c = omega (arith, c .before .before .before .before .before .before .before .before .before .pre .1 .few, c .before .before .before .before .before .before .before .before .before .pre .1 .room .low)
 
-larger-requires : tie.Need-larger-requires
-larger-requires c κs = search needs
-
-larger-requires-2 : tie.Need-larger-requires-2
-larger-requires-2 c κs = search needs
-
-same-length : tie.Need-same-length
-same-length c = search needs
-
 returns : tie.Need-returns
 returns c = λ v e. one-more _ _ _ _ _ _ (c .before .before .before .before .before .before .before .before .held-at .ensures) (c .before .before .before .before .before .before .put-held .ensures .0) (c .before .before .before .before .before .before .put-held .ensures .1) (c .before .before .before .frame-end .ensures) refl (c .before .larger .ensures) (c .larger2 .ensures) v e
 
@@ -37,7 +28,7 @@ put-next-spec =
     put-held-requires
     frame-end-requires
     add-t11
-    larger-requires
-    larger-requires-2
-    same-length
+    (λ c κs. search needs)
+    (λ c κs. search needs)
+    (λ c. search needs)
     returns)

@@ -28,9 +28,6 @@ loop-less c = let x = list-fits _ _ _ _ _ _ _ (c .before .before .before .before
 loop-again : tie.Need-loop-again Inv-loop μ-loop
 loop-again c = let x = list-fits _ _ _ _ _ _ _ (c .before .before .before .before .before .before .loop .inv .2) (sym (c .before .before .before .before .before .is-value .ensures) ∙ c .before .before .before .before .if1 .taken) _ (c .before .before .before .before .before .before .before .before .before .pre .0) (c .before .before .before .before .before .before .before .before .before .pre .1) (c .before .before .before .before .before .before .before .before .before .pre .2) (c .before .before .before .before .before .before .before .before .before .pre .3) (more-room (c .before .before .before .before .before .before .loop .inv .1) (c .before .before .before .before .before .before .before .before .before .pre .4)) in let m = c .before .before .list-next .ensures (x .0) (x .1 .is) in (m .inside, omega (arith, c .before .before .before .before .before .before .loop .inv .1), lists-on _ _ _ _ _ _ _ (c .before .before .before .before .before .before .loop .inv .2) (sym (c .before .before .before .before .before .is-value .ensures) ∙ c .before .before .before .before .if1 .taken) _ _ (c .before .before .list-next .ensures))
 
-same-length : tie.Need-same-length Inv-loop μ-loop
-same-length c = search needs
-
 returns : tie.Need-returns Inv-loop μ-loop
 returns c = all-listed _ _ _ _ _ _ _ (c .before .before .loop .inv .2) (sym (c .before .is-value .ensures) ∙ c .if1 .left)
 
@@ -45,5 +42,5 @@ put-offsets-spec =
     list-next-requires
     loop-less
     loop-again
-    same-length
+    (λ c. search needs)
     returns)

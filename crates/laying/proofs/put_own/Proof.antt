@@ -11,29 +11,8 @@ list-size-requires c κs = omega (arith, (known-few _ _ _ _ _ _ _ _ (c .before .
 sub-list : tie.Need-sub-list
 sub-list c = omega (arith, (known-few _ _ _ _ _ _ _ _ (c .before .before .before .before .before .pre .4)) .1, c .before .list-size .ensures)
 
-cast-key-flags : tie.Need-cast-key-flags
-cast-key-flags c = search needs
-
-key-flags-requires : tie.Need-key-flags-requires
-key-flags-requires c κs = search needs
-
-cast-t15 : tie.Need-cast-t15
-cast-t15 c = search needs
-
-cast-t16 : tie.Need-cast-t16
-cast-t16 c = search needs
-
-if-any-requires : tie.Need-if-any-requires
-if-any-requires c κs = search needs
-
 cast-t18 : tie.Need-cast-t18
 cast-t18 c = omega (arith, (known-few _ _ _ _ _ _ _ _ (c .before .before .before .before .before .before .before .before .before .pre .4)) .0)
-
-if-any-requires-2 : tie.Need-if-any-requires-2
-if-any-requires-2 c κs = search needs
-
-cast-t20 : tie.Need-cast-t20
-cast-t20 c = search needs
 
 cast-t21 : tie.Need-cast-t21
 cast-t21 c = omega (arith, (known-bounds _ _ _ _ _ _ _ _ (c .before .before .before .before .before .before .before .before .before .before .before .pre .4)) .0)
@@ -53,9 +32,6 @@ add-put-key c = omega (arith, c .before .before .before .before .before .before 
 put-key-requires : tie.Need-put-key-requires
 put-key-requires c κs = own-room _ _ _ _ _ _ _ _ (c .before .before .before .before .before .before .before .before .before .before .before .before .before .before .before .pre .4) _ (c .before .part-of .ensures) _ (c .before .before .before .before .before .before .before .before .before .before .before .before .before .before .before .pre .7)
 
-same-length : tie.Need-same-length
-same-length c = search needs
-
 returns : tie.Need-returns
 returns c = λ sh x vs b k. c .before .before .put-key .ensures ∙ own-put _ _ (own-record _ _ _ _ _ _ _ _ k _ (c .before .before .before .before .part-of .ensures) _ _ _ _ _ _ (c .before .before .before .before .before .before .before .before .before .before .before .before .key-flags .ensures) (c .before .before .before .before .before .before .before .before .before .before .if-any .ensures) (c .before .before .before .before .before .before .before .before .before .before .before .before .before .before .list-size .ensures) (c .before .before .before .before .before .before .before .before .if-any2 .ensures))
 
@@ -65,19 +41,19 @@ put-own-spec =
     (tie.spec
     list-size-requires
     sub-list
-    cast-key-flags
-    key-flags-requires
-    cast-t15
-    cast-t16
-    if-any-requires
+    (λ c. search needs)
+    (λ c κs. search needs)
+    (λ c. search needs)
+    (λ c. search needs)
+    (λ c κs. search needs)
     cast-t18
-    if-any-requires-2
-    cast-t20
+    (λ c κs. search needs)
+    (λ c. search needs)
     cast-t21
     cast-t22
     cast-t23
     part-of-requires
     add-put-key
     put-key-requires
-    same-length
+    (λ c. search needs)
     returns)

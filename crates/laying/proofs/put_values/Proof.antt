@@ -29,9 +29,6 @@ loop-less c = let x = next-fits _ _ _ _ _ _ (c .before .before .before .before .
 loop-again : tie.Need-loop-again Inv-loop μ-loop
 loop-again c = let x = next-fits _ _ _ _ _ _ (c .before .before .before .before .before .before .loop .inv .3) (sym (c .before .before .before .before .before .is-value .ensures) ∙ c .before .before .before .before .if1 .taken) _ (c .before .before .before .before .before .before .loop .inv .1) (c .before .before .before .before .before .before .before .before .before .pre .0) (c .before .before .before .before .before .before .before .before .before .pre .1) (c .before .before .before .before .before .before .before .before .before .pre .2) (room-in (c .before .before .before .before .before .before .loop .inv .2) (c .before .before .before .before .before .before .before .before .before .pre .3)) in let m = c .before .before .put-next .ensures (x .0) (x .1 .is) in (m .inside, omega (arith, m .counted, m .behind, value-least (x .0), c .before .before .before .before .before .before .loop .inv .1), omega (arith, c .before .before .before .before .before .before .loop .inv .2), goes-on _ _ _ _ _ _ (c .before .before .before .before .before .before .loop .inv .3) (sym (c .before .before .before .before .before .is-value .ensures) ∙ c .before .before .before .before .if1 .taken) _ _ (c .before .before .put-next .ensures))
 
-same-length : tie.Need-same-length Inv-loop μ-loop
-same-length c = search needs
-
 returns : tie.Need-returns Inv-loop μ-loop
 returns c = all-written _ _ _ _ _ _ (c .before .before .loop .inv .3) (sym (c .before .is-value .ensures) ∙ c .if1 .left)
 
@@ -46,5 +43,5 @@ put-values-spec =
     put-next-requires
     loop-less
     loop-again
-    same-length
+    (λ c. search needs)
     returns)

@@ -10,9 +10,6 @@ opening-at-requires c κs = key-opens _ _ _ _ _ _ _ _ (c .before .before .pre .6
 is-narrow-requires : tie.Need-is-narrow-requires
 is-narrow-requires c κs = c .before .opening-at .ensures .lies
 
-stored-by-requires : tie.Need-stored-by-requires
-stored-by-requires c κs = search needs
-
 add-cell-size : tie.Need-add-cell-size
 add-cell-size c = omega (arith, c .stored-by .ensures .0, (opened-few _ _ _ _ _ _ _ _ (c .before .before .before .before .before .before .pre .6) _ (c .before .before .before .opening-at .ensures)) .1)
 
@@ -37,9 +34,6 @@ list-size-requires c κs = omega (arith, (list-fits _ _ _ _ _ _ _ _ (c .before .
 add-t12 : tie.Need-add-t12
 add-t12 c = omega (arith, (list-fits _ _ _ _ _ _ _ _ (c .before .before .before .before .before .before .before .before .before .before .before .before .before .before .before .before .before .before .pre .6) _ (c .before .before .before .before .before .before .before .before .before .before .before .before .before .before .before .opening-at .ensures) _ _ _ (c .before .before .before .before .before .before .before .before .before .before .before .cell-size .ensures) _ (c .before .before .before .before .before .before .before .before .before .before .before .before .before .is-narrow .ensures) (c .before .before .before .before .before .before .before .before .before .before .before .before .stored-by .ensures .1) _ (c .before .before .before .before .before .before .before .before .before .before .frame-end .ensures) _ _ _ (c .before .before .before .before .before .before .before .before .put-values .ensures) _ (c .before .before .before .before .before .before .before .before .before .before .before .before .before .before .before .before .before .before .pre .7)) .1, c .before .list-size .ensures)
 
-same-length : tie.Need-same-length
-same-length c = search needs
-
 returns : tie.Need-returns
 returns c = λ n sh x vs b t k. started _ _ _ _ _ _ _ _ k _ (c .before .before .before .before .before .before .before .before .before .before .before .before .before .before .before .opening-at .ensures) _ _ _ (c .before .before .before .before .before .before .before .before .before .before .before .cell-size .ensures) _ (c .before .before .before .before .before .before .before .before .before .before .before .before .before .is-narrow .ensures) (c .before .before .before .before .before .before .before .before .before .before .before .before .stored-by .ensures .1) _ (c .before .before .before .before .before .before .before .before .before .before .frame-end .ensures) _ _ _ (c .before .before .before .before .before .before .before .before .put-values .ensures) _ _ (c .before .list-size .ensures) (c .before .before .before .before .put-list .ensures)
 
@@ -49,7 +43,7 @@ start-key-spec =
     (tie.spec
     opening-at-requires
     is-narrow-requires
-    stored-by-requires
+    (λ c κs. search needs)
     add-cell-size
     cell-size-requires
     add-first
@@ -58,5 +52,5 @@ start-key-spec =
     put-list-requires
     list-size-requires
     add-t12
-    same-length
+    (λ c. search needs)
     returns)

@@ -5,23 +5,11 @@ use borrow.Author.Needs.{needs}
 use Rattle.listing.proofs.copy_at.Statement.{statement}
 use Rattle.listing.proofs.copy_at.Tie as tie
 
-info-at-requires : tie.Need-info-at-requires
-info-at-requires c κs = search needs
-
-enum-known-f : tie.Need-enum-known-f
-enum-known-f c = search needs
-
-enum-known-i : tie.Need-enum-known-i
-enum-known-i c = search needs
-
 copy-info-requires : tie.Need-copy-info-requires
 copy-info-requires c κs = let a = info-told _ _ (sym (c .before .before .before .before .info-at .ensures) ∙ c .before .before .i .given .1) in (a .0, (a .1, a .2))
 
 returns : tie.Need-returns
 returns c = let e = sym (c .before .before .before .info-at .ensures) ∙ c .before .f .given .1 in let out = now (c .before .before .before .before .before .before .args .out) in (sym (copy-stop _ _ out e), sym (out-stop _ _ out e))
-
-same-length : tie.Need-same-length
-same-length c = search needs
 
 returns-2 : tie.Need-returns-2
 returns-2 c = let e = sym (c .before .before .before .before .before .before .before .info-at .ensures) ∙ c .before .before .before .before .before .i .given .1 in let out = now (c .before .before .before .before .before .before .before .before .before .before .args .out) in
@@ -31,10 +19,10 @@ pub copy-at-spec : {M : Type 1} → statement M
 copy-at-spec =
     tie.close
     (tie.spec
-    info-at-requires
-    enum-known-f
-    enum-known-i
+    (λ c κs. search needs)
+    (λ c. search needs)
+    (λ c. search needs)
     copy-info-requires
     returns
-    same-length
+    (λ c. search needs)
     returns-2)

@@ -3,12 +3,9 @@ use borrow.Author.Needs.{needs}
 use Rattle.listing.proofs.entry_of.Statement.{statement}
 use Rattle.listing.proofs.entry_of.Tie as tie
 
-part-place-requires : tie.Need-part-place-requires
-part-place-requires c κs = search needs
-
 returns : tie.Need-returns
 unfolding entryOf
 returns c = rw (c .part-place .ensures)
 
 pub entry-of-spec : {M : Type 1} → statement M
-entry-of-spec = tie.close (tie.spec part-place-requires returns)
+entry-of-spec = tie.close (tie.spec (λ c κs. search needs) returns)

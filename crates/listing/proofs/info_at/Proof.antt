@@ -5,26 +5,11 @@ use borrow.Author.Needs.{needs}
 use Rattle.listing.proofs.info_at.Statement.{statement}
 use Rattle.listing.proofs.info_at.Tie as tie
 
-base-flaw-requires : tie.Need-base-flaw-requires
-base-flaw-requires c κs = search needs
-
-enum-known-f : tie.Need-enum-known-f
-enum-known-f c = search needs
-
-refused-requires : tie.Need-refused-requires
-refused-requires c κs = search needs
-
-enum-told : tie.Need-enum-told
-enum-told c = search needs
-
 bins-of-requires : tie.Need-bins-of-requires
 bins-of-requires c κs = sym (c .before .before .base-flaw .ensures) ∙ c .enum-told .given .1
 
 minor-of-requires : tie.Need-minor-of-requires
 minor-of-requires c κs = sym (c .before .before .before .base-flaw .ensures) ∙ c .before .enum-told .given .1
-
-whole-info-requires : tie.Need-whole-info-requires
-whole-info-requires c κs = search needs
 
 returns : tie.Need-returns
 returns c = ap Refused (c .refused .ensures) ∙ sym (info-stop _ _ (sym (c .before .before .before .before .base-flaw .ensures) ∙ c .before .before .f .given .1))
@@ -36,12 +21,12 @@ pub info-at-spec : {M : Type 1} → statement M
 info-at-spec =
     tie.close
     (tie.spec
-    base-flaw-requires
-    enum-known-f
-    refused-requires
-    enum-told
+    (λ c κs. search needs)
+    (λ c. search needs)
+    (λ c κs. search needs)
+    (λ c. search needs)
     bins-of-requires
     minor-of-requires
-    whole-info-requires
+    (λ c κs. search needs)
     returns
     returns-2)

@@ -5,21 +5,6 @@ use borrow.Author.Needs.{needs}
 use Rattle.listing.proofs.key_entry.Statement.{statement}
 use Rattle.listing.proofs.key_entry.Tie as tie
 
-slice-aggregate-key-at : tie.Need-slice-aggregate-key-at
-slice-aggregate-key-at c = search needs
-
-key-at-requires : tie.Need-key-at-requires
-key-at-requires c κs = search needs
-
-enum-known-f : tie.Need-enum-known-f
-enum-known-f c = search needs
-
-refused-requires : tie.Need-refused-requires
-refused-requires c κs = search needs
-
-enum-known-k : tie.Need-enum-known-k
-enum-known-k c = search needs
-
 entry-of-requires : tie.Need-entry-of-requires
 entry-of-requires c κs = key-name _ _ (sym (c .before .before .before .before .key-at .ensures) ∙ c .before .before .k .given .1)
 
@@ -33,11 +18,11 @@ pub key-entry-spec : {M : Type 1} → statement M
 key-entry-spec =
     tie.close
     (tie.spec
-    slice-aggregate-key-at
-    key-at-requires
-    enum-known-f
-    refused-requires
-    enum-known-k
+    (λ c. search needs)
+    (λ c κs. search needs)
+    (λ c. search needs)
+    (λ c κs. search needs)
+    (λ c. search needs)
     entry-of-requires
     returns
     returns-2)

@@ -7,18 +7,6 @@ use Rattle.listing.proofs.nth_below.Tie as tie
 returns : tie.Need-returns
 returns c = sym (below-none _ _ _ (c .if1 .taken))
 
-slice-aggregate-head-at : tie.Need-slice-aggregate-head-at
-slice-aggregate-head-at c = search needs
-
-head-at-requires : tie.Need-head-at-requires
-head-at-requires c κs = search needs
-
-enum-known-f : tie.Need-enum-known-f
-enum-known-f c = search needs
-
-enum-known-ls : tie.Need-enum-known-ls
-enum-known-ls c = search needs
-
 nth-in-requires : tie.Need-nth-in-requires
 nth-in-requires c κs = below-room _ (c .before .before .before .before .before .before .before .before .before .args .k) (c .before .before .before .before .before .before .before .before .before .args .n) (sym (c .before .before .before .head-at .ensures) ∙ c .before .ls .given .1)
 
@@ -33,10 +21,10 @@ nth-below-spec =
     tie.close
     (tie.spec
     returns
-    slice-aggregate-head-at
-    head-at-requires
-    enum-known-f
-    enum-known-ls
+    (λ c. search needs)
+    (λ c κs. search needs)
+    (λ c. search needs)
+    (λ c. search needs)
     nth-in-requires
     returns-2
     returns-3)

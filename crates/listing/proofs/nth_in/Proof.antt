@@ -22,32 +22,14 @@ loop-holds c = (omega arith, refl, refl)
 leaf-offset-requires : tie.Need-leaf-offset-requires Inv-loop μ-loop
 leaf-offset-requires c κs = (omega arith, c .before .before .before .pre)
 
-slice-aggregate-leaf-at : tie.Need-slice-aggregate-leaf-at Inv-loop μ-loop
-slice-aggregate-leaf-at c = search needs
-
-leaf-at-requires : tie.Need-leaf-at-requires Inv-loop μ-loop
-leaf-at-requires c κs = search needs
-
-enum-known-f : tie.Need-enum-known-f Inv-loop μ-loop
-enum-known-f c = search needs
-
 returns : tie.Need-returns Inv-loop μ-loop
 returns c = let l = c .before .before .before .before .before .before .before .loop in let s = c .before .before .before .before .before .before .before .before .before in sym (turn-bad _ _ _ (l .j) (l .left) (l .inv .2) _ (omega (arith, named-length (s .args .bins .now) (s .args .ls) (s .pre))) (c .before .before .before .before .before .leaf-offset .ensures ∙ named-at _ _ (s .pre) _ (omega arith)) (sym (c .before .before .before .leaf-at .ensures) ∙ c .before .f .given .1))
-
-enum-known-leaf : tie.Need-enum-known-leaf Inv-loop μ-loop
-enum-known-leaf c = search needs
 
 child-of-requires : tie.Need-child-of-requires Inv-loop μ-loop
 child-of-requires c κs = let l = c .before .before .before .before .before .before .before .before .loop in let s = c .before .before .before .before .before .before .before .before .before .before in (c .if1 .taken, leaf-room _ _ _ (l .j) (l .left) (l .inv .2) _ (omega (arith, named-length (s .args .bins .now) (s .args .ls) (s .pre))) (c .before .before .before .before .before .before .leaf-offset .ensures ∙ named-at _ _ (s .pre) _ (omega arith)) (sym (c .before .before .before .before .leaf-at .ensures) ∙ c .before .before .leaf .given .1))
 
 returns-2 : tie.Need-returns-2 Inv-loop μ-loop
 returns-2 c = let l = c .before .before .before .before .before .before .before .before .before .before .loop in let s = c .before .before .before .before .before .before .before .before .before .before .before .before in sym (turn-here _ _ _ (l .j) (l .left) (l .inv .2) _ (omega (arith, named-length (s .args .bins .now) (s .args .ls) (s .pre))) (c .before .before .before .before .before .before .before .before .leaf-offset .ensures ∙ named-at _ _ (s .pre) _ (omega arith)) (sym (c .before .before .before .before .before .before .leaf-at .ensures) ∙ c .before .before .before .before .leaf .given .1) (c .before .before .if1 .taken) (c .before .child-of .ensures))
-
-add-j : tie.Need-add-j Inv-loop μ-loop
-add-j c = search needs
-
-loop-less : tie.Need-loop-less Inv-loop μ-loop
-loop-less c = search needs
 
 loop-again : tie.Need-loop-again Inv-loop μ-loop
 loop-again c = let l = c .before .before .before .before .before .before .before .before .loop in let s = c .before .before .before .before .before .before .before .before .before .before in (omega arith, l .inv .1, turn-on _ _ _ (l .j) (l .left) (l .inv .2) _ (omega (arith, named-length (s .args .bins .now) (s .args .ls) (s .pre))) (c .before .before .before .before .before .before .leaf-offset .ensures ∙ named-at _ _ (s .pre) _ (omega arith)) (sym (c .before .before .before .before .leaf-at .ensures) ∙ c .before .before .leaf .given .1) (omega arith))
@@ -63,14 +45,14 @@ nth-in-spec =
     μ-loop
     loop-holds
     leaf-offset-requires
-    slice-aggregate-leaf-at
-    leaf-at-requires
-    enum-known-f
+    (λ c. search needs)
+    (λ c κs. search needs)
+    (λ c. search needs)
     returns
-    enum-known-leaf
+    (λ c. search needs)
     child-of-requires
     returns-2
-    add-j
-    loop-less
+    (λ c. search needs)
+    (λ c. search needs)
     loop-again
     returns-3)

@@ -5,18 +5,6 @@ use borrow.Author.Needs.{needs}
 use Rattle.listing.proofs.nth_of.Statement.{statement}
 use Rattle.listing.proofs.nth_of.Tie as tie
 
-slice-aggregate-value-list : tie.Need-slice-aggregate-value-list
-slice-aggregate-value-list c = search needs
-
-value-list-requires : tie.Need-value-list-requires
-value-list-requires c κs = search needs
-
-enum-known-f : tie.Need-enum-known-f
-enum-known-f c = search needs
-
-enum-known-e : tie.Need-enum-known-e
-enum-known-e c = search needs
-
 entry-requires : tie.Need-entry-requires
 entry-requires c κs = (values-room _ _ (c .before .before .before .before .before .before .before .before .args .n) (sym (c .before .before .before .before .before .value-list .ensures) ∙ c .before .before .before .e .given .1), c .if1 .taken)
 
@@ -33,10 +21,10 @@ pub nth-of-spec : {M : Type 1} → statement M
 nth-of-spec =
     tie.close
     (tie.spec
-    slice-aggregate-value-list
-    value-list-requires
-    enum-known-f
-    enum-known-e
+    (λ c. search needs)
+    (λ c κs. search needs)
+    (λ c. search needs)
+    (λ c. search needs)
     entry-requires
     returns
     returns-2

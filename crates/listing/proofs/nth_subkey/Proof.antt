@@ -5,23 +5,8 @@ use borrow.Author.Needs.{needs}
 use Rattle.listing.proofs.nth_subkey.Statement.{statement}
 use Rattle.listing.proofs.nth_subkey.Tie as tie
 
-base-flaw-requires : tie.Need-base-flaw-requires
-base-flaw-requires c κs = search needs
-
-enum-known-f : tie.Need-enum-known-f
-enum-known-f c = search needs
-
-refused-requires : tie.Need-refused-requires
-refused-requires c κs = search needs
-
-enum-told : tie.Need-enum-told
-enum-told c = search needs
-
 bins-of-requires : tie.Need-bins-of-requires
 bins-of-requires c κs = sym (c .before .before .base-flaw .ensures) ∙ c .enum-told .given .1
-
-subkey-in-requires : tie.Need-subkey-in-requires
-subkey-in-requires c κs = search needs
 
 returns : tie.Need-returns
 returns c = ap Refused (c .refused .ensures) ∙ sym (subkey-stop _ _ (sym (c .before .before .before .before .base-flaw .ensures) ∙ c .before .before .f .given .1) _)
@@ -33,11 +18,11 @@ pub nth-subkey-spec : {M : Type 1} → statement M
 nth-subkey-spec =
     tie.close
     (tie.spec
-    base-flaw-requires
-    enum-known-f
-    refused-requires
-    enum-told
+    (λ c κs. search needs)
+    (λ c. search needs)
+    (λ c κs. search needs)
+    (λ c. search needs)
     bins-of-requires
-    subkey-in-requires
+    (λ c κs. search needs)
     returns
     returns-2)

@@ -5,26 +5,11 @@ use borrow.Author.Needs.{needs}
 use Rattle.listing.proofs.nth_value.Statement.{statement}
 use Rattle.listing.proofs.nth_value.Tie as tie
 
-base-flaw-requires : tie.Need-base-flaw-requires
-base-flaw-requires c κs = search needs
-
-enum-known-f : tie.Need-enum-known-f
-enum-known-f c = search needs
-
-refused-requires : tie.Need-refused-requires
-refused-requires c κs = search needs
-
-enum-told : tie.Need-enum-told
-enum-told c = search needs
-
 bins-of-requires : tie.Need-bins-of-requires
 bins-of-requires c κs = sym (c .before .before .base-flaw .ensures) ∙ c .enum-told .given .1
 
 minor-of-requires : tie.Need-minor-of-requires
 minor-of-requires c κs = sym (c .before .before .before .base-flaw .ensures) ∙ c .before .enum-told .given .1
-
-value-in-requires : tie.Need-value-in-requires
-value-in-requires c κs = search needs
 
 returns : tie.Need-returns
 returns c = ap Refused (c .refused .ensures) ∙ sym (value-stop _ _ (sym (c .before .before .before .before .base-flaw .ensures) ∙ c .before .before .f .given .1) _)
@@ -36,12 +21,12 @@ pub nth-value-spec : {M : Type 1} → statement M
 nth-value-spec =
     tie.close
     (tie.spec
-    base-flaw-requires
-    enum-known-f
-    refused-requires
-    enum-told
+    (λ c κs. search needs)
+    (λ c. search needs)
+    (λ c κs. search needs)
+    (λ c. search needs)
     bins-of-requires
     minor-of-requires
-    value-in-requires
+    (λ c κs. search needs)
     returns
     returns-2)

@@ -5,24 +5,6 @@ use borrow.Author.Needs.{needs}
 use Rattle.listing.proofs.value_below.Statement.{statement}
 use Rattle.listing.proofs.value_below.Tie as tie
 
-nth-of-requires : tie.Need-nth-of-requires
-nth-of-requires c κs = search needs
-
-enum-known-f : tie.Need-enum-known-f
-enum-known-f c = search needs
-
-refused-requires : tie.Need-refused-requires
-refused-requires c κs = search needs
-
-enum-told : tie.Need-enum-told
-enum-told c = search needs
-
-enum-known-v : tie.Need-enum-known-v
-enum-known-v c = search needs
-
-value-entry-requires : tie.Need-value-entry-requires
-value-entry-requires c κs = search needs
-
 returns : tie.Need-returns
 returns c = ap Refused (c .refused .ensures) ∙ sym (in-faulty _ _ _ _ _ (sym (c .before .before .before .before .nth-of .ensures) ∙ c .before .before .f .given .1))
 
@@ -36,12 +18,12 @@ pub value-below-spec : {M : Type 1} → statement M
 value-below-spec =
     tie.close
     (tie.spec
-    nth-of-requires
-    enum-known-f
-    refused-requires
-    enum-told
-    enum-known-v
-    value-entry-requires
+    (λ c κs. search needs)
+    (λ c. search needs)
+    (λ c κs. search needs)
+    (λ c. search needs)
+    (λ c. search needs)
+    (λ c κs. search needs)
     returns
     returns-2
     returns-3)

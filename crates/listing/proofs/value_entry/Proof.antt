@@ -5,21 +5,6 @@ use borrow.Author.Needs.{needs}
 use Rattle.listing.proofs.value_entry.Statement.{statement}
 use Rattle.listing.proofs.value_entry.Tie as tie
 
-slice-aggregate-value-at : tie.Need-slice-aggregate-value-at
-slice-aggregate-value-at c = search needs
-
-value-at-requires : tie.Need-value-at-requires
-value-at-requires c κs = search needs
-
-enum-known-f : tie.Need-enum-known-f
-enum-known-f c = search needs
-
-refused-requires : tie.Need-refused-requires
-refused-requires c κs = search needs
-
-enum-known-x : tie.Need-enum-known-x
-enum-known-x c = search needs
-
 entry-of-requires : tie.Need-entry-of-requires
 entry-of-requires c κs = value-name _ _ _ (sym (c .before .before .before .before .value-at .ensures) ∙ c .before .before .x .given .1)
 
@@ -33,11 +18,11 @@ pub value-entry-spec : {M : Type 1} → statement M
 value-entry-spec =
     tie.close
     (tie.spec
-    slice-aggregate-value-at
-    value-at-requires
-    enum-known-f
-    refused-requires
-    enum-known-x
+    (λ c. search needs)
+    (λ c κs. search needs)
+    (λ c. search needs)
+    (λ c κs. search needs)
+    (λ c. search needs)
     entry-of-requires
     returns
     returns-2)

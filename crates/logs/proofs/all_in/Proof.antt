@@ -5,18 +5,12 @@ use borrow.Author.Needs.{needs}
 use Rattle.logs.proofs.all_in.Statement.{statement}
 use Rattle.logs.proofs.all_in.Tie as tie
 
-enum-told : tie.Need-enum-told
-enum-told c = search needs
-
 all-in-requires : tie.Need-all-in-requires
 all-in-requires c κs =
     let s = c .before .before .before .before in
     let l = s .args .log .now in
     let o = is-old l (sym (c .enum-told .given .1) ∙ s .pre .1 .0) in
     (sym (old-fault l o) ∙ s .pre .0, omega (arith, s .pre .1 .1, old-bins l o))
-
-enum-known-read : tie.Need-enum-known-read
-enum-known-read c = search needs
 
 all-in-requires-2 : tie.Need-all-in-requires-2
 all-in-requires-2 c κs =
@@ -42,4 +36,4 @@ returns-2 c =
     c .all-in2 .ensures ∙ sym (new-in l (n .0) (s .args .hive .now))
 
 pub all-in-spec : {M : Type 1} → statement M
-all-in-spec = tie.close (tie.spec enum-told all-in-requires enum-known-read all-in-requires-2 returns returns-2)
+all-in-spec = tie.close (tie.spec (λ c. search needs) all-in-requires (λ c. search needs) all-in-requires-2 returns returns-2)

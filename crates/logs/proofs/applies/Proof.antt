@@ -5,18 +5,12 @@ use borrow.Author.Needs.{needs}
 use Rattle.logs.proofs.applies.Statement.{statement}
 use Rattle.logs.proofs.applies.Tie as tie
 
-enum-told : tie.Need-enum-told
-enum-told c = search needs
-
 stamps-agree-requires : tie.Need-stamps-agree-requires
 stamps-agree-requires c κs =
     let s = c .before .before .before .before in
     let l = s .args .log .now in
     let o = is-old l (sym (c .enum-told .given .1) ∙ s .pre .1 .0) in
     (sym (old-fault l o) ∙ s .pre .0, omega (arith, s .pre .1 .1, old-bins l o))
-
-enum-known-read : tie.Need-enum-known-read
-enum-known-read c = search needs
 
 applies-requires : tie.Need-applies-requires
 applies-requires c κs =
@@ -42,4 +36,4 @@ returns-2 c =
     c .applies .ensures ∙ sym (new-applies l (n .0) (s .args .hive .now))
 
 pub applies-spec : {M : Type 1} → statement M
-applies-spec = tie.close (tie.spec enum-told stamps-agree-requires enum-known-read applies-requires returns returns-2)
+applies-spec = tie.close (tie.spec (λ c. search needs) stamps-agree-requires (λ c. search needs) applies-requires returns returns-2)

@@ -7,14 +7,8 @@ use borrow.Author.Needs.{needs}
 use Rattle.logs.proofs.bins_size.Statement.{statement}
 use Rattle.logs.proofs.bins_size.Tie as tie
 
-enum-told : tie.Need-enum-told
-enum-told c = search needs
-
 bins-size-requires : tie.Need-bins-size-requires
 bins-size-requires c κs = let s = c .before .before .before in log-long (s .args .log .now) (s .pre .0)
-
-enum-known-read : tie.Need-enum-known-read
-enum-known-read c = search needs
 
 returns : tie.Need-returns
 returns c =
@@ -33,4 +27,4 @@ returns-2 c =
     (e, omega (arith, e, bins-sized l (head-of l (s .pre .0)) .limit))
 
 pub bins-size-spec : {M : Type 1} → statement M
-bins-size-spec = tie.close (tie.spec enum-told bins-size-requires enum-known-read returns returns-2)
+bins-size-spec = tie.close (tie.spec (λ c. search needs) bins-size-requires (λ c. search needs) returns returns-2)

@@ -15,12 +15,6 @@ number-of-requires c κs = let s = c .before in log-long (s .args .log .now) (s 
 bins-size-requires : tie.Need-bins-size-requires
 bins-size-requires c κs = c .before .before .pre
 
-enum-told : tie.Need-enum-told
-enum-told c = search needs
-
-enum-known-read : tie.Need-enum-known-read
-enum-known-read c = search needs
-
 returns : tie.Need-returns
 unfolding factsOf
 returns c =
@@ -39,4 +33,4 @@ returns-2 c =
     ∙ ap (λ (r : Read). factsIn r (u32At (sector l) 4) (logBins l)) e
 
 pub facts-of-spec : {M : Type 1} → statement M
-facts-of-spec = tie.close (tie.spec number-of-requires bins-size-requires enum-told enum-known-read returns returns-2)
+facts-of-spec = tie.close (tie.spec number-of-requires bins-size-requires (λ c. search needs) (λ c. search needs) returns returns-2)

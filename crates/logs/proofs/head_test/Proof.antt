@@ -6,20 +6,11 @@ use borrow.Author.Needs.{needs}
 use Rattle.logs.proofs.head_test.Statement.{statement}
 use Rattle.logs.proofs.head_test.Tie as tie
 
-is-new-requires : tie.Need-is-new-requires
-is-new-requires c κs = search needs
-
-new-head-requires : tie.Need-new-head-requires
-new-head-requires c κs = search needs
-
 returns : tie.Need-returns
 returns c =
     let l = c .before .before .before .before .args .log .now in
     let n : isNew l ≡ true = sym (c .before .before .is-new .ensures) ∙ c .before .if1 .taken in
     c .new-head .ensures ∙ sym (ap₂ headed (new-head l n) (new-read l n))
-
-old-head-requires : tie.Need-old-head-requires
-old-head-requires c κs = search needs
 
 returns-2 : tie.Need-returns-2
 returns-2 c =
@@ -28,4 +19,4 @@ returns-2 c =
     c .old-head .ensures ∙ sym (ap₂ headed (old-head l o) (old-read l o))
 
 pub head-test-spec : {M : Type 1} → statement M
-head-test-spec = tie.close (tie.spec is-new-requires new-head-requires returns old-head-requires returns-2)
+head-test-spec = tie.close (tie.spec (λ c κs. search needs) (λ c κs. search needs) returns (λ c κs. search needs) returns-2)

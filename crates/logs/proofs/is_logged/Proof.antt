@@ -6,18 +6,12 @@ use borrow.Author.Needs.{needs}
 use Rattle.logs.proofs.is_logged.Statement.{statement}
 use Rattle.logs.proofs.is_logged.Tie as tie
 
-enum-told : tie.Need-enum-told
-enum-told c = search needs
-
 is-logged-requires : tie.Need-is-logged-requires
 is-logged-requires c κs =
     let s = c .before .before .before in
     let l = s .args .log .now in
     let o = is-old l (sym (c .enum-told .given .1) ∙ s .pre .1) in
     sym (old-fault l o) ∙ s .pre .0
-
-enum-known-read : tie.Need-enum-known-read
-enum-known-read c = search needs
 
 is-logged-requires-2 : tie.Need-is-logged-requires-2
 is-logged-requires-2 c κs =
@@ -43,4 +37,4 @@ returns-2 c =
     c .is-logged2 .ensures ∙ sym (ap (λ (f : ℕ → Bool). f (s .args .page)) (new-is l (n .0)))
 
 pub is-logged-spec : {M : Type 1} → statement M
-is-logged-spec = tie.close (tie.spec enum-told is-logged-requires enum-known-read is-logged-requires-2 returns returns-2)
+is-logged-spec = tie.close (tie.spec (λ c. search needs) is-logged-requires (λ c. search needs) is-logged-requires-2 returns returns-2)

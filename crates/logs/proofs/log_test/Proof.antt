@@ -6,20 +6,11 @@ use borrow.Author.Needs.{needs}
 use Rattle.logs.proofs.log_test.Statement.{statement}
 use Rattle.logs.proofs.log_test.Tie as tie
 
-is-new-requires : tie.Need-is-new-requires
-is-new-requires c κs = search needs
-
-new-test-requires : tie.Need-new-test-requires
-new-test-requires c κs = search needs
-
 returns : tie.Need-returns
 returns c =
     let l = c .before .before .before .before .args .log .now in
     let n : isNew l ≡ true = sym (c .before .before .is-new .ensures) ∙ c .before .if1 .taken in
     c .new-test .ensures ∙ sym (λ t. tested (new-fault l n t) (new-read l n t) (new-counted l n t))
-
-old-test-requires : tie.Need-old-test-requires
-old-test-requires c κs = search needs
 
 returns-2 : tie.Need-returns-2
 returns-2 c =
@@ -28,4 +19,4 @@ returns-2 c =
     c .old-test .ensures ∙ sym (λ t. tested (old-fault l o t) (old-read l o t) (old-counted l o t))
 
 pub log-test-spec : {M : Type 1} → statement M
-log-test-spec = tie.close (tie.spec is-new-requires new-test-requires returns old-test-requires returns-2)
+log-test-spec = tie.close (tie.spec (λ c κs. search needs) (λ c κs. search needs) returns (λ c κs. search needs) returns-2)

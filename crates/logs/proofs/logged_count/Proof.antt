@@ -4,12 +4,6 @@ use borrow.Author.Needs.{needs}
 use Rattle.logs.proofs.logged_count.Statement.{statement}
 use Rattle.logs.proofs.logged_count.Tie as tie
 
-enum-told : tie.Need-enum-told
-enum-told c = search needs
-
-enum-known-read : tie.Need-enum-known-read
-enum-known-read c = search needs
-
 logged-count-requires : tie.Need-logged-count-requires
 logged-count-requires c κs =
     let s = c .before .before .before .before in
@@ -31,4 +25,4 @@ returns-2 c =
     c .logged-count .ensures ∙ sym (new-count l (is-new l (g .0 .0) (sym (g .1) ∙ s .pre .0) .0))
 
 pub logged-count-spec : {M : Type 1} → statement M
-logged-count-spec = tie.close (tie.spec enum-told enum-known-read logged-count-requires returns returns-2)
+logged-count-spec = tie.close (tie.spec (λ c. search needs) (λ c. search needs) logged-count-requires returns returns-2)

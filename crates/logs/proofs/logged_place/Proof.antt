@@ -6,18 +6,12 @@ use borrow.Author.Needs.{needs}
 use Rattle.logs.proofs.logged_place.Statement.{statement}
 use Rattle.logs.proofs.logged_place.Tie as tie
 
-enum-told : tie.Need-enum-told
-enum-told c = search needs
-
 logged-place-requires : tie.Need-logged-place-requires
 logged-place-requires c κs =
     let s = c .before .before .before in
     let l = s .args .log .now in
     let o = is-old l (sym (c .enum-told .given .1) ∙ s .pre .1 .0) in
     (sym (old-fault l o) ∙ s .pre .0, sym (ap (λ (f : ℕ → Bool). f (s .args .page)) (old-is l o)) ∙ s .pre .1 .1)
-
-enum-known-read : tie.Need-enum-known-read
-enum-known-read c = search needs
 
 logged-place-requires-2 : tie.Need-logged-place-requires-2
 logged-place-requires-2 c κs =
@@ -43,4 +37,4 @@ returns-2 c =
     c .logged-place2 .ensures ∙ sym (new-place l (n .0) (s .args .page))
 
 pub logged-place-spec : {M : Type 1} → statement M
-logged-place-spec = tie.close (tie.spec enum-told logged-place-requires enum-known-read logged-place-requires-2 returns returns-2)
+logged-place-spec = tie.close (tie.spec (λ c. search needs) logged-place-requires (λ c. search needs) logged-place-requires-2 returns returns-2)

@@ -11,18 +11,12 @@ use borrow.Author.Needs.{needs}
 use Rattle.logs.proofs.mark.Statement.{statement}
 use Rattle.logs.proofs.mark.Tie as tie
 
-enum-told : tie.Need-enum-told
-enum-told c = search needs
-
 mark-requires : tie.Need-mark-requires
 mark-requires c κs =
     let s = c .before .before .before .before .before in
     let l = s .args .log .now in
     let o = is-old l (sym (c .before .enum-told .given .1) ∙ s .pre .1 .0) in
     (head-of l (sym (old-fault l o) ∙ s .pre .0), omega (arith, s .pre .1 .1 .1, old-bins l o))
-
-enum-known-read : tie.Need-enum-known-read
-enum-known-read c = search needs
 
 mark-requires-2 : tie.Need-mark-requires-2
 mark-requires-2 c κs =
@@ -31,9 +25,6 @@ mark-requires-2 c κs =
     let g = c .before .before .read .given in
     let n = is-new l (g .0 .0) (sym (g .1) ∙ s .pre .1 .0) in
     (sym (new-fault l (n .0)) ∙ s .pre .0, (n .1, omega (arith, s .pre .1 .1 .1, new-bins l (n .0))))
-
-same-length : tie.Need-same-length
-same-length c = search needs
 
 returns : tie.Need-returns
 returns c =
@@ -44,9 +35,6 @@ returns c =
       s .pre .1 .1 .0 ∙ old-counted l o ∙ sym (old-count l o),
       c .before .before .mark .ensures ∙ ap₂ (λ (m : List ℕ) (k : ℕ). m ++ drop k (s .args .map .now)) (sym (old-marks l o)) e,
     )
-
-same-length-2 : tie.Need-same-length-2
-same-length-2 c = search needs
 
 returns-2 : tie.Need-returns-2
 returns-2 c =
@@ -60,4 +48,4 @@ returns-2 c =
     )
 
 pub mark-spec : {M : Type 1} → statement M
-mark-spec = tie.close (tie.spec enum-told mark-requires enum-known-read mark-requires-2 same-length returns same-length-2 returns-2)
+mark-spec = tie.close (tie.spec (λ c. search needs) mark-requires (λ c. search needs) mark-requires-2 (λ c. search needs) returns (λ c. search needs) returns-2)

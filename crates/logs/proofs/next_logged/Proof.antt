@@ -4,18 +4,12 @@ use borrow.Author.Needs.{needs}
 use Rattle.logs.proofs.next_logged.Statement.{statement}
 use Rattle.logs.proofs.next_logged.Tie as tie
 
-enum-told : tie.Need-enum-told
-enum-told c = search needs
-
 next-logged-requires : tie.Need-next-logged-requires
 next-logged-requires c κs =
     let s = c .before .before .before in
     let l = s .args .log .now in
     let o = is-old l (sym (c .enum-told .given .1) ∙ s .pre .1) in
     sym (old-head l o) ∙ s .pre .0
-
-enum-known-read : tie.Need-enum-known-read
-enum-known-read c = search needs
 
 next-logged-requires-2 : tie.Need-next-logged-requires-2
 next-logged-requires-2 c κs =
@@ -41,4 +35,4 @@ returns-2 c =
     c .next-logged2 .ensures ∙ sym (new-next l (n .0) (s .args .from))
 
 pub next-logged-spec : {M : Type 1} → statement M
-next-logged-spec = tie.close (tie.spec enum-told next-logged-requires enum-known-read next-logged-requires-2 returns returns-2)
+next-logged-spec = tie.close (tie.spec (λ c. search needs) next-logged-requires (λ c. search needs) next-logged-requires-2 returns returns-2)

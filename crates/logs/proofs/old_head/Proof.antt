@@ -6,15 +6,6 @@ use borrow.Author.Needs.{needs}
 use Rattle.logs.proofs.old_head.Statement.{statement}
 use Rattle.logs.proofs.old_head.Tie as tie
 
-head-flaw-requires : tie.Need-head-flaw-requires
-head-flaw-requires c κs = search needs
-
-enum-known-f : tie.Need-enum-known-f
-enum-known-f c = search needs
-
-enum-told : tie.Need-enum-told
-enum-told c = search needs
-
 returns : tie.Need-returns
 returns c = sym (ap (λ (v : Verdict). headed v Old) (sym (c .before .before .before .head-flaw .ensures) ∙ c .before .f .given .1))
 
@@ -22,4 +13,4 @@ returns-2 : tie.Need-returns-2
 returns-2 c = sym (ap (λ (v : Verdict). headed v Old) (sym (c .before .before .head-flaw .ensures) ∙ c .enum-told .given .1))
 
 pub old-head-spec : {M : Type 1} → statement M
-old-head-spec = tie.close (tie.spec head-flaw-requires enum-known-f enum-told returns returns-2)
+old-head-spec = tie.close (tie.spec (λ c κs. search needs) (λ c. search needs) (λ c. search needs) returns returns-2)

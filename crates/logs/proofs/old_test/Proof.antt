@@ -23,15 +23,6 @@ same : (v : Verdict) (n : ℕ) → retold (tests.counted v n) ≡ tested v Old n
 same verdict.Sound n = refl
 same (verdict.Flawed f) n = refl
 
-log-test-requires : tie.Need-log-test-requires
-log-test-requires c κs = search needs
-
-enum-known-n : tie.Need-enum-known-n
-enum-known-n c = search needs
-
-enum-known-f : tie.Need-enum-known-f
-enum-known-f c = search needs
-
 returns : tie.Need-returns
 returns c =
     let l = c .before .before .before .before .before .args .log .now in
@@ -43,4 +34,4 @@ returns-2 c =
     ap retold (sym (c .before .f .given .1) ∙ c .before .before .before .log-test .ensures) ∙ same (tests.logFault l) (layout.loggedCount l)
 
 pub old-test-spec : {M : Type 1} → statement M
-old-test-spec = tie.close (tie.spec log-test-requires enum-known-n enum-known-f returns returns-2)
+old-test-spec = tie.close (tie.spec (λ c κs. search needs) (λ c. search needs) (λ c. search needs) returns returns-2)

@@ -6,14 +6,8 @@ use borrow.Author.Needs.{needs}
 use Rattle.logs.proofs.store_closing.Statement.{statement}
 use Rattle.logs.proofs.store_closing.Tie as tie
 
-enum-told : tie.Need-enum-told
-enum-told c = search needs
-
 store-closing-requires : tie.Need-store-closing-requires
 store-closing-requires c κs = let s = c .before .before .before .before .before in (s .pre .1 .1, log-long (s .args .log .now) (s .pre .0))
-
-enum-known-read : tie.Need-enum-known-read
-enum-known-read c = search needs
 
 store-closing-requires-2 : tie.Need-store-closing-requires-2
 store-closing-requires-2 c κs =
@@ -23,18 +17,12 @@ store-closing-requires-2 c κs =
     let n = is-new l (g .0 .0) (sym (g .1) ∙ s .pre .1 .0) in
     (sym (new-fault l (n .0)) ∙ s .pre .0, (n .1, s .pre .1 .1))
 
-same-length : tie.Need-same-length
-same-length c = search needs
-
 returns : tie.Need-returns
 returns c =
     let s = c .before .before .before .before .before .before .before .before in
     let l = s .args .log .now in
     let o = is-old l (sym (c .before .before .before .before .enum-told .given .1) ∙ s .pre .1 .0) in
     c .before .before .store-closing .ensures ∙ sym (ap (stored (s .args .hive .now) 0) (old-closing l o))
-
-same-length-2 : tie.Need-same-length-2
-same-length-2 c = search needs
 
 returns-2 : tie.Need-returns-2
 returns-2 c =
@@ -45,4 +33,4 @@ returns-2 c =
     c .before .before .store-closing2 .ensures ∙ sym (ap (stored (s .args .hive .now) 0) (new-closing l (n .0)))
 
 pub store-closing-spec : {M : Type 1} → statement M
-store-closing-spec = tie.close (tie.spec enum-told store-closing-requires enum-known-read store-closing-requires-2 same-length returns same-length-2 returns-2)
+store-closing-spec = tie.close (tie.spec (λ c. search needs) store-closing-requires (λ c. search needs) store-closing-requires-2 (λ c. search needs) returns (λ c. search needs) returns-2)

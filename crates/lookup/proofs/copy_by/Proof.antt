@@ -14,35 +14,11 @@ told : (c : tie.After-whole-info)
     → let a = c .before .before .before .before .before .before .before .before .before .before .before .args in c .whole-info .result ≡ infoBy (a .how) (now (a .hive)) (now (a .path)) (now (a .name))
 told c = c .whole-info .ensures ∙ rw (c .before .before .bins-of .ensures, c .before .minor-of .ensures) (sym (info-found _ _ _ _ (sym (c .before .before .before .before .before .before .value-look .ensures) ∙ c .before .before .before .before .key2 .given .1)))
 
-value-look-requires : tie.Need-value-look-requires
-value-look-requires c κs = search needs
-
-enum-known-key : tie.Need-enum-known-key
-enum-known-key c = search needs
-
-no-value-requires : tie.Need-no-value-requires
-no-value-requires c κs = search needs
-
-enum-known-r : tie.Need-enum-known-r
-enum-known-r c = search needs
-
-enum-known-key-2 : tie.Need-enum-known-key-2
-enum-known-key-2 c = search needs
-
 bins-of-requires : tie.Need-bins-of-requires
 bins-of-requires c κs = value-facts _ _ _ _ (sym (c .before .before .before .value-look .ensures) ∙ c .before .key2 .given .1) .0
 
 minor-of-requires : tie.Need-minor-of-requires
 minor-of-requires c κs = value-facts _ _ _ _ (sym (c .before .before .before .before .value-look .ensures) ∙ c .before .before .key2 .given .1) .0
-
-whole-info-requires : tie.Need-whole-info-requires
-whole-info-requires c κs = search needs
-
-enum-known-r-2 : tie.Need-enum-known-r-2
-enum-known-r-2 c = search needs
-
-enum-known-i : tie.Need-enum-known-i
-enum-known-i c = search needs
 
 copy-info-requires : tie.Need-copy-info-requires
 copy-info-requires c κs = let a = info-answered _ _ _ _ (sym (told (c .before .before .before .before)) ∙ c .before .before .i .given .1) in (a .base, (a .lies, a .long))
@@ -65,9 +41,6 @@ returns-3 c =
     let out = now (c .before .before .before .before .before .before .before .before .before .before .before .before .before .before .args .out) in
     (sym (copy-refused _ _ _ _ out e), sym (copy-untouched _ _ _ _ out e))
 
-same-length : tie.Need-same-length
-same-length c = search needs
-
 returns-4 : tie.Need-returns-4
 returns-4 c =
     let e = sym (told (c .before .before .before .before .before .before .before)) ∙ c .before .before .before .before .before .i .given .1 in
@@ -79,19 +52,19 @@ pub copy-by-spec : {M : Type 1} → statement M
 copy-by-spec =
     tie.close
     (tie.spec
-    value-look-requires
-    enum-known-key
-    no-value-requires
-    enum-known-r
-    enum-known-key-2
+    (λ c κs. search needs)
+    (λ c. search needs)
+    (λ c κs. search needs)
+    (λ c. search needs)
+    (λ c. search needs)
     bins-of-requires
     minor-of-requires
-    whole-info-requires
-    enum-known-r-2
-    enum-known-i
+    (λ c κs. search needs)
+    (λ c. search needs)
+    (λ c. search needs)
     copy-info-requires
     returns
     returns-2
     returns-3
-    same-length
+    (λ c. search needs)
     returns-4)

@@ -7,22 +7,13 @@ use borrow.Author.Needs.{needs}
 use Rattle.lookup.proofs.copy_info.Statement.{statement}
 use Rattle.lookup.proofs.copy_info.Tie as tie
 
-refused-requires : tie.Need-refused-requires
-refused-requires c κs = search needs
-
 returns : tie.Need-returns
 returns c = let s = c .before .before .before .before in let out = now (s .args .out) in
     (ap Refused (c .refused .ensures) ∙ sym (told-short (s .args .key) out (s .args .i) (c .before .if1 .taken)), sym (short-stays (s .args .key) out (s .args .i) (c .before .if1 .taken) _))
 
-bins-of-requires : tie.Need-bins-of-requires
-bins-of-requires c κs = search needs
-
 copy-data-requires : tie.Need-copy-data-requires
 copy-data-requires c κs = let s = c .before .before .before .before .before in
     (rw (c .before .bins-of .ensures) (s .pre .1 .0), omega (arith, s .pre .1 .1, c .before .before .if1 .left))
-
-same-length : tie.Need-same-length
-same-length c = search needs
 
 returns-2 : tie.Need-returns-2
 returns-2 c = let s = c .before .before .before .before .before .before .before .before in let out = now (s .args .out) in let p = c .before .before .before .before .before .if1 .left in
@@ -32,9 +23,9 @@ pub copy-info-spec : {M : Type 1} → statement M
 copy-info-spec =
     tie.close
     (tie.spec
-    refused-requires
+    (λ c κs. search needs)
     returns
-    bins-of-requires
+    (λ c κs. search needs)
     copy-data-requires
-    same-length
+    (λ c. search needs)
     returns-2)

@@ -5,18 +5,6 @@ use borrow.Author.Needs.{needs}
 use Rattle.lookup.proofs.in_key.Statement.{statement}
 use Rattle.lookup.proofs.in_key.Tie as tie
 
-enum-known-l : tie.Need-enum-known-l
-enum-known-l c = search needs
-
-enum-told : tie.Need-enum-told
-enum-told c = search needs
-
-enum-known-l-2 : tie.Need-enum-known-l-2
-enum-known-l-2 c = search needs
-
-refused-requires : tie.Need-refused-requires
-refused-requires c κs = search needs
-
 returns : tie.Need-returns
 returns c = sym (ap (inKey _) (c .before .l .given .1))
 
@@ -28,4 +16,4 @@ returns-3 c = ap Faulty (c .refused .ensures) ∙ sym (ap (inKey _) (c .before .
 
 pub in-key-spec : {M : Type 1} → statement M
 in-key-spec =
-    tie.close (tie.spec enum-known-l enum-told enum-known-l-2 refused-requires returns returns-2 returns-3)
+    tie.close (tie.spec (λ c. search needs) (λ c. search needs) (λ c. search needs) (λ c κs. search needs) returns returns-2 returns-3)

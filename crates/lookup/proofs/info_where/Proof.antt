@@ -6,24 +6,6 @@ use borrow.Author.Needs.{needs}
 use Rattle.lookup.proofs.info_where.Statement.{statement}
 use Rattle.lookup.proofs.info_where.Tie as tie
 
-slice-aggregate-data-flaw : tie.Need-slice-aggregate-data-flaw
-slice-aggregate-data-flaw c = search needs
-
-data-flaw-requires : tie.Need-data-flaw-requires
-data-flaw-requires c κs = search needs
-
-enum-known-f : tie.Need-enum-known-f
-enum-known-f c = search needs
-
-refused-requires : tie.Need-refused-requires
-refused-requires c κs = search needs
-
-enum-told : tie.Need-enum-told
-enum-told c = search needs
-
-info-of-requires : tie.Need-info-of-requires
-info-of-requires c κs = search needs
-
 returns : tie.Need-returns
 returns c = ap Refused (c .refused .ensures) ∙ sym (where-flawed _ _ _ (sym (c .before .before .before .before .data-flaw .ensures) ∙ c .before .before .f .given .1))
 
@@ -34,11 +16,11 @@ pub info-where-spec : {M : Type 1} → statement M
 info-where-spec =
     tie.close
     (tie.spec
-    slice-aggregate-data-flaw
-    data-flaw-requires
-    enum-known-f
-    refused-requires
-    enum-told
-    info-of-requires
+    (λ c. search needs)
+    (λ c κs. search needs)
+    (λ c. search needs)
+    (λ c κs. search needs)
+    (λ c. search needs)
+    (λ c κs. search needs)
     returns
     returns-2)

@@ -5,18 +5,6 @@ use borrow.Author.Needs.{needs}
 use Rattle.lookup.proofs.lookup_value.Statement.{statement}
 use Rattle.lookup.proofs.lookup_value.Tie as tie
 
-slice-aggregate-value-list : tie.Need-slice-aggregate-value-list
-slice-aggregate-value-list c = search needs
-
-value-list-requires : tie.Need-value-list-requires
-value-list-requires c κs = search needs
-
-enum-known-f : tie.Need-enum-known-f
-enum-known-f c = search needs
-
-enum-known-e : tie.Need-enum-known-e
-enum-known-e c = search needs
-
 search-values-requires : tie.Need-search-values-requires
 search-values-requires c κs = values-room _ (c .before .before .before .before .before .before .before .args .minor) (c .before .before .before .before .before .before .before .args .name .now) (c .before .before .before .before .before .before .before .args .k) (sym (c .before .before .before .value-list .ensures) ∙ c .before .e .given .1)
 
@@ -30,10 +18,10 @@ pub lookup-value-spec : {M : Type 1} → statement M
 lookup-value-spec =
     tie.close
     (tie.spec
-    slice-aggregate-value-list
-    value-list-requires
-    enum-known-f
-    enum-known-e
+    (λ c. search needs)
+    (λ c κs. search needs)
+    (λ c. search needs)
+    (λ c. search needs)
     search-values-requires
     returns
     returns-2)

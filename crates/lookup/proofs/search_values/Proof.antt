@@ -24,29 +24,11 @@ loop-holds c = (omega arith, refl, refl)
 entry-requires : tie.Need-entry-requires Inv-loop μ-loop
 entry-requires c κs = (search needs, omega arith)
 
-value-named-requires : tie.Need-value-named-requires Inv-loop μ-loop
-value-named-requires c κs = search needs
-
-enum-told : tie.Need-enum-told Inv-loop μ-loop
-enum-told c = search needs
-
-enum-known-o : tie.Need-enum-known-o Inv-loop μ-loop
-enum-known-o c = search needs
-
 returns : tie.Need-returns Inv-loop μ-loop
 returns c = let l = c .before .before .before .before .before .before .loop in let a = c .before .before .before .before .before .before .before .before .before .args in sym (turn-found _ _ (l .n) _ (l .inv .2) _ (omega (arith, entries-length (a .bins .now) (a .e))) (c .before .before .before .before .entry .ensures) (sym (c .before .before .before .value-named .ensures) ∙ c .before .o .given .1))
 
-enum-known-f : tie.Need-enum-known-f Inv-loop μ-loop
-enum-known-f c = search needs
-
 returns-2 : tie.Need-returns-2 Inv-loop μ-loop
 returns-2 c = let l = c .before .before .before .before .before .before .loop in let a = c .before .before .before .before .before .before .before .before .before .args in sym (turn-faulty _ _ (l .n) _ (l .inv .2) _ (omega (arith, entries-length (a .bins .now) (a .e))) (c .before .before .before .before .entry .ensures) (sym (c .before .before .before .value-named .ensures) ∙ c .before .f .given .1))
-
-add-n : tie.Need-add-n Inv-loop μ-loop
-add-n c = search needs
-
-loop-less : tie.Need-loop-less Inv-loop μ-loop
-loop-less c = search needs
 
 loop-again : tie.Need-loop-again Inv-loop μ-loop
 loop-again c = let l = c .before .before .before .before .before .loop in let a = c .before .before .before .before .before .before .before .before .args in (omega arith, l .inv .1, turn-on _ _ (l .n) _ (l .inv .2) _ (omega (arith, entries-length (a .bins .now) (a .e))) (c .before .before .before .entry .ensures) (sym (c .before .before .value-named .ensures) ∙ c .enum-told .given .1))
@@ -62,13 +44,13 @@ search-values-spec =
     μ-loop
     loop-holds
     entry-requires
-    value-named-requires
-    enum-told
-    enum-known-o
+    (λ c κs. search needs)
+    (λ c. search needs)
+    (λ c. search needs)
     returns
-    enum-known-f
+    (λ c. search needs)
     returns-2
-    add-n
-    loop-less
+    (λ c. search needs)
+    (λ c. search needs)
     loop-again
     returns-3)

@@ -8,21 +8,6 @@ use borrow.Author.Needs.{needs}
 use Rattle.lookup.proofs.value_look.Statement.{statement}
 use Rattle.lookup.proofs.value_look.Tie as tie
 
-key-look-requires : tie.Need-key-look-requires
-key-look-requires c κs = search needs
-
-enum-known-r : tie.Need-enum-known-r
-enum-known-r c = search needs
-
-enum-known-key : tie.Need-enum-known-key
-enum-known-key c = search needs
-
-refused-requires : tie.Need-refused-requires
-refused-requires c κs = search needs
-
-enum-known-o : tie.Need-enum-known-o
-enum-known-o c = search needs
-
 bins-of-requires : tie.Need-bins-of-requires
 bins-of-requires c κs = look-facts _ _ _ (sym (c .before .before .before .key-look .ensures) ∙ c .before .o .given .1) .0
 
@@ -31,12 +16,6 @@ key-fields-requires c κs = rw (c .bins-of .ensures) (key-room _ _ _ _ (look-fac
 
 minor-of-requires : tie.Need-minor-of-requires
 minor-of-requires c κs = look-facts _ _ _ (sym (c .before .before .before .before .before .key-look .ensures) ∙ c .before .before .before .o .given .1) .0
-
-lookup-value-requires : tie.Need-lookup-value-requires
-lookup-value-requires c κs = search needs
-
-in-key-requires : tie.Need-in-key-requires
-in-key-requires c κs = search needs
 
 returns : tie.Need-returns
 returns c = sym (value-faulty _ _ _ _ (sym (c .before .before .before .key-look .ensures) ∙ c .before .r .given .1))
@@ -51,16 +30,16 @@ pub value-look-spec : {M : Type 1} → statement M
 value-look-spec =
     tie.close
     (tie.spec
-    key-look-requires
-    enum-known-r
-    enum-known-key
-    refused-requires
-    enum-known-o
+    (λ c κs. search needs)
+    (λ c. search needs)
+    (λ c. search needs)
+    (λ c κs. search needs)
+    (λ c. search needs)
     bins-of-requires
     key-fields-requires
     minor-of-requires
-    lookup-value-requires
-    in-key-requires
+    (λ c κs. search needs)
+    (λ c κs. search needs)
     returns
     returns-2
     returns-3)

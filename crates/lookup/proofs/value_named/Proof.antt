@@ -5,18 +5,6 @@ use borrow.Author.Needs.{needs}
 use Rattle.lookup.proofs.value_named.Statement.{statement}
 use Rattle.lookup.proofs.value_named.Tie as tie
 
-slice-aggregate-value-at : tie.Need-slice-aggregate-value-at
-slice-aggregate-value-at c = search needs
-
-value-at-requires : tie.Need-value-at-requires
-value-at-requires c κs = search needs
-
-enum-known-f : tie.Need-enum-known-f
-enum-known-f c = search needs
-
-enum-known-x : tie.Need-enum-known-x
-enum-known-x c = search needs
-
 is-called-requires : tie.Need-is-called-requires
 is-called-requires c κs = value-room _ _ (c .before .before .before .before .before .before .before .before .args .name .now) _ (sym (c .before .before .before .before .value-at .ensures) ∙ c .before .before .x .given .1)
 
@@ -33,10 +21,10 @@ pub value-named-spec : {M : Type 1} → statement M
 value-named-spec =
     tie.close
     (tie.spec
-    slice-aggregate-value-at
-    value-at-requires
-    enum-known-f
-    enum-known-x
+    (λ c. search needs)
+    (λ c κs. search needs)
+    (λ c. search needs)
+    (λ c. search needs)
     is-called-requires
     returns
     returns-2

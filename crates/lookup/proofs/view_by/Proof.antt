@@ -12,32 +12,8 @@ use Rattle.lookup.proofs.view_by.Tie as tie
 shown : (c : tie.After-struct-known) → Shown (now (c .before .before .before .before .before .before .before .before .args .hive)) (c .before .before .i .given .0 .0)
 shown c = let a = view-answered _ _ _ _ (sym (c .before .before .before .before .viewed-by .ensures) ∙ c .before .before .i .given .1) in view-shown _ _ _ _ _ (a .0) (a .1)
 
-viewed-by-requires : tie.Need-viewed-by-requires
-viewed-by-requires c κs = search needs
-
-enum-told : tie.Need-enum-told
-enum-told c = search needs
-
-sub-result : tie.Need-sub-result
-sub-result c = search needs
-
-part-result-start : tie.Need-part-result-start
-part-result-start c = search needs
-
-part-result-end : tie.Need-part-result-end
-part-result-end c = search needs
-
-enum-known-i : tie.Need-enum-known-i
-enum-known-i c = search needs
-
 add-end : tie.Need-add-end
 add-end c = let s = shown c in omega arith
-
-sub-result-2 : tie.Need-sub-result-2
-sub-result-2 c = search needs
-
-part-result-start-2 : tie.Need-part-result-start-2
-part-result-start-2 c = search needs
 
 part-result-end-2 : tie.Need-part-result-end-2
 part-result-end-2 c = let s = shown c in omega arith
@@ -52,15 +28,15 @@ pub view-by-spec : {M : Type 1} → statement M
 view-by-spec =
     tie.close
     (tie.spec
-    viewed-by-requires
-    enum-told
-    sub-result
-    part-result-start
-    part-result-end
-    enum-known-i
+    (λ c κs. search needs)
+    (λ c. search needs)
+    (λ c. search needs)
+    (λ c. search needs)
+    (λ c. search needs)
+    (λ c. search needs)
     add-end
-    sub-result-2
-    part-result-start-2
+    (λ c. search needs)
+    (λ c. search needs)
     part-result-end-2
     returns
     returns-2)

@@ -5,18 +5,6 @@ use borrow.Author.Needs.{needs}
 use Rattle.lookup.proofs.view_flaw.Statement.{statement}
 use Rattle.lookup.proofs.view_flaw.Tie as tie
 
-enum-told : tie.Need-enum-told
-enum-told c = search needs
-
-enum-told-2 : tie.Need-enum-told-2
-enum-told-2 c = search needs
-
-enum-told-3 : tie.Need-enum-told-3
-enum-told-3 c = search needs
-
-flawed-requires : tie.Need-flawed-requires
-flawed-requires c κs = search needs
-
 returns : tie.Need-returns
 unfolding viewFault
 returns c = rw (c .enum-told .given .1)
@@ -32,4 +20,4 @@ returns-3 c = c .flawed .ensures ∙ rw (c .before .enum-told3 .given .1)
 pub view-flaw-spec : {M : Type 1} → statement M
 view-flaw-spec =
     tie.close
-    (tie.spec enum-told enum-told-2 enum-told-3 flawed-requires returns returns-2 returns-3)
+    (tie.spec (λ c. search needs) (λ c. search needs) (λ c. search needs) (λ c κs. search needs) returns returns-2 returns-3)

@@ -6,24 +6,6 @@ use borrow.Author.Needs.{needs}
 use Rattle.lookup.proofs.whole_info.Statement.{statement}
 use Rattle.lookup.proofs.whole_info.Tie as tie
 
-slice-aggregate-value-at : tie.Need-slice-aggregate-value-at
-slice-aggregate-value-at c = search needs
-
-value-at-requires : tie.Need-value-at-requires
-value-at-requires c κs = search needs
-
-enum-known-f : tie.Need-enum-known-f
-enum-known-f c = search needs
-
-refused-requires : tie.Need-refused-requires
-refused-requires c κs = search needs
-
-enum-known-x : tie.Need-enum-known-x
-enum-known-x c = search needs
-
-info-where-requires : tie.Need-info-where-requires
-info-where-requires c κs = search needs
-
 returns : tie.Need-returns
 returns c = ap Refused (c .refused .ensures) ∙ sym (info-bad _ _ _ _ (sym (c .before .before .before .before .value-at .ensures) ∙ c .before .before .f .given .1))
 
@@ -34,11 +16,11 @@ pub whole-info-spec : {M : Type 1} → statement M
 whole-info-spec =
     tie.close
     (tie.spec
-    slice-aggregate-value-at
-    value-at-requires
-    enum-known-f
-    refused-requires
-    enum-known-x
-    info-where-requires
+    (λ c. search needs)
+    (λ c κs. search needs)
+    (λ c. search needs)
+    (λ c κs. search needs)
+    (λ c. search needs)
+    (λ c κs. search needs)
     returns
     returns-2)

@@ -22,27 +22,6 @@ loop-holds : tie.Need-loop-holds Inv-loop μ-loop
 unfolding afterWords
 loop-holds c = (omega arith, refl)
 
-mul-mix-four : tie.Need-mul-mix-four Inv-loop μ-loop
-mul-mix-four c = search needs
-
-mix-four-requires : tie.Need-mix-four-requires Inv-loop μ-loop
-mix-four-requires c κs = search needs
-
-mul-mix-four-2 : tie.Need-mul-mix-four-2 Inv-loop μ-loop
-mul-mix-four-2 c = search needs
-
-add-mix-four : tie.Need-add-mix-four Inv-loop μ-loop
-add-mix-four c = search needs
-
-mix-four-requires-2 : tie.Need-mix-four-requires-2 Inv-loop μ-loop
-mix-four-requires-2 c κs = search needs
-
-add-k : tie.Need-add-k Inv-loop μ-loop
-add-k c = search needs
-
-loop-less : tie.Need-loop-less Inv-loop μ-loop
-loop-less c = search needs
-
 loop-again : tie.Need-loop-again Inv-loop μ-loop
 loop-again c =
     let l = c .before .before .before .loop in
@@ -61,12 +40,12 @@ after-eights-spec =
     Inv-loop
     μ-loop
     loop-holds
-    mul-mix-four
-    mix-four-requires
-    mul-mix-four-2
-    add-mix-four
-    mix-four-requires-2
-    add-k
-    loop-less
+    (λ c. search needs)
+    (λ c κs. search needs)
+    (λ c. search needs)
+    (λ c. search needs)
+    (λ c κs. search needs)
+    (λ c. search needs)
+    (λ c. search needs)
     loop-again
     returns)

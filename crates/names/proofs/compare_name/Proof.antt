@@ -18,32 +18,11 @@ Inv-loop s narrow name end shared i₀ i =
 abbrev μ-loop : tie.MeasureT-loop
 μ-loop s narrow name end shared i₀ i = shared - i
 
-count-requires : tie.Need-count-requires Inv-loop μ-loop
-count-requires c κs = search needs
-
-lesser-requires : tie.Need-lesser-requires Inv-loop μ-loop
-lesser-requires c κs = search needs
-
 loop-holds : tie.Need-loop-holds Inv-loop μ-loop
 loop-holds c = refl
 
 code-at-requires : tie.Need-code-at-requires Inv-loop μ-loop
 code-at-requires c κs = omega arith
-
-mul-y : tie.Need-mul-y Inv-loop μ-loop
-mul-y c = search needs
-
-shared-slice-read-y : tie.Need-shared-slice-read-y Inv-loop μ-loop
-shared-slice-read-y c = search needs
-
-same-letter-requires : tie.Need-same-letter-requires Inv-loop μ-loop
-same-letter-requires c κs = search needs
-
-upper-requires : tie.Need-upper-requires Inv-loop μ-loop
-upper-requires c κs = search needs
-
-upper-requires-2 : tie.Need-upper-requires-2 Inv-loop μ-loop
-upper-requires-2 c κs = search needs
 
 returns : tie.Need-returns Inv-loop μ-loop
 returns c =
@@ -59,12 +38,6 @@ returns-2 c =
     eqb-false (upper (c .before .before .before .before .before .before .code-at .result)) _
     (sym (c .before .before .before .before .same-letter .ensures) ∙ not-true (c .before .before .before .before .same-letter .result) (c .before .before .before .if1 .taken)) in
     sym (l .inv ∙ turn-above _ _ (l .i) (omega arith) (omega arith) (omega arith))
-
-add-i : tie.Need-add-i Inv-loop μ-loop
-add-i c = search needs
-
-loop-less : tie.Need-loop-less Inv-loop μ-loop
-loop-less c = search needs
 
 loop-again : tie.Need-loop-again Inv-loop μ-loop
 loop-again c =
@@ -91,19 +64,19 @@ compare-name-spec =
     (tie.spec
     Inv-loop
     μ-loop
-    count-requires
-    lesser-requires
+    (λ c κs. search needs)
+    (λ c κs. search needs)
     loop-holds
     code-at-requires
-    mul-y
-    shared-slice-read-y
-    same-letter-requires
-    upper-requires
-    upper-requires-2
+    (λ c. search needs)
+    (λ c. search needs)
+    (λ c κs. search needs)
+    (λ c κs. search needs)
+    (λ c κs. search needs)
     returns
     returns-2
-    add-i
-    loop-less
+    (λ c. search needs)
+    (λ c. search needs)
     loop-again
     returns-3
     returns-4

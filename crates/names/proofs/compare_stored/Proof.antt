@@ -18,15 +18,6 @@ Inv-loop a a-narrow b b-narrow a-count b-count shared i₀ i =
 abbrev μ-loop : tie.MeasureT-loop
 μ-loop a a-narrow b b-narrow a-count b-count shared i₀ i = shared - i
 
-count-requires : tie.Need-count-requires Inv-loop μ-loop
-count-requires c κs = search needs
-
-count-requires-2 : tie.Need-count-requires-2 Inv-loop μ-loop
-count-requires-2 c κs = search needs
-
-lesser-requires : tie.Need-lesser-requires Inv-loop μ-loop
-lesser-requires c κs = search needs
-
 past-shared-requires : tie.Need-past-shared-requires Inv-loop μ-loop
 past-shared-requires c κs = let e = c .lesser .ensures in (omega arith, omega arith)
 
@@ -38,15 +29,6 @@ code-at-requires c κs = omega arith
 
 code-at-requires-2 : tie.Need-code-at-requires-2 Inv-loop μ-loop
 code-at-requires-2 c κs = omega arith
-
-same-letter-requires : tie.Need-same-letter-requires Inv-loop μ-loop
-same-letter-requires c κs = search needs
-
-upper-requires : tie.Need-upper-requires Inv-loop μ-loop
-upper-requires c κs = search needs
-
-upper-requires-2 : tie.Need-upper-requires-2 Inv-loop μ-loop
-upper-requires-2 c κs = search needs
 
 returns : tie.Need-returns Inv-loop μ-loop
 returns c =
@@ -64,12 +46,6 @@ returns-2 c =
     eqb-false (upper (c .before .before .before .before .before .before .code-at .result)) (upper (c .before .before .before .before .before .code-at2 .result))
     (sym (c .before .before .before .before .same-letter .ensures) ∙ not-true (c .before .before .before .before .same-letter .result) (c .before .before .before .if1 .taken)) in
     sym (l .inv ∙ turn-above _ _ (l .i) (omega arith) (omega arith) (omega arith))
-
-add-i : tie.Need-add-i Inv-loop μ-loop
-add-i c = search needs
-
-loop-less : tie.Need-loop-less Inv-loop μ-loop
-loop-less c = search needs
 
 loop-again : tie.Need-loop-again Inv-loop μ-loop
 loop-again c =
@@ -96,20 +72,20 @@ compare-stored-spec =
     (tie.spec
     Inv-loop
     μ-loop
-    count-requires
-    count-requires-2
-    lesser-requires
+    (λ c κs. search needs)
+    (λ c κs. search needs)
+    (λ c κs. search needs)
     past-shared-requires
     loop-holds
     code-at-requires
     code-at-requires-2
-    same-letter-requires
-    upper-requires
-    upper-requires-2
+    (λ c κs. search needs)
+    (λ c κs. search needs)
+    (λ c κs. search needs)
     returns
     returns-2
-    add-i
-    loop-less
+    (λ c. search needs)
+    (λ c. search needs)
     loop-again
     returns-3
     returns-4

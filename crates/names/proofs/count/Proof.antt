@@ -4,11 +4,8 @@ use Rattle.names.proofs.LawsCodes.{counted}
 use Rattle.names.proofs.count.Statement.{statement}
 use Rattle.names.proofs.count.Tie as tie
 
-characters-requires : tie.Need-characters-requires
-characters-requires c κs = search needs
-
 returns : tie.Need-returns
 returns c = c .characters .ensures ∙ counted _ _
 
 pub count-spec : {M : Type 1} → statement M
-count-spec = tie.close (tie.spec characters-requires returns)
+count-spec = tie.close (tie.spec (λ c κs. search needs) returns)

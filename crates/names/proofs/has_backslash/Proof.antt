@@ -13,12 +13,6 @@ Inv-loop s narrow end last i₀ i = Clear (codes narrow s) i
 abbrev μ-loop : tie.MeasureT-loop
 μ-loop s narrow end last i₀ i = last - i
 
-count-requires : tie.Need-count-requires Inv-loop μ-loop
-count-requires c κs = search needs
-
-has-in-turn-requires : tie.Need-has-in-turn-requires Inv-loop μ-loop
-has-in-turn-requires c κs = search needs
-
 returns : tie.Need-returns Inv-loop μ-loop
 returns c = c .has-in-turn .ensures
 
@@ -56,8 +50,8 @@ has-backslash-spec =
     (tie.spec
     Inv-loop
     μ-loop
-    count-requires
-    has-in-turn-requires
+    (λ c κs. search needs)
+    (λ c κs. search needs)
     returns
     loop-holds
     among-four-requires

@@ -17,24 +17,12 @@ Inv-loop s narrow end h₀ i₀ h i = hashOf (codes narrow s) ≡ mixedAll h (up
 abbrev μ-loop : tie.MeasureT-loop
 μ-loop s narrow end h₀ i₀ h i = end - i
 
-count-requires : tie.Need-count-requires Inv-loop μ-loop
-count-requires c κs = search needs
-
 loop-holds : tie.Need-loop-holds Inv-loop μ-loop
 unfolding hashOf
 loop-holds c = refl
 
 capital-at-requires : tie.Need-capital-at-requires Inv-loop μ-loop
 capital-at-requires c κs = omega arith
-
-mix-requires : tie.Need-mix-requires Inv-loop μ-loop
-mix-requires c κs = search needs
-
-add-i : tie.Need-add-i Inv-loop μ-loop
-add-i c = search needs
-
-loop-less : tie.Need-loop-less Inv-loop μ-loop
-loop-less c = search needs
 
 loop-again : tie.Need-loop-again Inv-loop μ-loop
 loop-again c =
@@ -50,11 +38,11 @@ hash-spec =
     (tie.spec
     Inv-loop
     μ-loop
-    count-requires
+    (λ c κs. search needs)
     loop-holds
     capital-at-requires
-    mix-requires
-    add-i
-    loop-less
+    (λ c κs. search needs)
+    (λ c. search needs)
+    (λ c. search needs)
     loop-again
     returns)

@@ -5,21 +5,6 @@ use Rattle.names.proofs.LawsHints.{Bytes, four-bytes, hint-wide, hint-b
 use Rattle.names.proofs.is_hinted.Statement.{statement}
 use Rattle.names.proofs.is_hinted.Tie as tie
 
-code-or-none-requires : tie.Need-code-or-none-requires
-code-or-none-requires c κs = search needs
-
-code-or-none-requires-2 : tie.Need-code-or-none-requires-2
-code-or-none-requires-2 c κs = search needs
-
-code-or-none-requires-3 : tie.Need-code-or-none-requires-3
-code-or-none-requires-3 c κs = search needs
-
-code-or-none-requires-4 : tie.Need-code-or-none-requires-4
-code-or-none-requires-4 c κs = search needs
-
-is-wide-requires : tie.Need-is-wide-requires
-is-wide-requires c κs = search needs
-
 returns : tie.Need-returns
 returns c =
     sym (hint-wide _ _ _ _ _ _
@@ -64,11 +49,11 @@ pub is-hinted-spec : {M : Type 1} → statement M
 is-hinted-spec =
     tie.close
     (tie.spec
-    code-or-none-requires
-    code-or-none-requires-2
-    code-or-none-requires-3
-    code-or-none-requires-4
-    is-wide-requires
+    (λ c κs. search needs)
+    (λ c κs. search needs)
+    (λ c κs. search needs)
+    (λ c κs. search needs)
+    (λ c κs. search needs)
     returns
     mul-result
     add-result

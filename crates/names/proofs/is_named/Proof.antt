@@ -20,9 +20,6 @@ Inv-loop s narrow name i₀ i = sameName (codes narrow s) name ≡ isSame (left 
 abbrev μ-loop : tie.MeasureT-loop
 μ-loop s narrow name i₀ i = length name - i
 
-count-requires : tie.Need-count-requires Inv-loop μ-loop
-count-requires c κs = search needs
-
 returns : tie.Need-returns Inv-loop μ-loop
 returns c = sym (unequal-length _ _ (λ e. c .if1 .taken (c .before .count .ensures ∙ e)))
 
@@ -33,27 +30,12 @@ loop-holds c = refl
 code-at-requires : tie.Need-code-at-requires Inv-loop μ-loop
 code-at-requires c κs = omega arith
 
-mul-same-letter : tie.Need-mul-same-letter Inv-loop μ-loop
-mul-same-letter c = search needs
-
-shared-slice-read-same-letter : tie.Need-shared-slice-read-same-letter Inv-loop μ-loop
-shared-slice-read-same-letter c = search needs
-
-same-letter-requires : tie.Need-same-letter-requires Inv-loop μ-loop
-same-letter-requires c κs = search needs
-
 returns-2 : tie.Need-returns-2 Inv-loop μ-loop
 returns-2 c =
     let l = c .before .before .before .before .before .loop in
     sym (l .inv ∙ turn-apart _ _ (l .i) (omega arith) (omega arith)
     (λ e. never (c .before .same-letter .result) (c .before .same-letter .ensures ∙ eq-eqb _ _ (ap upper (c .before .before .before .code-at .ensures) ∙ e))
     (not-true (c .before .same-letter .result) (c .if2 .taken))))
-
-add-i : tie.Need-add-i Inv-loop μ-loop
-add-i c = search needs
-
-loop-less : tie.Need-loop-less Inv-loop μ-loop
-loop-less c = search needs
 
 loop-again : tie.Need-loop-again Inv-loop μ-loop
 loop-again c =
@@ -70,15 +52,15 @@ is-named-spec =
     (tie.spec
     Inv-loop
     μ-loop
-    count-requires
+    (λ c κs. search needs)
     returns
     loop-holds
     code-at-requires
-    mul-same-letter
-    shared-slice-read-same-letter
-    same-letter-requires
+    (λ c. search needs)
+    (λ c. search needs)
+    (λ c κs. search needs)
     returns-2
-    add-i
-    loop-less
+    (λ c. search needs)
+    (λ c. search needs)
     loop-again
     returns-3)

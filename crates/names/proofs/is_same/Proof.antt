@@ -20,12 +20,6 @@ Inv-loop a a-narrow b b-narrow end i₀ i = sameName (codes a-narrow a) (codes b
 abbrev μ-loop : tie.MeasureT-loop
 μ-loop a a-narrow b b-narrow end i₀ i = end - i
 
-count-requires : tie.Need-count-requires Inv-loop μ-loop
-count-requires c κs = search needs
-
-count-requires-2 : tie.Need-count-requires-2 Inv-loop μ-loop
-count-requires-2 c κs = search needs
-
 returns : tie.Need-returns Inv-loop μ-loop
 returns c = sym (unequal-length _ _ (λ e. c .if1 .taken (c .before .count2 .ensures ∙ sym e ∙ sym (c .before .before .count .ensures))))
 
@@ -39,9 +33,6 @@ code-at-requires c κs = omega arith
 code-at-requires-2 : tie.Need-code-at-requires-2 Inv-loop μ-loop
 code-at-requires-2 c κs = omega arith
 
-same-letter-requires : tie.Need-same-letter-requires Inv-loop μ-loop
-same-letter-requires c κs = search needs
-
 returns-2 : tie.Need-returns-2 Inv-loop μ-loop
 returns-2 c =
     let l = c .before .before .before .before .before .loop in
@@ -49,12 +40,6 @@ returns-2 c =
     (λ e. never (c .before .same-letter .result)
     (c .before .same-letter .ensures ∙ eq-eqb _ _ (ap upper (c .before .before .before .code-at .ensures) ∙ e ∙ sym (ap upper (c .before .before .code-at2 .ensures))))
     (not-true (c .before .same-letter .result) (c .if2 .taken))))
-
-add-i : tie.Need-add-i Inv-loop μ-loop
-add-i c = search needs
-
-loop-less : tie.Need-loop-less Inv-loop μ-loop
-loop-less c = search needs
 
 loop-again : tie.Need-loop-again Inv-loop μ-loop
 loop-again c =
@@ -73,15 +58,15 @@ is-same-spec =
     (tie.spec
     Inv-loop
     μ-loop
-    count-requires
-    count-requires-2
+    (λ c κs. search needs)
+    (λ c κs. search needs)
     returns
     loop-holds
     code-at-requires
     code-at-requires-2
-    same-letter-requires
+    (λ c κs. search needs)
     returns-2
-    add-i
-    loop-less
+    (λ c. search needs)
+    (λ c. search needs)
     loop-again
     returns-3)

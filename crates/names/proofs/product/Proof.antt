@@ -10,11 +10,5 @@ mul-result c =
     let p : c .args .a * c .args .b ≤ 4294967295 * 4294967295 = mul-le-mul {n₂ = 4294967295} {m₂ = 4294967295} (omega arith) (omega arith) in
     record { fits = omega arith }
 
-cast-result : tie.Need-cast-result
-cast-result c = search needs
-
-returns : tie.Need-returns
-returns c = search needs
-
 pub product-spec : {M : Type 1} → statement M
-product-spec = tie.close (tie.spec mul-result cast-result returns)
+product-spec = tie.close (tie.spec mul-result (λ c. search needs) (λ c. search needs))

@@ -8,14 +8,8 @@ use Rattle.names.proofs.same_letter.Tie as tie
 returns : tie.Need-returns
 returns c = sym (eq-eqb _ _ (ap upper (c .if1 .taken)))
 
-upper-requires : tie.Need-upper-requires
-upper-requires c κs = search needs
-
-upper-requires-2 : tie.Need-upper-requires-2
-upper-requires-2 c κs = search needs
-
 returns-2 : tie.Need-returns-2
 returns-2 c = cc
 
 pub same-letter-spec : {M : Type 1} → statement M
-same-letter-spec = tie.close (tie.spec returns upper-requires upper-requires-2 returns-2)
+same-letter-spec = tie.close (tie.spec returns (λ c κs. search needs) (λ c κs. search needs) returns-2)

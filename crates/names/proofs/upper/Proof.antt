@@ -8,9 +8,6 @@ use Rattle.names.proofs.upper.Tie as tie
 returns : tie.Need-returns
 returns c = sym (stays-low (c .before .args .c) (omega arith))
 
-sub-result : tie.Need-sub-result
-sub-result c = search needs
-
 returns-2 : tie.Need-returns-2
 returns-2 c = sym (a-to-z (c .before .before .args .c) (omega arith) (omega arith))
 
@@ -19,9 +16,6 @@ returns-3 c = sym (stays-between (c .before .before .before .args .c) (omega ari
 
 returns-4 : tie.Need-returns-4
 returns-4 c = sym (divided (c .before .before .before .before .args .c) (c .if4 .taken))
-
-sub-result-2 : tie.Need-sub-result-2
-sub-result-2 c = search needs
 
 returns-5 : tie.Need-returns-5
 returns-5 c = sym (accented (c .before .before .before .before .before .args .c) (omega arith) (omega arith) (c .before .if4 .left))
@@ -33,4 +27,4 @@ returns-7 : tie.Need-returns-7
 returns-7 c = let n = c .if6 .left in sym (stays-high (c .before .before .before .before .before .before .args .c) (omega arith))
 
 pub upper-spec : {M : Type 1} → statement M
-upper-spec = tie.close (tie.spec returns sub-result returns-2 returns-3 returns-4 sub-result-2 returns-5 returns-6 returns-7)
+upper-spec = tie.close (tie.spec returns (λ c. search needs) returns-2 returns-3 returns-4 (λ c. search needs) returns-5 returns-6 returns-7)

@@ -27,9 +27,6 @@ loop-holds c =
     let vs = entriesOf (a .bins .now) (a .e) in
     seek-start (later (called (a .bins .now) vs) (a .s)) _ _ _ _ _ (c .before .before .before .before .before .pre .telling) (c .find .ensures)
 
-sub-name-of : tie.Need-sub-name-of Inv-loop μ-loop
-sub-name-of c = search needs
-
 add-name-of : tie.Need-add-name-of Inv-loop μ-loop
 add-name-of c = omega (arith, c .before .before .before .before .before .before .before .pre .inside, c .before .loop .inv .chain .within)
 
@@ -47,9 +44,6 @@ returns c =
     let l = c .before .before .before .before .loop in
     sym (l .inv .left ∙ hit (later (called (a .bins .now) vs) (a .s)) _ (l .p) (c .before .before .before .loop-test .taken)
     (read-compared (a .bins .now) vs (a .s + (l .p - 1)) _ (c .before .before .name-of .ensures) (c .before .is-namesake .ensures) ∙ c .if1 .taken))
-
-sub-q : tie.Need-sub-q Inv-loop μ-loop
-sub-q c = search needs
 
 mul-q : tie.Need-mul-q Inv-loop μ-loop
 mul-q c = omega (arith, c .before .before .before .before .before .before .before .before .before .before .pre .table .linked .links, c .before .before .before .before .loop .inv .chain .within)
@@ -97,12 +91,12 @@ is-met-spec =
     μ-loop
     find-requires
     loop-holds
-    sub-name-of
+    (λ c. search needs)
     add-name-of
     name-of-requires
     is-namesake-requires
     returns
-    sub-q
+    (λ c. search needs)
     mul-q
     shared-slice-read-q
     cast-q

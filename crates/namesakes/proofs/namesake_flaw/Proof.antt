@@ -7,9 +7,6 @@ use Rattle.namesakes.proofs.Laws.{flaw-at, none-at, too-few, entries-ar
 use Rattle.namesakes.proofs.namesake_flaw.Statement.{statement}
 use Rattle.namesakes.proofs.namesake_flaw.Tie as tie
 
-cast-count : tie.Need-cast-count
-cast-count c = search needs
-
 returns : tie.Need-returns
 returns c = sym (too-few _ _ _ refl (entries-few _ (c .if1 .taken)))
 
@@ -19,9 +16,6 @@ first-repeated-requires c κs = rw (← entries-are (c .before .before .before .
 entry-requires : tie.Need-entry-requires
 entry-requires c κs =
     (subst (λ (x : Entries). Room (c .before .before .before .before .before .before .args .bins .now) x) (entries-are (c .before .before .before .before .before .before .args .k) (λ e. let z = e in let y = c .before .before .before .if1 .left in omega arith)) (c .before .before .before .before .before .before .pre .room), c .if2 .taken)
-
-flawed-requires : tie.Need-flawed-requires
-flawed-requires c κs = search needs
 
 returns-2 : tie.Need-returns-2
 returns-2 c =
@@ -36,4 +30,4 @@ returns-3 c =
 pub namesake-flaw-spec : {M : Type 1} → statement M
 namesake-flaw-spec =
     tie.close
-    (tie.spec cast-count returns first-repeated-requires entry-requires flawed-requires returns-2 returns-3)
+    (tie.spec (λ c. search needs) returns first-repeated-requires entry-requires (λ c κs. search needs) returns-2 returns-3)

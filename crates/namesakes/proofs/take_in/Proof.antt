@@ -10,18 +10,6 @@ insert-requires c κs =
     let l = c .before .before .before .if1 .taken in
     (p .0, (l, omega (arith, l, p .1 .0), omega (arith, l, p .1 .1)))
 
-add-result : tie.Need-add-result
-add-result c = search needs
-
-same-length : tie.Need-same-length
-same-length c = search needs
-
-same-length-2 : tie.Need-same-length-2
-same-length-2 c = search needs
-
-same-length-3 : tie.Need-same-length-3
-same-length-3 c = search needs
-
 returns : tie.Need-returns
 returns c =
     let e = c .before .before .before .before .before .before .insert .ensures in
@@ -31,4 +19,4 @@ returns-2 : tie.Need-returns-2
 returns-2 c = (take-none (c .if1 .left), c .before .before .before .before .pre .0)
 
 pub take-in-spec : {M : Type 1} → statement M
-take-in-spec = tie.close (tie.spec insert-requires add-result same-length same-length-2 same-length-3 returns returns-2)
+take-in-spec = tie.close (tie.spec insert-requires (λ c. search needs) (λ c. search needs) (λ c. search needs) (λ c. search needs) returns returns-2)

@@ -15,41 +15,8 @@ use borrow.Author.Needs.{needs}
 use Rattle.new_log.proofs.applies.Statement.{statement}
 use Rattle.new_log.proofs.applies.Tie as tie
 
-sub-usable : tie.Need-sub-usable
-sub-usable c = search needs
-
-part-usable-start : tie.Need-part-usable-start
-part-usable-start c = search needs
-
-part-usable-end : tie.Need-part-usable-end
-part-usable-end c = search needs
-
-usable-requires : tie.Need-usable-requires
-usable-requires c κs = search needs
-
-sub-u32-at : tie.Need-sub-u32-at
-sub-u32-at c = search needs
-
-part-u32-at-start : tie.Need-part-u32-at-start
-part-u32-at-start c = search needs
-
-part-u32-at-end : tie.Need-part-u32-at-end
-part-u32-at-end c = search needs
-
-u32-at-requires : tie.Need-u32-at-requires
-u32-at-requires c κs = search needs
-
-sub-u32-at-2 : tie.Need-sub-u32-at-2
-sub-u32-at-2 c = search needs
-
-part-u32-at-start-2 : tie.Need-part-u32-at-start-2
-part-u32-at-start-2 c = search needs
-
 part-u32-at-end-2 : tie.Need-part-u32-at-end-2
 part-u32-at-end-2 c = let s = c .before .before .before .before .before .before .before in log-long (s .args .log .now) (s .pre .0)
-
-u32-at-requires-2 : tie.Need-u32-at-requires-2
-u32-at-requires-2 c κs = search needs
 
 returns : tie.Need-returns
 returns c =
@@ -57,32 +24,14 @@ returns c =
     let u = sym (c .before .before .before .before .before .usable .ensures) ∙ c .before .before .before .before .if1 .taken in
     ap₂ eqb (c .before .before .u32-at .ensures) (c .u32-at2 .ensures) ∙ sym (by-number (s .args .hive .now) (s .args .log .now) u)
 
-sub-u64-at : tie.Need-sub-u64-at
-sub-u64-at c = search needs
-
-part-u64-at-start : tie.Need-part-u64-at-start
-part-u64-at-start c = search needs
-
 part-u64-at-end : tie.Need-part-u64-at-end
 part-u64-at-end c = let s = c .before .before .before .before .before in log-long (s .args .log .now) (s .pre .0)
-
-u64-at-requires : tie.Need-u64-at-requires
-u64-at-requires c κs = search needs
-
-sub-u64-at-2 : tie.Need-sub-u64-at-2
-sub-u64-at-2 c = search needs
-
-part-u64-at-start-2 : tie.Need-part-u64-at-start-2
-part-u64-at-start-2 c = search needs
 
 part-u64-at-end-2 : tie.Need-part-u64-at-end-2
 part-u64-at-end-2 c =
     let s = c .before .before .before .before .before .before .before in
     let size = bins-sized (s .args .log .now) (s .pre .0) in
     omega (arith, size .some, size .pages, s .pre .1 .1)
-
-u64-at-requires-2 : tie.Need-u64-at-requires-2
-u64-at-requires-2 c κs = search needs
 
 returns-2 : tie.Need-returns-2
 unfolding page
@@ -93,9 +42,6 @@ returns-2 c =
     let u = sym (c .before .before .before .before .before .before .usable .ensures) ∙ c .before .before .before .before .before .if1 .left in
     let n = ne-eqb (u64At (page h 0) 20) (u64At (sector l) 12) (λ z. c .if2 .taken (c .before .u64-at2 .ensures ∙ z ∙ sym (c .before .before .before .u64-at .ensures))) in
     sym (by-stamps h l u ∙ ap (λ (b : Bool). b && allStamped (u64At (sector l) 12) (versionsOf l 0)) n)
-
-all-stamped-requires : tie.Need-all-stamped-requires
-all-stamped-requires c κs = search needs
 
 returns-3 : tie.Need-returns-3
 unfolding page
@@ -112,27 +58,27 @@ pub applies-spec : {M : Type 1} → statement M
 applies-spec =
     tie.close
     (tie.spec
-    sub-usable
-    part-usable-start
-    part-usable-end
-    usable-requires
-    sub-u32-at
-    part-u32-at-start
-    part-u32-at-end
-    u32-at-requires
-    sub-u32-at-2
-    part-u32-at-start-2
+    (λ c. search needs)
+    (λ c. search needs)
+    (λ c. search needs)
+    (λ c κs. search needs)
+    (λ c. search needs)
+    (λ c. search needs)
+    (λ c. search needs)
+    (λ c κs. search needs)
+    (λ c. search needs)
+    (λ c. search needs)
     part-u32-at-end-2
-    u32-at-requires-2
+    (λ c κs. search needs)
     returns
-    sub-u64-at
-    part-u64-at-start
+    (λ c. search needs)
+    (λ c. search needs)
     part-u64-at-end
-    u64-at-requires
-    sub-u64-at-2
-    part-u64-at-start-2
+    (λ c κs. search needs)
+    (λ c. search needs)
+    (λ c. search needs)
     part-u64-at-end-2
-    u64-at-requires-2
+    (λ c κs. search needs)
     returns-2
-    all-stamped-requires
+    (λ c κs. search needs)
     returns-3)

@@ -7,17 +7,11 @@ use borrow.Author.Needs.{needs}
 use Rattle.new_log.proofs.is_log_base.Statement.{statement}
 use Rattle.new_log.proofs.is_log_base.Tie as tie
 
-usable-requires : tie.Need-usable-requires
-usable-requires c κs = search needs
-
 returns : tie.Need-returns
 unfolding isLogBase
 returns c =
     let s = c .before .before .before .args .s .now in
     sym (ap (λ (b : Bool). b && isSettled s) (sym (c .before .usable .ensures) ∙ not-true _ (c .if1 .taken)))
-
-is-settled-requires : tie.Need-is-settled-requires
-is-settled-requires c κs = search needs
 
 returns-2 : tie.Need-returns-2
 unfolding isLogBase
@@ -26,4 +20,4 @@ returns-2 c =
     c .is-settled .ensures ∙ sym (ap (λ (b : Bool). b && isSettled s) (sym (c .before .before .usable .ensures) ∙ not-false _ (c .before .if1 .left)))
 
 pub is-log-base-spec : {M : Type 1} → statement M
-is-log-base-spec = tie.close (tie.spec usable-requires returns is-settled-requires returns-2)
+is-log-base-spec = tie.close (tie.spec (λ c κs. search needs) returns (λ c κs. search needs) returns-2)

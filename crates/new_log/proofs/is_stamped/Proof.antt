@@ -16,21 +16,6 @@ returns c =
     let s = c .before .before in
     sym (ap (λ (b : Bool). not b || eqb (u64At (sectorAt (s .args .log .now) (s .args .place)) 20) (s .args .stamp)) (ne-eqb (s .args .page) 0 (c .if1 .taken)))
 
-add-u64-at : tie.Need-add-u64-at
-add-u64-at c = search needs
-
-sub-u64-at : tie.Need-sub-u64-at
-sub-u64-at c = search needs
-
-part-u64-at-start : tie.Need-part-u64-at-start
-part-u64-at-start c = search needs
-
-part-u64-at-end : tie.Need-part-u64-at-end
-part-u64-at-end c = search needs
-
-u64-at-requires : tie.Need-u64-at-requires
-u64-at-requires c κs = search needs
-
 returns-2 : tie.Need-returns-2
 returns-2 c =
     let s = c .before .before .before .before in
@@ -45,9 +30,9 @@ is-stamped-spec =
     tie.close
     (tie.spec
     returns
-    add-u64-at
-    sub-u64-at
-    part-u64-at-start
-    part-u64-at-end
-    u64-at-requires
+    (λ c. search needs)
+    (λ c. search needs)
+    (λ c. search needs)
+    (λ c. search needs)
+    (λ c κs. search needs)
     returns-2)

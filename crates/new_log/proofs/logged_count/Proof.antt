@@ -18,9 +18,6 @@ loop-holds : tie.Need-loop-holds Inv-loop μ-loop
 unfolding loggedBelow
 loop-holds c = (ap (λ (k : Chain). k .largest / 512) (c .before .before .pre), refl)
 
-window-count-requires : tie.Need-window-count-requires Inv-loop μ-loop
-window-count-requires c κs = search needs
-
 add-count : tie.Need-add-count Inv-loop μ-loop
 add-count c =
     let s = c .before .before .before .before .before in
@@ -51,7 +48,7 @@ logged-count-spec =
     Inv-loop
     μ-loop
     loop-holds
-    window-count-requires
+    (λ c κs. search needs)
     add-count
     add-base
     loop-less

@@ -9,15 +9,6 @@ use Rattle.new_log.proofs.Counts.{marks-counted}
 use Rattle.new_log.proofs.mark.Statement.{statement}
 use Rattle.new_log.proofs.mark.Tie as tie
 
-write-marks-requires : tie.Need-write-marks-requires
-write-marks-requires c κs = search needs
-
-bits-before-requires : tie.Need-bits-before-requires
-bits-before-requires c κs = search needs
-
-same-length : tie.Need-same-length
-same-length c = search needs
-
 returns : tie.Need-returns
 returns c =
     let s = c .before .before .before .before .before .before .before .before .before in
@@ -28,4 +19,4 @@ returns c =
     )
 
 pub mark-spec : {M : Type 1} → statement M
-mark-spec = tie.close (tie.spec write-marks-requires bits-before-requires same-length returns)
+mark-spec = tie.close (tie.spec (λ c κs. search needs) (λ c κs. search needs) (λ c. search needs) returns)

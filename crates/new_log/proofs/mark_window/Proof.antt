@@ -28,9 +28,6 @@ loop-holds c =
     let l = s .args .log .now in
     (begins always (s .args .base) (now (s .args .map)) (versions l) (rest l (c .first .result)) (c .first .ensures .all), c .first .ensures .stands)
 
-put-page-requires : tie.Need-put-page-requires Inv-loop μ-loop
-put-page-requires c κs = search needs
-
 next-requires : tie.Need-next-requires Inv-loop μ-loop
 next-requires c κs = (c .before .before .before .before .if1 .taken, c .before .before .before .before .before .before .loop .inv .1)
 
@@ -68,7 +65,7 @@ mark-window-spec =
     μ-loop
     first-requires
     loop-holds
-    put-page-requires
+    (λ c κs. search needs)
     next-requires
     loop-less
     loop-again

@@ -22,16 +22,10 @@ loop-holds c = (ap (λ (k : Chain). k .largest / 512) (c .before .before .pre), 
 window-next-requires : tie.Need-window-next-requires Inv-loop μ-loop
 window-next-requires c κs = (c .before .before .before .before .pre, omega (arith, c .loop-test .taken, c .before .loop .inv .0))
 
-enum-known-p : tie.Need-enum-known-p Inv-loop μ-loop
-enum-known-p c = search needs
-
 returns : tie.Need-returns Inv-loop μ-loop
 returns c =
     let k = c .before .before .before .before .before .loop in
     found (c .before .before .before .before .before .before .before .before .args .log .now) (c .before .before .before .before .before .before .before .before .args .from) (k .base) (k .inv .1) (k .inv .2) 131072 _ (sym (c .before .before .before .window-next .ensures) ∙ c .before .p .given .1)
-
-enum-told : tie.Need-enum-told Inv-loop μ-loop
-enum-told c = search needs
 
 add-base : tie.Need-add-base Inv-loop μ-loop
 add-base c = omega (arith, c .before .before .before .loop-test .taken)
@@ -59,9 +53,9 @@ next-logged-spec =
     μ-loop
     loop-holds
     window-next-requires
-    enum-known-p
+    (λ c. search needs)
     returns
-    enum-told
+    (λ c. search needs)
     add-base
     loop-less
     loop-again

@@ -7,26 +7,11 @@ use Rattle.new_log.specs.Windows.{inWindow, differs}
 use Rattle.new_log.proofs.put_differs.Statement.{statement}
 use Rattle.new_log.proofs.put_differs.Tie as tie
 
-has-page-requires : tie.Need-has-page-requires
-has-page-requires c κs = search needs
-
-is-same-requires : tie.Need-is-same-requires
-is-same-requires c κs = search needs
-
-put-page-requires : tie.Need-put-page-requires
-put-page-requires c κs = search needs
-
-same-length : tie.Need-same-length
-same-length c = search needs
-
 returns : tie.Need-returns
 returns c =
     let s = c .before .before .before .before .before .before .before .before .before .before .before in
     c .before .before .put-page .ensures
     ∙ ap (λ (b : Bool). inWindow (s .args .map .now) (s .args .base) (s .args .page) (not b)) (c .before .before .before .before .is-same .ensures)
-
-same-length-2 : tie.Need-same-length-2
-same-length-2 c = search needs
 
 returns-2 : tie.Need-returns-2
 unfolding inWindow
@@ -40,10 +25,10 @@ pub put-differs-spec : {M : Type 1} → statement M
 put-differs-spec =
     tie.close
     (tie.spec
-    has-page-requires
-    is-same-requires
-    put-page-requires
-    same-length
+    (λ c κs. search needs)
+    (λ c κs. search needs)
+    (λ c κs. search needs)
+    (λ c. search needs)
     returns
-    same-length-2
+    (λ c. search needs)
     returns-2)

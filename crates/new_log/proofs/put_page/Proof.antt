@@ -26,14 +26,8 @@ returns c = sym (case (c .before .before) (lt-leb (c .before .before .args .base
 returns-2 : tie.Need-returns-2
 returns-2 c = sym (case (c .before .before .before) (le-leb _ _ (c .before .if1 .left)) (le-ltb _ _ (c .if2 .taken)))
 
-put-bit-requires : tie.Need-put-bit-requires
-put-bit-requires c κs = search needs
-
-same-length : tie.Need-same-length
-same-length c = search needs
-
 returns-3 : tie.Need-returns-3
 returns-3 c = c .before .before .put-bit .ensures ∙ sym (case (c .before .before .before .before .before .before .before) (le-leb _ _ (c .before .before .before .before .before .if1 .left)) (lt-ltb _ _ (c .before .before .before .before .if2 .left)))
 
 pub put-page-spec : {M : Type 1} → statement M
-put-page-spec = tie.close (tie.spec returns returns-2 put-bit-requires same-length returns-3)
+put-page-spec = tie.close (tie.spec returns returns-2 (λ c κs. search needs) (λ c. search needs) returns-3)

@@ -13,25 +13,10 @@ use Rattle.new_log.proofs.read.Tie as tie
 returns : tie.Need-returns
 returns c = let l = c .before .before .args .log .now in sym (ap (λ (v : Verdict). headed v (chainOf l)) (short l (c .if1 .taken)))
 
-sub-is-log-base : tie.Need-sub-is-log-base
-sub-is-log-base c = search needs
-
-part-is-log-base-start : tie.Need-part-is-log-base-start
-part-is-log-base-start c = search needs
-
-part-is-log-base-end : tie.Need-part-is-log-base-end
-part-is-log-base-end c = search needs
-
-is-log-base-requires : tie.Need-is-log-base-requires
-is-log-base-requires c κs = search needs
-
 returns-2 : tie.Need-returns-2
 returns-2 c =
     let l = c .before .before .before .before .before .args .log .now in
     sym (ap (λ (v : Verdict). headed v (chainOf l)) (bad-base l (c .before .before .before .if1 .left) (sym (c .before .is-log-base .ensures) ∙ not-true _ (c .if2 .taken))))
-
-chain-of-requires : tie.Need-chain-of-requires
-chain-of-requires c κs = search needs
 
 returns-3 : tie.Need-returns-3
 returns-3 c =
@@ -51,11 +36,11 @@ read-spec =
     tie.close
     (tie.spec
     returns
-    sub-is-log-base
-    part-is-log-base-start
-    part-is-log-base-end
-    is-log-base-requires
+    (λ c. search needs)
+    (λ c. search needs)
+    (λ c. search needs)
+    (λ c κs. search needs)
     returns-2
-    chain-of-requires
+    (λ c κs. search needs)
     returns-3
     returns-4)

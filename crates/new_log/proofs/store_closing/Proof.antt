@@ -17,26 +17,11 @@ use Rattle.new_log.proofs.store_closing.Tie as tie
 store-requires : tie.Need-store-requires
 store-requires c κs = let s = c .before .before .before in (s .pre .1 .1, log-long (s .args .log .now) (s .pre .0))
 
-sub-renew : tie.Need-sub-renew
-sub-renew c = search needs
-
-part-renew-start : tie.Need-part-renew-start
-part-renew-start c = search needs
-
-part-renew-end : tie.Need-part-renew-end
-part-renew-end c = search needs
-
 cast-renew : tie.Need-cast-renew
 cast-renew c =
     let s = c .before .before .before .before .before .before .before .before in
     let l = s .args .log .now in
     omega (arith, ap (λ (k : Chain). k .bins) (s .pre .1 .0), bins-sized l (some-counted l (s .pre .0)) .limit)
-
-renew-requires : tie.Need-renew-requires
-renew-requires c κs = search needs
-
-same-length : tie.Need-same-length
-same-length c = search needs
 
 returns : tie.Need-returns
 unfolding closingOf
@@ -59,10 +44,10 @@ store-closing-spec =
     tie.close
     (tie.spec
     store-requires
-    sub-renew
-    part-renew-start
-    part-renew-end
+    (λ c. search needs)
+    (λ c. search needs)
+    (λ c. search needs)
     cast-renew
-    renew-requires
-    same-length
+    (λ c κs. search needs)
+    (λ c. search needs)
     returns)

@@ -7,18 +7,6 @@ use borrow.Author.Needs.{needs}
 use Rattle.new_log.proofs.window_count.Statement.{statement}
 use Rattle.new_log.proofs.window_count.Tie as tie
 
-slice-aggregate-mark-window : tie.Need-slice-aggregate-mark-window
-slice-aggregate-mark-window c = search needs
-
-mark-window-requires : tie.Need-mark-window-requires
-mark-window-requires c κs = search needs
-
-slice-aggregate-bits-before : tie.Need-slice-aggregate-bits-before
-slice-aggregate-bits-before c = search needs
-
-bits-before-requires : tie.Need-bits-before-requires
-bits-before-requires c κs = search needs
-
 returns : tie.Need-returns
 returns c =
     let s = c .before .before .before .before .before .before in
@@ -30,8 +18,8 @@ pub window-count-spec : {M : Type 1} → statement M
 window-count-spec =
     tie.close
     (tie.spec
-    slice-aggregate-mark-window
-    mark-window-requires
-    slice-aggregate-bits-before
-    bits-before-requires
+    (λ c. search needs)
+    (λ c κs. search needs)
+    (λ c. search needs)
+    (λ c κs. search needs)
     returns)

@@ -11,18 +11,6 @@ use Rattle.new_log.proofs.Ins.{bits-in}
 use Rattle.new_log.proofs.window_in.Statement.{statement}
 use Rattle.new_log.proofs.window_in.Tie as tie
 
-slice-aggregate-differ-window : tie.Need-slice-aggregate-differ-window
-slice-aggregate-differ-window c = search needs
-
-differ-window-requires : tie.Need-differ-window-requires
-differ-window-requires c κs = search needs
-
-slice-aggregate-bits-before : tie.Need-slice-aggregate-bits-before
-slice-aggregate-bits-before c = search needs
-
-bits-before-requires : tie.Need-bits-before-requires
-bits-before-requires c κs = search needs
-
 returns : tie.Need-returns
 returns c =
     let s = c .before .before .before .before .before .before .before in
@@ -35,8 +23,8 @@ pub window-in-spec : {M : Type 1} → statement M
 window-in-spec =
     tie.close
     (tie.spec
-    slice-aggregate-differ-window
-    differ-window-requires
-    slice-aggregate-bits-before
-    bits-before-requires
+    (λ c. search needs)
+    (λ c κs. search needs)
+    (λ c. search needs)
+    (λ c κs. search needs)
     returns)

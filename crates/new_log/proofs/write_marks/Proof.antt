@@ -17,12 +17,6 @@ use Rattle.new_log.proofs.write_marks.Tie as tie
 clear-requires : tie.Need-clear-requires
 clear-requires c κs = let s = c .before .before .before .before in omega (arith, s .pre .1, ap (λ (k : Chain). k .largest / 512 / 8) (s .pre .0))
 
-sub-mark-window : tie.Need-sub-mark-window
-sub-mark-window c = search needs
-
-part-mark-window-start : tie.Need-part-mark-window-start
-part-mark-window-start c = search needs
-
 part-mark-window-end : tie.Need-part-mark-window-end
 part-mark-window-end c =
     let s = c .before .before .before .before .before .before .before in
@@ -32,9 +26,6 @@ part-mark-window-end c =
 
 mark-window-requires : tie.Need-mark-window-requires
 mark-window-requires c κs = c .before .before .before .before .before .before .before .before .pre .0
-
-same-length : tie.Need-same-length
-same-length c = search needs
 
 returns : tie.Need-returns
 unfolding zeros
@@ -56,9 +47,9 @@ write-marks-spec =
     tie.close
     (tie.spec
     clear-requires
-    sub-mark-window
-    part-mark-window-start
+    (λ c. search needs)
+    (λ c. search needs)
     part-mark-window-end
     mark-window-requires
-    same-length
+    (λ c. search needs)
     returns)

@@ -54,9 +54,6 @@ returns c =
     let n = ap (λ (b : ℕ). b / 512) (c .before .before .before .before .before .bins-size .ensures .0) in
     sym (in-false (isLogged (s .args .log .now)) (logged (s .args .log .now)) (s .args .hive .now) (c .before .before .before .loop .page) (pageCount (s .args .log .now)) (omega (arith, n, c .before .before .loop-test .taken)) (sym (c .before .is-in .ensures) ∙ not-true _ (c .if1 .taken)))
 
-bit-of-requires : tie.Need-bit-of-requires Inv-loop μ-loop
-bit-of-requires c κs = search needs
-
 mul-from : tie.Need-mul-from Inv-loop μ-loop
 mul-from c = omega arith
 
@@ -96,7 +93,7 @@ all-in-spec =
     loop-holds
     is-in-requires
     returns
-    bit-of-requires
+    (λ c κs. search needs)
     mul-from
     add-from
     add-page

@@ -7,50 +7,14 @@ use borrow.Author.Needs.{needs}
 use Rattle.old_log.proofs.head_flaw.Statement.{statement}
 use Rattle.old_log.proofs.head_flaw.Tie as tie
 
-flawed-requires : tie.Need-flawed-requires
-flawed-requires c κs = search needs
-
 returns : tie.Need-returns
 returns c = c .flawed .ensures ∙ sym (short (c .before .before .before .args .log .now) (c .before .if1 .taken))
-
-sub-is-log-base : tie.Need-sub-is-log-base
-sub-is-log-base c = search needs
-
-part-is-log-base-start : tie.Need-part-is-log-base-start
-part-is-log-base-start c = search needs
-
-part-is-log-base-end : tie.Need-part-is-log-base-end
-part-is-log-base-end c = search needs
-
-is-log-base-requires : tie.Need-is-log-base-requires
-is-log-base-requires c κs = search needs
-
-flawed-requires-2 : tie.Need-flawed-requires-2
-flawed-requires-2 c κs = search needs
 
 returns-2 : tie.Need-returns-2
 returns-2 c = c .flawed2 .ensures ∙ sym (bad-base (c .before .before .before .before .before .before .args .log .now) (c .before .before .before .before .if1 .left) (sym (c .before .before .is-log-base .ensures) ∙ not-true _ (c .before .if2 .taken)))
 
-bins-size-requires : tie.Need-bins-size-requires
-bins-size-requires c κs = search needs
-
-add-if3 : tie.Need-add-if3
-add-if3 c = search needs
-
-flawed-requires-3 : tie.Need-flawed-requires-3
-flawed-requires-3 c κs = search needs
-
 returns-3 : tie.Need-returns-3
 returns-3 c = c .flawed3 .ensures ∙ sym (cut-map (c .before .before .before .before .before .before .before .before .args .log .now) (c .before .before .before .before .before .before .if1 .left) (sym (c .before .before .before .before .is-log-base .ensures) ∙ not-false _ (c .before .before .before .if2 .left)) (omega (arith, c .before .before .bins-size .ensures .0)))
-
-slice-aggregate-stands-at : tie.Need-slice-aggregate-stands-at
-slice-aggregate-stands-at c = search needs
-
-stands-at-requires : tie.Need-stands-at-requires
-stands-at-requires c κs = search needs
-
-flawed-requires-4 : tie.Need-flawed-requires-4
-flawed-requires-4 c κs = search needs
 
 returns-4 : tie.Need-returns-4
 returns-4 c = c .flawed4 .ensures ∙ sym (by-dirt (c .before .before .before .before .before .before .before .before .before .before .before .args .log .now) (c .before .before .before .before .before .before .before .before .before .if1 .left) (sym (c .before .before .before .before .before .before .before .is-log-base .ensures) ∙ not-false _ (c .before .before .before .before .before .before .if2 .left)) (omega (arith, c .before .before .before .before .before .bins-size .ensures .0)) ∙ fails _ (sym (c .before .before .stands-at .ensures) ∙ not-true _ (c .before .if4 .taken)))
@@ -62,20 +26,20 @@ pub head-flaw-spec : {M : Type 1} → statement M
 head-flaw-spec =
     tie.close
     (tie.spec
-    flawed-requires
+    (λ c κs. search needs)
     returns
-    sub-is-log-base
-    part-is-log-base-start
-    part-is-log-base-end
-    is-log-base-requires
-    flawed-requires-2
+    (λ c. search needs)
+    (λ c. search needs)
+    (λ c. search needs)
+    (λ c κs. search needs)
+    (λ c κs. search needs)
     returns-2
-    bins-size-requires
-    add-if3
-    flawed-requires-3
+    (λ c κs. search needs)
+    (λ c. search needs)
+    (λ c κs. search needs)
     returns-3
-    slice-aggregate-stands-at
-    stands-at-requires
-    flawed-requires-4
+    (λ c. search needs)
+    (λ c κs. search needs)
+    (λ c κs. search needs)
     returns-4
     returns-5)

@@ -27,9 +27,6 @@ held c =
     let s = c .before .before .before .before .before in
     omega (arith, s .pre .1 .1, logged-fits (s .args .log .now) (s .pre .0) (s .args .page) (marked (c .before)))
 
-is-logged-requires : tie.Need-is-logged-requires
-is-logged-requires c κs = search needs
-
 returns : tie.Need-returns
 returns c =
     let s = c .before .before .before .before in
@@ -44,29 +41,14 @@ page-place-requires c κs =
 add-same : tie.Need-add-same
 add-same c = omega (arith, inside c)
 
-sub-same : tie.Need-sub-same
-sub-same c = search needs
-
-part-same-start : tie.Need-part-same-start
-part-same-start c = search needs
-
 part-same-end : tie.Need-part-same-end
 part-same-end c = omega (arith, inside c)
 
 add-same-2 : tie.Need-add-same-2
 add-same-2 c = omega (arith, held (c .before))
 
-sub-same-2 : tie.Need-sub-same-2
-sub-same-2 c = search needs
-
-part-same-start-2 : tie.Need-part-same-start-2
-part-same-start-2 c = search needs
-
 part-same-end-2 : tie.Need-part-same-end-2
 part-same-end-2 c = omega (arith, held (c .before))
-
-same-requires : tie.Need-same-requires
-same-requires c κs = search needs
 
 returns-2 : tie.Need-returns-2
 unfolding page logged
@@ -86,16 +68,16 @@ pub is-in-spec : {M : Type 1} → statement M
 is-in-spec =
     tie.close
     (tie.spec
-    is-logged-requires
+    (λ c κs. search needs)
     returns
     page-place-requires
     add-same
-    sub-same
-    part-same-start
+    (λ c. search needs)
+    (λ c. search needs)
     part-same-end
     add-same-2
-    sub-same-2
-    part-same-start-2
+    (λ c. search needs)
+    (λ c. search needs)
     part-same-end-2
-    same-requires
+    (λ c κs. search needs)
     returns-2)

@@ -8,17 +8,11 @@ use borrow.Author.Needs.{needs}
 use Rattle.old_log.proofs.is_log_base.Statement.{statement}
 use Rattle.old_log.proofs.is_log_base.Tie as tie
 
-u32-at-requires : tie.Need-u32-at-requires
-u32-at-requires c κs = search needs
-
 returns : tie.Need-returns
 returns c = sym (zero-base (c .before .before .before .args .s .now) (sym (c .before .u32-at .ensures) ∙ c .if1 .taken))
 
 returns-2 : tie.Need-returns-2
 returns-2 c = sym (high-base (c .before .before .before .before .args .s .now) (omega (arith, c .before .before .u32-at .ensures)))
-
-usable-requires : tie.Need-usable-requires
-usable-requires c κs = search needs
 
 returns-3 : tie.Need-returns-3
 returns-3 c =
@@ -26,9 +20,6 @@ returns-3 c =
     let t = c .before .before .before .before .u32-at .ensures in
     let u = sym (not-true _ (c .if3 .taken)) ∙ c .before .usable .ensures ∙ ap (usable s) t in
     ap (λ (b : Bool). b && isSettled s) u ∙ sym (by-usable s (λ z. c .before .before .before .if1 .left (t ∙ z)) (omega (arith, t)))
-
-is-settled-requires : tie.Need-is-settled-requires
-is-settled-requires c κs = search needs
 
 returns-4 : tie.Need-returns-4
 returns-4 c =
@@ -41,10 +32,10 @@ pub is-log-base-spec : {M : Type 1} → statement M
 is-log-base-spec =
     tie.close
     (tie.spec
-    u32-at-requires
+    (λ c κs. search needs)
     returns
     returns-2
-    usable-requires
+    (λ c κs. search needs)
     returns-3
-    is-settled-requires
+    (λ c κs. search needs)
     returns-4)

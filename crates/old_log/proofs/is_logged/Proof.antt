@@ -10,11 +10,8 @@ use Rattle.old_log.proofs.is_logged.Tie as tie
 map-of-requires : tie.Need-map-of-requires
 map-of-requires c κs = head-of (c .before .args .log .now) (c .before .pre)
 
-is-marked-requires : tie.Need-is-marked-requires
-is-marked-requires c κs = search needs
-
 returns : tie.Need-returns
 returns c = c .is-marked .ensures ∙ ap (λ (m : List ℕ). isMarked m (c .before .before .before .args .page)) (c .before .map-of .ensures)
 
 pub is-logged-spec : {M : Type 1} → statement M
-is-logged-spec = tie.close (tie.spec map-of-requires is-marked-requires returns)
+is-logged-spec = tie.close (tie.spec map-of-requires (λ c κs. search needs) returns)

@@ -9,15 +9,6 @@ use borrow.Author.Needs.{needs}
 use Rattle.old_log.proofs.log_test.Statement.{statement}
 use Rattle.old_log.proofs.log_test.Tie as tie
 
-head-flaw-requires : tie.Need-head-flaw-requires
-head-flaw-requires c κs = search needs
-
-enum-known-f : tie.Need-enum-known-f
-enum-known-f c = search needs
-
-enum-told : tie.Need-enum-told
-enum-told c = search needs
-
 logged-count-requires : tie.Need-logged-count-requires
 logged-count-requires c κs = sym (c .before .before .head-flaw .ensures) ∙ c .enum-told .given .1
 
@@ -46,9 +37,9 @@ pub log-test-spec : {M : Type 1} → statement M
 log-test-spec =
     tie.close
     (tie.spec
-    head-flaw-requires
-    enum-known-f
-    enum-told
+    (λ c κs. search needs)
+    (λ c. search needs)
+    (λ c. search needs)
     logged-count-requires
     pages-fit-requires
     returns

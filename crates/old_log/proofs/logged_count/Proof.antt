@@ -7,18 +7,12 @@ use borrow.Author.Needs.{needs}
 use Rattle.old_log.proofs.logged_count.Statement.{statement}
 use Rattle.old_log.proofs.logged_count.Tie as tie
 
-map-of-requires : tie.Need-map-of-requires
-map-of-requires c κs = search needs
-
 bins-size-requires : tie.Need-bins-size-requires
 bins-size-requires c κs = head-facts (c .before .before .args .log .now) (c .before .before .pre) .long
-
-bits-before-requires : tie.Need-bits-before-requires
-bits-before-requires c κs = search needs
 
 returns : tie.Need-returns
 returns c = c .bits-before .ensures ∙ ap₂ (λ (m : List ℕ) (n : ℕ). bitsBefore m (n / 512)) (c .before .before .map-of .ensures) (c .before .bins-size .ensures .0)
 
 pub logged-count-spec : {M : Type 1} → statement M
 logged-count-spec =
-    tie.close (tie.spec map-of-requires bins-size-requires bits-before-requires returns)
+    tie.close (tie.spec (λ c κs. search needs) bins-size-requires (λ c κs. search needs) returns)

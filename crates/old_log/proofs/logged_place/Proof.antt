@@ -26,9 +26,6 @@ low c =
 map-of-requires : tie.Need-map-of-requires
 map-of-requires c κs = head-of (c .before .args .log .now) (c .before .pre .0)
 
-bits-before-requires : tie.Need-bits-before-requires
-bits-before-requires c κs = search needs
-
 pages-at-requires : tie.Need-pages-at-requires
 pages-at-requires c κs = head-of (c .before .before .before .args .log .now) (c .before .before .before .pre .0)
 
@@ -44,4 +41,4 @@ returns c = ap₂ (λ (a n : ℕ). a + 512 * n) (c .pages-at .ensures) (before (
 pub logged-place-spec : {M : Type 1} → statement M
 logged-place-spec =
     tie.close
-    (tie.spec map-of-requires bits-before-requires pages-at-requires mul-t6 add-t7 returns)
+    (tie.spec map-of-requires (λ c κs. search needs) pages-at-requires mul-t6 add-t7 returns)

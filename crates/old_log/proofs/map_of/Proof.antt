@@ -7,15 +7,6 @@ use Rattle.old_log.proofs.map_of.Tie as tie
 bins-size-requires : tie.Need-bins-size-requires
 bins-size-requires c κs = head-facts (c .before .args .log .now) (c .before .pre) .long
 
-add-end : tie.Need-add-end
-add-end c = search needs
-
-sub-result : tie.Need-sub-result
-sub-result c = search needs
-
-part-result-start : tie.Need-part-result-start
-part-result-start c = search needs
-
 part-result-end : tie.Need-part-result-end
 part-result-end c = omega (arith, head-facts (c .before .before .args .log .now) (c .before .before .pre) .map-fits)
 
@@ -25,4 +16,4 @@ returns c = map-part (c .before .before .before .args .log .now) (c .before .bin
 pub map-of-spec : {M : Type 1} → statement M
 map-of-spec =
     tie.close
-    (tie.spec bins-size-requires add-end sub-result part-result-start part-result-end returns)
+    (tie.spec bins-size-requires (λ c. search needs) (λ c. search needs) (λ c. search needs) part-result-end returns)

@@ -12,26 +12,11 @@ use Rattle.old_log.proofs.mark.Tie as tie
 bins-size-requires : tie.Need-bins-size-requires
 bins-size-requires c κs = let s = c .before .before in head-facts (s .args .log .now) (s .pre .0) .long
 
-map-of-requires : tie.Need-map-of-requires
-map-of-requires c κs = search needs
-
-sub-copy-all : tie.Need-sub-copy-all
-sub-copy-all c = search needs
-
-part-copy-all-start : tie.Need-part-copy-all-start
-part-copy-all-start c = search needs
-
-part-copy-all-end : tie.Need-part-copy-all-end
-part-copy-all-end c = search needs
-
 copy-all-requires : tie.Need-copy-all-requires
 copy-all-requires c κs =
     let s = c .before .before .before .before .before in
     let l = s .args .log .now in
     simp (length-take, length-drop) (omega (arith, ap length (c .before .map-of .ensures), map-length l (s .pre .0), c .before .before .bins-size .ensures .0, s .pre .1))
-
-same-length : tie.Need-same-length
-same-length c = search needs
 
 returns : tie.Need-returns
 returns c =
@@ -46,10 +31,10 @@ mark-spec =
     tie.close
     (tie.spec
     bins-size-requires
-    map-of-requires
-    sub-copy-all
-    part-copy-all-start
-    part-copy-all-end
+    (λ c κs. search needs)
+    (λ c. search needs)
+    (λ c. search needs)
+    (λ c. search needs)
     copy-all-requires
-    same-length
+    (λ c. search needs)
     returns)

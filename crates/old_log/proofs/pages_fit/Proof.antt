@@ -11,12 +11,6 @@ use borrow.Author.Needs.{needs}
 use Rattle.old_log.proofs.pages_fit.Statement.{statement}
 use Rattle.old_log.proofs.pages_fit.Tie as tie
 
-returns : tie.Need-returns
-returns c = search needs
-
-pages-at-requires : tie.Need-pages-at-requires
-pages-at-requires c κs = search needs
-
 mul-result : tie.Need-mul-result
 mul-result c = let s = c .before .before .before in omega (arith, small (s .args .log .now) (s .pre .0), s .pre .1)
 
@@ -32,4 +26,4 @@ returns-2 c =
     ∙ sym (ap (λ (b : Bool). b || leb (pagesAt l + 512 * loggedCount l) (length l)) some)
 
 pub pages-fit-spec : {M : Type 1} → statement M
-pages-fit-spec = tie.close (tie.spec returns pages-at-requires mul-result add-result returns-2)
+pages-fit-spec = tie.close (tie.spec (λ c. search needs) (λ c κs. search needs) mul-result add-result returns-2)

@@ -54,9 +54,6 @@ put-in-requires c κs =
     let s = c .before .before .before .before .before .before .before .before in
     (s .pre .0, (omega (arith, s .pre .1, c .before .before .loop .inv .2), c .before .before .loop .inv .1))
 
-bit-of-requires : tie.Need-bit-of-requires Inv-loop μ-loop
-bit-of-requires c κs = search needs
-
 mul-from : tie.Need-mul-from Inv-loop μ-loop
 mul-from c = omega arith
 
@@ -107,7 +104,7 @@ put-all-spec =
     pages-at-requires
     loop-holds
     put-in-requires
-    bit-of-requires
+    (λ c κs. search needs)
     mul-from
     add-from
     add-page

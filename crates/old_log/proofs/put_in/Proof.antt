@@ -27,9 +27,6 @@ store-requires c κs =
       omega (arith, s .pre .1 .1, logged-fits l (s .pre .0) (s .args .page) m),
     )
 
-same-length : tie.Need-same-length
-same-length c = search needs
-
 returns : tie.Need-returns
 unfolding logged
 returns c =
@@ -56,6 +53,6 @@ put-in-spec =
     is-logged-requires
     page-place-requires
     store-requires
-    same-length
+    (λ c. search needs)
     returns
     returns-2)

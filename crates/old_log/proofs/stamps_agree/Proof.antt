@@ -12,41 +12,8 @@ use borrow.Author.Needs.{needs}
 use Rattle.old_log.proofs.stamps_agree.Statement.{statement}
 use Rattle.old_log.proofs.stamps_agree.Tie as tie
 
-sub-u64-at : tie.Need-sub-u64-at
-sub-u64-at c = search needs
-
-part-u64-at-start : tie.Need-part-u64-at-start
-part-u64-at-start c = search needs
-
 part-u64-at-end : tie.Need-part-u64-at-end
 part-u64-at-end c = let s = c .before .before in omega (arith, head-facts (s .args .log .now) (head-of (s .args .log .now) (s .pre .0)) .long)
-
-u64-at-requires : tie.Need-u64-at-requires
-u64-at-requires c κs = search needs
-
-sub-usable : tie.Need-sub-usable
-sub-usable c = search needs
-
-part-usable-start : tie.Need-part-usable-start
-part-usable-start c = search needs
-
-part-usable-end : tie.Need-part-usable-end
-part-usable-end c = search needs
-
-usable-requires : tie.Need-usable-requires
-usable-requires c κs = search needs
-
-sub-u64-at-2 : tie.Need-sub-u64-at-2
-sub-u64-at-2 c = search needs
-
-part-u64-at-start-2 : tie.Need-part-u64-at-start-2
-part-u64-at-start-2 c = search needs
-
-part-u64-at-end-2 : tie.Need-part-u64-at-end-2
-part-u64-at-end-2 c = search needs
-
-u64-at-requires-2 : tie.Need-u64-at-requires-2
-u64-at-requires-2 c κs = search needs
 
 returns : tie.Need-returns
 returns c =
@@ -54,20 +21,11 @@ returns c =
     let u = sym (c .before .before .before .usable .ensures) ∙ c .before .before .if1 .taken in
     ap₂ eqb (c .u64-at2 .ensures) (c .before .before .before .before .before .u64-at .ensures) ∙ sym (by-base (s .args .hive .now) (s .args .log .now) u)
 
-sub-u64-at-3 : tie.Need-sub-u64-at-3
-sub-u64-at-3 c = search needs
-
-part-u64-at-start-3 : tie.Need-part-u64-at-start-3
-part-u64-at-start-3 c = search needs
-
 part-u64-at-end-3 : tie.Need-part-u64-at-end-3
 part-u64-at-end-3 c =
     let s = c .before .before .before .before .before .before .before in
     let size = head-facts (s .args .log .now) (head-of (s .args .log .now) (s .pre .0)) .size in
     omega (arith, size .some, size .pages, s .pre .1)
-
-u64-at-requires-3 : tie.Need-u64-at-requires-3
-u64-at-requires-3 c κs = search needs
 
 returns-2 : tie.Need-returns-2
 unfolding page
@@ -78,9 +36,6 @@ returns-2 c =
     let u = sym (c .before .before .before .before .usable .ensures) ∙ c .before .before .before .if1 .left in
     let n = ne-eqb (binStamp (page h 0)) (stampOf (sector l)) (λ z. c .if2 .taken (c .before .u64-at3 .ensures ∙ z ∙ sym (c .before .before .before .before .before .before .u64-at .ensures))) in
     sym (by-bin h l u ∙ ap (λ (b : Bool). b && zeroAgrees l) n)
-
-zero-agrees-requires : tie.Need-zero-agrees-requires
-zero-agrees-requires c κs = search needs
 
 returns-3 : tie.Need-returns-3
 unfolding page
@@ -96,23 +51,23 @@ pub stamps-agree-spec : {M : Type 1} → statement M
 stamps-agree-spec =
     tie.close
     (tie.spec
-    sub-u64-at
-    part-u64-at-start
+    (λ c. search needs)
+    (λ c. search needs)
     part-u64-at-end
-    u64-at-requires
-    sub-usable
-    part-usable-start
-    part-usable-end
-    usable-requires
-    sub-u64-at-2
-    part-u64-at-start-2
-    part-u64-at-end-2
-    u64-at-requires-2
+    (λ c κs. search needs)
+    (λ c. search needs)
+    (λ c. search needs)
+    (λ c. search needs)
+    (λ c κs. search needs)
+    (λ c. search needs)
+    (λ c. search needs)
+    (λ c. search needs)
+    (λ c κs. search needs)
     returns
-    sub-u64-at-3
-    part-u64-at-start-3
+    (λ c. search needs)
+    (λ c. search needs)
     part-u64-at-end-3
-    u64-at-requires-3
+    (λ c κs. search needs)
     returns-2
-    zero-agrees-requires
+    (λ c κs. search needs)
     returns-3)

@@ -25,9 +25,6 @@ inside c =
     let s = c .before .before .before .before in
     omega (arith, c .logged-place .ensures, logged-fits (s .args .log .now) (s .pre) first (marked (c .before)))
 
-is-logged-requires : tie.Need-is-logged-requires
-is-logged-requires c κs = search needs
-
 returns : tie.Need-returns
 returns c =
     let l = c .before .before .before .args .log .now in
@@ -39,29 +36,11 @@ logged-place-requires c κs = (c .before .before .before .pre, marked c)
 add-u64-at : tie.Need-add-u64-at
 add-u64-at c = omega (arith, inside c)
 
-sub-u64-at : tie.Need-sub-u64-at
-sub-u64-at c = search needs
-
-part-u64-at-start : tie.Need-part-u64-at-start
-part-u64-at-start c = search needs
-
 part-u64-at-end : tie.Need-part-u64-at-end
 part-u64-at-end c = omega (arith, inside c)
 
-u64-at-requires : tie.Need-u64-at-requires
-u64-at-requires c κs = search needs
-
-sub-u64-at-2 : tie.Need-sub-u64-at-2
-sub-u64-at-2 c = search needs
-
-part-u64-at-start-2 : tie.Need-part-u64-at-start-2
-part-u64-at-start-2 c = search needs
-
 part-u64-at-end-2 : tie.Need-part-u64-at-end-2
 part-u64-at-end-2 c = let s = c .before .before .before .before .before .before in omega (arith, head-facts (s .args .log .now) (head-of (s .args .log .now) (s .pre)) .long)
-
-u64-at-requires-2 : tie.Need-u64-at-requires-2
-u64-at-requires-2 c κs = search needs
 
 returns-2 : tie.Need-returns-2
 unfolding logged
@@ -78,16 +57,16 @@ pub zero-agrees-spec : {M : Type 1} → statement M
 zero-agrees-spec =
     tie.close
     (tie.spec
-    is-logged-requires
+    (λ c κs. search needs)
     returns
     logged-place-requires
     add-u64-at
-    sub-u64-at
-    part-u64-at-start
+    (λ c. search needs)
+    (λ c. search needs)
     part-u64-at-end
-    u64-at-requires
-    sub-u64-at-2
-    part-u64-at-start-2
+    (λ c κs. search needs)
+    (λ c. search needs)
+    (λ c. search needs)
     part-u64-at-end-2
-    u64-at-requires-2
+    (λ c κs. search needs)
     returns-2)

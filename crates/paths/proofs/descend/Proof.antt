@@ -18,56 +18,20 @@ abbrev μ-loop : tie.MeasureT-loop
 loop-holds : tie.Need-loop-holds Inv-loop μ-loop
 loop-holds c = descended-start _ _ _ _ (c .before .before .pre .0) (c .before .before .pre .1)
 
-part-end-requires : tie.Need-part-end-requires Inv-loop μ-loop
-part-end-requires c κs = search needs
-
 key-fields-requires : tie.Need-key-fields-requires Inv-loop μ-loop
 key-fields-requires c κs = key-room _ _ _ _ (c .before .before .loop .inv .tested)
-
-mul-below : tie.Need-mul-below Inv-loop μ-loop
-mul-below c = search needs
-
-sub-below : tie.Need-sub-below Inv-loop μ-loop
-sub-below c = search needs
-
-part-below-start : tie.Need-part-below-start Inv-loop μ-loop
-part-below-start c = search needs
 
 part-below-end : tie.Need-part-below-end Inv-loop μ-loop
 part-below-end c = end-within _ _ _ (c .before .before .loop-test .taken) (c .before .part-end .ensures) (c .before .before .before .loop .inv .good)
 
-below-requires : tie.Need-below-requires Inv-loop μ-loop
-below-requires c κs = search needs
-
-enum-told : tie.Need-enum-told Inv-loop μ-loop
-enum-told c = search needs
-
 returns : tie.Need-returns Inv-loop μ-loop
 returns c = let l = c .before .before .before .before .before .before .before .loop in sym (descended-missing _ _ _ _ _ _ (l .inv) _ (c .before .before .before .before .before .before .loop-test .taken) (c .before .before .before .before .before .part-end .ensures) _ (c .before .before .before .before .key-fields .ensures) _ (c .before .before .below .ensures) (c .enum-told .given .1))
-
-enum-known-f : tie.Need-enum-known-f Inv-loop μ-loop
-enum-known-f c = search needs
-
-refused-requires : tie.Need-refused-requires Inv-loop μ-loop
-refused-requires c κs = search needs
 
 returns-2 : tie.Need-returns-2 Inv-loop μ-loop
 returns-2 c = let l = c .before .before .before .before .before .before .before .before .before .loop in ap Faulty (c .refused .ensures) ∙ sym (descended-faulty _ _ _ _ _ _ (l .inv) _ (c .before .before .before .before .before .before .before .before .loop-test .taken) (c .before .before .before .before .before .before .before .part-end .ensures) _ (c .before .before .before .before .before .before .key-fields .ensures) _ (c .before .before .before .before .below .ensures) (c .before .before .f .given .1))
 
-enum-known-o : tie.Need-enum-known-o Inv-loop μ-loop
-enum-known-o c = search needs
-
-add-start : tie.Need-add-start Inv-loop μ-loop
-add-start c = search needs
-
-loop-less : tie.Need-loop-less Inv-loop μ-loop
-loop-less c = search needs
-
 loop-again : tie.Need-loop-again Inv-loop μ-loop
 loop-again c = let l = c .before .before .before .before .before .before .before .before .before .loop in descended-cut _ _ _ _ _ _ (l .inv) _ (c .before .before .before .before .before .before .before .before .loop-test .taken) (c .before .before .before .before .before .before .before .part-end .ensures) _ (c .before .before .before .before .before .before .key-fields .ensures) _ (c .before .before .before .before .below .ensures) (c .before .before .o .given .1) (c .if1 .taken)
-
-loop-less-2 : tie.Need-loop-less-2 Inv-loop μ-loop
-loop-less-2 c = search needs
 
 loop-again-2 : tie.Need-loop-again-2 Inv-loop μ-loop
 loop-again-2 c = let l = c .before .before .before .before .before .before .before .before .before .loop in descended-last _ _ _ _ _ _ (l .inv) _ (c .before .before .before .before .before .before .before .before .loop-test .taken) (c .before .before .before .before .before .before .before .part-end .ensures) _ (c .before .before .before .before .before .before .key-fields .ensures) _ (c .before .before .before .before .below .ensures) (c .before .before .o .given .1) (c .if1 .left)
@@ -82,22 +46,22 @@ descend-spec =
     Inv-loop
     μ-loop
     loop-holds
-    part-end-requires
+    (λ c κs. search needs)
     key-fields-requires
-    mul-below
-    sub-below
-    part-below-start
+    (λ c. search needs)
+    (λ c. search needs)
+    (λ c. search needs)
     part-below-end
-    below-requires
-    enum-told
+    (λ c κs. search needs)
+    (λ c. search needs)
     returns
-    enum-known-f
-    refused-requires
+    (λ c. search needs)
+    (λ c κs. search needs)
     returns-2
-    enum-known-o
-    add-start
-    loop-less
+    (λ c. search needs)
+    (λ c. search needs)
+    (λ c. search needs)
     loop-again
-    loop-less-2
+    (λ c. search needs)
     loop-again-2
     returns-3)

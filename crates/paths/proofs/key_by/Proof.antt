@@ -5,21 +5,6 @@ use borrow.Author.Needs.{needs}
 use Rattle.paths.proofs.key_by.Statement.{statement}
 use Rattle.paths.proofs.key_by.Tie as tie
 
-key-look-requires : tie.Need-key-look-requires
-key-look-requires c κs = search needs
-
-enum-known-o : tie.Need-enum-known-o
-enum-known-o c = search needs
-
-enum-known-key : tie.Need-enum-known-key
-enum-known-key c = search needs
-
-refused-requires : tie.Need-refused-requires
-refused-requires c κs = search needs
-
-enum-known-r : tie.Need-enum-known-r
-enum-known-r c = search needs
-
 returns : tie.Need-returns
 returns c = sym (find-at _ _ _ (sym (c .before .before .before .key-look .ensures) ∙ c .before .o .given .1))
 
@@ -33,11 +18,11 @@ pub key-by-spec : {M : Type 1} → statement M
 key-by-spec =
     tie.close
     (tie.spec
-    key-look-requires
-    enum-known-o
-    enum-known-key
-    refused-requires
-    enum-known-r
+    (λ c κs. search needs)
+    (λ c. search needs)
+    (λ c. search needs)
+    (λ c κs. search needs)
+    (λ c. search needs)
     returns
     returns-2
     returns-3)

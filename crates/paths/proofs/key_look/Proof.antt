@@ -6,18 +6,6 @@ use borrow.Author.Needs.{needs}
 use Rattle.paths.proofs.key_look.Statement.{statement}
 use Rattle.paths.proofs.key_look.Tie as tie
 
-open-flaw-requires : tie.Need-open-flaw-requires
-open-flaw-requires c κs = search needs
-
-enum-known-f : tie.Need-enum-known-f
-enum-known-f c = search needs
-
-refused-requires : tie.Need-refused-requires
-refused-requires c κs = search needs
-
-enum-told : tie.Need-enum-told
-enum-told c = search needs
-
 bins-of-requires : tie.Need-bins-of-requires
 bins-of-requires c κs = open-facts _ _ (sym (c .before .before .open-flaw .ensures) ∙ c .enum-told .given .1) .0
 
@@ -37,10 +25,10 @@ pub key-look-spec : {M : Type 1} → statement M
 key-look-spec =
     tie.close
     (tie.spec
-    open-flaw-requires
-    enum-known-f
-    refused-requires
-    enum-told
+    (λ c κs. search needs)
+    (λ c. search needs)
+    (λ c κs. search needs)
+    (λ c. search needs)
     bins-of-requires
     root-of-requires
     lookup-key-requires

@@ -6,21 +6,6 @@ use borrow.Author.Needs.{needs}
 use Rattle.paths.proofs.lookup_key.Statement.{statement}
 use Rattle.paths.proofs.lookup_key.Tie as tie
 
-slice-aggregate-key-at : tie.Need-slice-aggregate-key-at
-slice-aggregate-key-at c = search needs
-
-key-at-requires : tie.Need-key-at-requires
-key-at-requires c κs = search needs
-
-enum-known-f : tie.Need-enum-known-f
-enum-known-f c = search needs
-
-refused-requires : tie.Need-refused-requires
-refused-requires c κs = search needs
-
-enum-told : tie.Need-enum-told
-enum-told c = search needs
-
 descend-requires : tie.Need-descend-requires
 descend-requires c κs = (c .before .before .before .before .before .before .pre, root-tested _ _ [] (sym (c .before .before .key-at .ensures) ∙ c .enum-told .given .1))
 
@@ -34,11 +19,11 @@ pub lookup-key-spec : {M : Type 1} → statement M
 lookup-key-spec =
     tie.close
     (tie.spec
-    slice-aggregate-key-at
-    key-at-requires
-    enum-known-f
-    refused-requires
-    enum-told
+    (λ c. search needs)
+    (λ c κs. search needs)
+    (λ c. search needs)
+    (λ c κs. search needs)
+    (λ c. search needs)
     descend-requires
     returns
     returns-2)

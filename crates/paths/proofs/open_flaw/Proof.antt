@@ -5,21 +5,6 @@ use borrow.Author.Needs.{needs}
 use Rattle.paths.proofs.open_flaw.Statement.{statement}
 use Rattle.paths.proofs.open_flaw.Tie as tie
 
-base-flaw-requires : tie.Need-base-flaw-requires
-base-flaw-requires c κs = search needs
-
-enum-known-f : tie.Need-enum-known-f
-enum-known-f c = search needs
-
-enum-told : tie.Need-enum-told
-enum-told c = search needs
-
-is-path-requires : tie.Need-is-path-requires
-is-path-requires c κs = search needs
-
-flawed-requires : tie.Need-flawed-requires
-flawed-requires c κs = search needs
-
 returns : tie.Need-returns
 returns c = sym (open-base _ _ (sym (c .before .before .before .base-flaw .ensures) ∙ c .before .f .given .1))
 
@@ -33,11 +18,11 @@ pub open-flaw-spec : {M : Type 1} → statement M
 open-flaw-spec =
     tie.close
     (tie.spec
-    base-flaw-requires
-    enum-known-f
-    enum-told
-    is-path-requires
-    flawed-requires
+    (λ c κs. search needs)
+    (λ c. search needs)
+    (λ c. search needs)
+    (λ c κs. search needs)
+    (λ c κs. search needs)
     returns
     returns-2
     returns-3)

@@ -8,12 +8,6 @@ use Rattle.records.proofs.has_elements.Tie as tie
 returns : tie.Need-returns
 returns c = sym (short-elements _ _ (omega arith))
 
-u16-at-requires : tie.Need-u16-at-requires
-u16-at-requires c κs = search needs
-
-cast-n : tie.Need-cast-n
-cast-n c = search needs
-
 returns-2 : tie.Need-returns-2
 returns-2 c = sym (no-elements _ _ (omega arith) (omega arith))
 
@@ -28,4 +22,4 @@ returns-3 c = rw (c .before .u16-at .ensures) (sym (by-room _ _ (omega arith) (o
 
 pub has-elements-spec : {M : Type 1} → statement M
 has-elements-spec =
-    tie.close (tie.spec returns u16-at-requires cast-n returns-2 mul-result add-result returns-3)
+    tie.close (tie.spec returns (λ c κs. search needs) (λ c. search needs) returns-2 mul-result add-result returns-3)

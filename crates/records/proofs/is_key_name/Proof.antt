@@ -7,14 +7,8 @@ use borrow.Author.Needs.{needs}
 use Rattle.records.proofs.is_key_name.Statement.{statement}
 use Rattle.records.proofs.is_key_name.Tie as tie
 
-is-whole-requires : tie.Need-is-whole-requires
-is-whole-requires c κs = search needs
-
 returns : tie.Need-returns
 returns c = sym (half-name _ _ (sym (c .before .is-whole .ensures) ∙ not-true _ (c .if1 .taken)))
-
-characters-requires : tie.Need-characters-requires
-characters-requires c κs = search needs
 
 returns-2 : tie.Need-returns-2
 returns-2 c = sym (empty-name _ _ (sym (c .before .before .before .is-whole .ensures) ∙ not-false _ (c .before .before .if1 .left)) (omega arith))
@@ -22,9 +16,6 @@ returns-2 c = sym (empty-name _ _ (sym (c .before .before .before .is-whole .ens
 returns-3 : tie.Need-returns-3
 returns-3 c = sym (long-name _ _ (sym (c .before .before .before .before .is-whole .ensures) ∙ not-false _ (c .before .before .before .if1 .left))
     (omega arith) (omega arith))
-
-has-backslash-requires : tie.Need-has-backslash-requires
-has-backslash-requires c κs = search needs
 
 returns-4 : tie.Need-returns-4
 returns-4 c = ap not (c .has-backslash .ensures) ∙ sym (by-backslash _ _ (sym (c .before .before .before .before .before .is-whole .ensures)
@@ -34,10 +25,10 @@ pub is-key-name-spec : {M : Type 1} → statement M
 is-key-name-spec =
     tie.close
     (tie.spec
-    is-whole-requires
+    (λ c κs. search needs)
     returns
-    characters-requires
+    (λ c κs. search needs)
     returns-2
     returns-3
-    has-backslash-requires
+    (λ c κs. search needs)
     returns-4)

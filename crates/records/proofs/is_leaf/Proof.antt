@@ -9,14 +9,8 @@ use Rattle.records.proofs.is_leaf.Tie as tie
 returns : tie.Need-returns
 returns c = sym (short-leaf _ (omega arith))
 
-has-leaf-signature-requires : tie.Need-has-leaf-signature-requires
-has-leaf-signature-requires c κs = search needs
-
 returns-2 : tie.Need-returns-2
 returns-2 c = sym (no-leaf _ (sym (c .before .has-leaf-signature .ensures) ∙ not-true _ (c .if2 .taken)))
-
-width-of-requires : tie.Need-width-of-requires
-width-of-requires c κs = search needs
 
 has-elements-requires : tie.Need-has-elements-requires
 has-elements-requires c κs = rw (c .width-of .ensures) (width-small _)
@@ -30,8 +24,8 @@ is-leaf-spec =
     tie.close
     (tie.spec
     returns
-    has-leaf-signature-requires
+    (λ c κs. search needs)
     returns-2
-    width-of-requires
+    (λ c κs. search needs)
     has-elements-requires
     returns-3)

@@ -8,20 +8,8 @@ use Rattle.records.proofs.is_list.Tie as tie
 returns : tie.Need-returns
 returns c = sym (short-list _ (omega arith))
 
-slice-aggregate-stands-at : tie.Need-slice-aggregate-stands-at
-slice-aggregate-stands-at c = search needs
-
-stands-at-requires : tie.Need-stands-at-requires
-stands-at-requires c κs = search needs
-
-has-elements-requires : tie.Need-has-elements-requires
-has-elements-requires c κs = search needs
-
 returns-2 : tie.Need-returns-2
 returns-2 c = c .has-elements .ensures ∙ sym (index-list _ (sym (c .before .before .stands-at .ensures) ∙ c .before .if2 .taken))
-
-is-leaf-requires : tie.Need-is-leaf-requires
-is-leaf-requires c κs = search needs
 
 returns-3 : tie.Need-returns-3
 returns-3 c = c .is-leaf .ensures ∙ sym (leaf-list _ (sym (c .before .before .stands-at .ensures) ∙ c .before .if2 .left))
@@ -31,9 +19,9 @@ is-list-spec =
     tie.close
     (tie.spec
     returns
-    slice-aggregate-stands-at
-    stands-at-requires
-    has-elements-requires
+    (λ c. search needs)
+    (λ c κs. search needs)
+    (λ c κs. search needs)
     returns-2
-    is-leaf-requires
+    (λ c κs. search needs)
     returns-3)

@@ -3,24 +3,6 @@ use borrow.Author.Needs.{needs}
 use Rattle.records.proofs.key_in.Statement.{statement}
 use Rattle.records.proofs.key_in.Tie as tie
 
-u32-at-requires : tie.Need-u32-at-requires
-u32-at-requires c κs = search needs
-
-u32-at-requires-2 : tie.Need-u32-at-requires-2
-u32-at-requires-2 c κs = search needs
-
-u32-at-requires-3 : tie.Need-u32-at-requires-3
-u32-at-requires-3 c κs = search needs
-
-u32-at-requires-4 : tie.Need-u32-at-requires-4
-u32-at-requires-4 c κs = search needs
-
-u32-at-requires-5 : tie.Need-u32-at-requires-5
-u32-at-requires-5 c κs = search needs
-
-name-in-requires : tie.Need-name-in-requires
-name-in-requires c κs = search needs
-
 returns : tie.Need-returns
 unfolding keyIn
 returns c = rw (
@@ -36,10 +18,10 @@ pub key-in-spec : {M : Type 1} → statement M
 key-in-spec =
     tie.close
     (tie.spec
-    u32-at-requires
-    u32-at-requires-2
-    u32-at-requires-3
-    u32-at-requires-4
-    u32-at-requires-5
-    name-in-requires
+    (λ c κs. search needs)
+    (λ c κs. search needs)
+    (λ c κs. search needs)
+    (λ c κs. search needs)
+    (λ c κs. search needs)
+    (λ c κs. search needs)
     returns)

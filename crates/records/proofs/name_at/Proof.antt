@@ -19,23 +19,8 @@ found : (c : tie.After-known-told2) → let a = c .before .before .before .befor
     cellOf Header (now (a .bins)) [] (a .o) ≡ Named (c .before .c .given .0 .0)
 found c = sym (c .before .before .before .find-cell .ensures) ∙ c .before .c .given .1
 
-slice-aggregate-find-cell : tie.Need-slice-aggregate-find-cell
-slice-aggregate-find-cell c = search needs
-
-find-cell-requires : tie.Need-find-cell-requires
-find-cell-requires c κs = search needs
-
-enum-known-f : tie.Need-enum-known-f
-enum-known-f c = search needs
-
-enum-known-c : tie.Need-enum-known-c
-enum-known-c c = search needs
-
 cell-data-requires : tie.Need-cell-data-requires
 cell-data-requires c κs = inside _ _ _ _ (found c)
-
-is-key-requires : tie.Need-is-key-requires
-is-key-requires c κs = search needs
 
 returns : tie.Need-returns
 unfolding keyFault
@@ -63,12 +48,12 @@ pub name-at-spec : {M : Type 1} → statement M
 name-at-spec =
     tie.close
     (tie.spec
-    slice-aggregate-find-cell
-    find-cell-requires
-    enum-known-f
-    enum-known-c
+    (λ c. search needs)
+    (λ c κs. search needs)
+    (λ c. search needs)
+    (λ c. search needs)
     cell-data-requires
-    is-key-requires
+    (λ c κs. search needs)
     returns
     name-in-requires
     returns-2

@@ -8,15 +8,6 @@ use Rattle.records.proofs.total_of.Tie as tie
 returns : tie.Need-returns
 returns c = total-none _ _ _ _ (c .if1 .taken)
 
-head-at-requires : tie.Need-head-at-requires
-head-at-requires c κs = search needs
-
-enum-known-f : tie.Need-enum-known-f
-enum-known-f c = search needs
-
-enum-known-ls : tie.Need-enum-known-ls
-enum-known-ls c = search needs
-
 total-over-requires : tie.Need-total-over-requires
 total-over-requires c κs = total-ready _ _ _ (c .before .before .before .before .before .before .before .before .before .args .k)
     (c .before .before .before .before .before .if1 .left) _ (sym (c .before .before .before .head-at .ensures) ∙ c .before .ls .given .1)
@@ -36,9 +27,9 @@ total-of-spec =
     tie.close
     (tie.spec
     returns
-    head-at-requires
-    enum-known-f
-    enum-known-ls
+    (λ c κs. search needs)
+    (λ c. search needs)
+    (λ c. search needs)
     total-over-requires
     returns-2
     returns-3)

@@ -18,20 +18,11 @@ loop-holds c = counted-start _ _ _ _ (c .before .before .pre .1)
 leaf-offset-requires : tie.Need-leaf-offset-requires Inv-loop μ-loop
 leaf-offset-requires c κs = (omega arith, c .before .before .before .before .before .pre .1)
 
-leaf-at-requires : tie.Need-leaf-at-requires Inv-loop μ-loop
-leaf-at-requires c κs = search needs
-
-enum-known-f : tie.Need-enum-known-f Inv-loop μ-loop
-enum-known-f c = search needs
-
 returns : tie.Need-returns Inv-loop μ-loop
 returns c = let l = c .before .before .before .before .before .before .before .loop in
     counted-bad _ _ _ _ (c .before .before .before .before .before .before .before .before .before .before .pre .1) (l .sum) (l .j)
     (l .inv) _ (omega arith) (c .before .before .before .before .leaf-offset .ensures) (sym (c .before .before .before .leaf-at .ensures)
     ∙ c .before .f .given .1)
-
-enum-known-l : tie.Need-enum-known-l Inv-loop μ-loop
-enum-known-l c = search needs
 
 loop-again : tie.Need-loop-again Inv-loop μ-loop
 loop-again c = let l = c .before .before .before .before .before .before .before .before .loop in
@@ -45,12 +36,6 @@ loop-again c = let l = c .before .before .before .before .before .before .before
 add-sum : tie.Need-add-sum Inv-loop μ-loop
 add-sum c = let w = loop-again c in omega arith
 
-add-j : tie.Need-add-j Inv-loop μ-loop
-add-j c = search needs
-
-loop-less : tie.Need-loop-less Inv-loop μ-loop
-loop-less c = search needs
-
 returns-2 : tie.Need-returns-2 Inv-loop μ-loop
 returns-2 c = let l = c .before .before .loop in counted-end _ _ _ _ (c .before .before .before .before .before .pre .1) (l .sum) (l .j) (l .inv) (omega arith)
 
@@ -62,12 +47,12 @@ total-over-spec =
     μ-loop
     loop-holds
     leaf-offset-requires
-    leaf-at-requires
-    enum-known-f
+    (λ c κs. search needs)
+    (λ c. search needs)
     returns
-    enum-known-l
+    (λ c. search needs)
     add-sum
-    add-j
-    loop-less
+    (λ c. search needs)
+    (λ c. search needs)
     loop-again
     returns-2)

@@ -3,12 +3,6 @@ use borrow.Author.Needs.{needs}
 use Rattle.records.proofs.width_of.Statement.{statement}
 use Rattle.records.proofs.width_of.Tie as tie
 
-slice-aggregate-stands-at : tie.Need-slice-aggregate-stands-at
-slice-aggregate-stands-at c = search needs
-
-stands-at-requires : tie.Need-stands-at-requires
-stands-at-requires c κs = search needs
-
 returns : tie.Need-returns
 unfolding widthOf
 returns c = rw (← c .before .stands-at .ensures, c .if1 .taken)
@@ -18,4 +12,4 @@ unfolding widthOf
 returns-2 c = rw (← c .before .stands-at .ensures, c .if1 .left)
 
 pub width-of-spec : {M : Type 1} → statement M
-width-of-spec = tie.close (tie.spec slice-aggregate-stands-at stands-at-requires returns returns-2)
+width-of-spec = tie.close (tie.spec (λ c. search needs) (λ c κs. search needs) returns returns-2)

@@ -10,18 +10,6 @@ use borrow.Author.Needs.{needs}
 use Rattle.recovery.proofs.all_pages.Statement.{statement}
 use Rattle.recovery.proofs.all_pages.Tie as tie
 
-begin-requires : tie.Need-begin-requires
-begin-requires c κs = search needs
-
-enum-told : tie.Need-enum-told
-enum-told c = search needs
-
-enum-known-r : tie.Need-enum-known-r
-enum-known-r c = search needs
-
-enum-known-read : tie.Need-enum-known-read
-enum-known-read c = search needs
-
 put-all-requires : tie.Need-put-all-requires
 put-all-requires c κs =
     let s = c .before .before .before .before .before .before .before .before in
@@ -32,17 +20,11 @@ put-all-requires c κs =
     let k = good h l (e .0) (e .1) in
     (k .log, (e .2, k .room))
 
-same-length : tie.Need-same-length
-same-length c = search needs
-
 returns : tie.Need-returns
 returns c =
     let s = c .before .before .before .before .before .before in
     let e = begun-clean (readOf (s .args .log .now)) (countedOf (s .args .log .now)) (startAnswer (s .args .hive .now) (s .args .log .now)) (sym (c .before .before .begin .ensures) ∙ c .enum-told .given .1) in
     (sym (all-answer (s .args .hive .now) (s .args .log .now) Clean e), sym (all-hive (s .args .hive .now) (s .args .log .now) Clean e))
-
-same-length-2 : tie.Need-same-length-2
-same-length-2 c = search needs
 
 returns-2 : tie.Need-returns-2
 returns-2 c =
@@ -50,9 +32,6 @@ returns-2 c =
     let g = c .before .r .given in
     let e = begun-refused (readOf (s .args .log .now)) (countedOf (s .args .log .now)) (startAnswer (s .args .hive .now) (s .args .log .now)) (g .0 .0) (sym (c .before .before .before .begin .ensures) ∙ g .1) in
     (sym (all-answer (s .args .hive .now) (s .args .log .now) (Refused (g .0 .0)) e), sym (all-hive (s .args .hive .now) (s .args .log .now) (Refused (g .0 .0)) e))
-
-same-length-3 : tie.Need-same-length-3
-same-length-3 c = search needs
 
 returns-3 : tie.Need-returns-3
 returns-3 c =
@@ -67,14 +46,14 @@ pub all-pages-spec : {M : Type 1} → statement M
 all-pages-spec =
     tie.close
     (tie.spec
-    begin-requires
-    enum-told
-    enum-known-r
-    enum-known-read
+    (λ c κs. search needs)
+    (λ c. search needs)
+    (λ c. search needs)
+    (λ c. search needs)
     put-all-requires
-    same-length
+    (λ c. search needs)
     returns
-    same-length-2
+    (λ c. search needs)
     returns-2
-    same-length-3
+    (λ c. search needs)
     returns-3)

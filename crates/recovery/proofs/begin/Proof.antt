@@ -8,30 +8,12 @@ use borrow.Author.Needs.{needs}
 use Rattle.recovery.proofs.begin.Statement.{statement}
 use Rattle.recovery.proofs.begin.Tie as tie
 
-refuse-requires : tie.Need-refuse-requires
-refuse-requires c κs = search needs
-
 returns : tie.Need-returns
 returns c = let s = c .before .before .before .before in ap Refused (c .refuse .ensures) ∙ sym (ap (λ (a : Started). begunBy a (readOf (s .args .log .now)) (countedOf (s .args .log .now))) (short (s .args .hive .now) (s .args .log .now) (c .before .if1 .taken)))
-
-sub-clean : tie.Need-sub-clean
-sub-clean c = search needs
-
-part-clean-start : tie.Need-part-clean-start
-part-clean-start c = search needs
-
-part-clean-end : tie.Need-part-clean-end
-part-clean-end c = search needs
-
-clean-requires : tie.Need-clean-requires
-clean-requires c κs = search needs
 
 returns-2 : tie.Need-returns-2
 returns-2 c = let s = c .before .before .before .before .before .before in
     sym (ap (λ (a : Started). begunBy a (readOf (s .args .log .now)) (countedOf (s .args .log .now))) (is-clean (s .args .hive .now) (s .args .log .now) (c .before .before .before .if1 .left) (sym (c .before .clean .ensures) ∙ c .if2 .taken)))
-
-log-tests-requires : tie.Need-log-tests-requires
-log-tests-requires c κs = search needs
 
 returns-3 : tie.Need-returns-3
 returns-3 c = let s = c .before .before .before .before .before .before .before in
@@ -42,12 +24,12 @@ pub begin-spec : {M : Type 1} → statement M
 begin-spec =
     tie.close
     (tie.spec
-    refuse-requires
+    (λ c κs. search needs)
     returns
-    sub-clean
-    part-clean-start
-    part-clean-end
-    clean-requires
+    (λ c. search needs)
+    (λ c. search needs)
+    (λ c. search needs)
+    (λ c κs. search needs)
     returns-2
-    log-tests-requires
+    (λ c κs. search needs)
     returns-3)

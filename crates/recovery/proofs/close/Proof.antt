@@ -10,15 +10,6 @@ use borrow.Author.Needs.{needs}
 use Rattle.recovery.proofs.close.Statement.{statement}
 use Rattle.recovery.proofs.close.Tie as tie
 
-begin-requires : tie.Need-begin-requires
-begin-requires c κs = search needs
-
-enum-told : tie.Need-enum-told
-enum-told c = search needs
-
-enum-known-read : tie.Need-enum-known-read
-enum-known-read c = search needs
-
 seal-requires : tie.Need-seal-requires
 seal-requires c κs =
     let s = c .before .before .before .before .before .before .before .before in
@@ -28,20 +19,11 @@ seal-requires c κs =
     let e = begun-ready (readOf l) (countedOf l) (startAnswer h l) (g .0 .0) (g .0 .1 .0) (sym (c .before .before .before .before .begin .ensures) ∙ g .1) in
     (begun h l (e .0) (e .1) .tests, e .2)
 
-enum-known-r : tie.Need-enum-known-r
-enum-known-r c = search needs
-
-same-length : tie.Need-same-length
-same-length c = search needs
-
 returns : tie.Need-returns
 returns c =
     let s = c .before .before .before .before .before .before in
     let e = begun-clean (readOf (s .args .log .now)) (countedOf (s .args .log .now)) (startAnswer (s .args .hive .now) (s .args .log .now)) (sym (c .before .before .begin .ensures) ∙ c .enum-told .given .1) in
     (sym (close-answer (s .args .hive .now) (s .args .log .now) Clean e), sym (close-hive (s .args .hive .now) (s .args .log .now) Clean e))
-
-same-length-2 : tie.Need-same-length-2
-same-length-2 c = search needs
 
 returns-2 : tie.Need-returns-2
 returns-2 c =
@@ -55,9 +37,6 @@ returns-2 c =
       r .1 ∙ ap (λ (x : Stepped). changed x (stored h 0 (closingOf l)) h) (r .0) ∙ sym (close-hive h l (Pages (e .0)) (e .1)),
     )
 
-same-length-3 : tie.Need-same-length-3
-same-length-3 c = search needs
-
 returns-3 : tie.Need-returns-3
 returns-3 c =
     let s = c .before .before .before .before .before .before .before in
@@ -69,14 +48,14 @@ pub close-spec : {M : Type 1} → statement M
 close-spec =
     tie.close
     (tie.spec
-    begin-requires
-    enum-told
-    enum-known-read
+    (λ c κs. search needs)
+    (λ c. search needs)
+    (λ c. search needs)
     seal-requires
-    enum-known-r
-    same-length
+    (λ c. search needs)
+    (λ c. search needs)
     returns
-    same-length-2
+    (λ c. search needs)
     returns-2
-    same-length-3
+    (λ c. search needs)
     returns-3)

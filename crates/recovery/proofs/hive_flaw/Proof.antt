@@ -10,12 +10,6 @@ use Rattle.recovery.proofs.hive_flaw.Tie as tie
 bins-size-requires : tie.Need-bins-size-requires
 bins-size-requires c κs = c .before .before .pre
 
-add-if1 : tie.Need-add-if1
-add-if1 c = search needs
-
-flawed-requires : tie.Need-flawed-requires
-flawed-requires c κs = search needs
-
 returns : tie.Need-returns
 returns c =
     let s = c .before .before .before .before .before in
@@ -23,9 +17,6 @@ returns c =
 
 applies-requires : tie.Need-applies-requires
 applies-requires c κs = let p = c .before .before .before .before .pre in (p .0, (p .1, omega (arith, c .before .bins-size .ensures .0)))
-
-flawed-requires-2 : tie.Need-flawed-requires-2
-flawed-requires-2 c κs = search needs
 
 returns-2 : tie.Need-returns-2
 returns-2 c =
@@ -43,10 +34,10 @@ hive-flaw-spec =
     tie.close
     (tie.spec
     bins-size-requires
-    add-if1
-    flawed-requires
+    (λ c. search needs)
+    (λ c κs. search needs)
     returns
     applies-requires
-    flawed-requires-2
+    (λ c κs. search needs)
     returns-2
     returns-3)

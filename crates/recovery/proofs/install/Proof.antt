@@ -20,9 +20,6 @@ marked c = sym (c .before .is-logged .ensures) ∙ not-false _ (c .if1 .left)
 is-logged-requires : tie.Need-is-logged-requires
 is-logged-requires c κs = let s = c .before .before in (passed (s .args .hive .now) (s .args .log .now) (s .pre .0) .log, s .pre .1)
 
-refuse-requires : tie.Need-refuse-requires
-refuse-requires c κs = search needs
-
 returns : tie.Need-returns
 returns c = (
   ap Refused (c .refuse .ensures)
@@ -50,9 +47,6 @@ store-requires c κs =
       omega (arith, c .before .logged-place .ensures, logged-fits l (g .log) (s .args .n) (marked (c .before .before .before))),
     )
 
-same-length : tie.Need-same-length
-same-length c = search needs
-
 returns-2 : tie.Need-returns-2
 returns-2 c =
     let s = c .before .before .before .before .before .before .before .before .before .before in
@@ -68,10 +62,10 @@ install-spec =
     tie.close
     (tie.spec
     is-logged-requires
-    refuse-requires
+    (λ c κs. search needs)
     returns
     page-place-requires
     logged-place-requires
     store-requires
-    same-length
+    (λ c. search needs)
     returns-2)

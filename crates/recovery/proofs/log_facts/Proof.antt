@@ -8,18 +8,6 @@ use borrow.Author.Needs.{needs}
 use Rattle.recovery.proofs.log_facts.Statement.{statement}
 use Rattle.recovery.proofs.log_facts.Tie as tie
 
-log-test-requires : tie.Need-log-test-requires
-log-test-requires c κs = search needs
-
-enum-known-f : tie.Need-enum-known-f
-enum-known-f c = search needs
-
-refused-requires : tie.Need-refused-requires
-refused-requires c κs = search needs
-
-enum-known-read : tie.Need-enum-known-read
-enum-known-read c = search needs
-
 facts-of-requires : tie.Need-facts-of-requires
 facts-of-requires c κs =
     let l = c .before .before .before .before .before .args .log .now in
@@ -44,4 +32,4 @@ returns-2 c =
     ap Of (c .facts-of .ensures) ∙ sym (ap (λ (v : Verdict). factsTested v (Of (factsOf l))) e)
 
 pub log-facts-spec : {M : Type 1} → statement M
-log-facts-spec = tie.close (tie.spec log-test-requires enum-known-f refused-requires enum-known-read facts-of-requires returns returns-2)
+log-facts-spec = tie.close (tie.spec (λ c κs. search needs) (λ c. search needs) (λ c κs. search needs) (λ c. search needs) facts-of-requires returns returns-2)

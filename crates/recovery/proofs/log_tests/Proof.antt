@@ -21,29 +21,8 @@ log-said c =
     let g = c .before .read .given in
     logged-sound (logFault l) (readOf l) (g .0 .0) (countedOf l) (g .0 .1 .0) (sym (c .before .before .before .log-test .ensures) ∙ g .1)
 
-log-test-requires : tie.Need-log-test-requires
-log-test-requires c κs = search needs
-
-enum-known-f : tie.Need-enum-known-f
-enum-known-f c = search needs
-
-refused-requires : tie.Need-refused-requires
-refused-requires c κs = search needs
-
-enum-known-read : tie.Need-enum-known-read
-enum-known-read c = search needs
-
 hive-flaw-requires : tie.Need-hive-flaw-requires
 hive-flaw-requires c κs = let s = log-said c in (s .0, sym (s .1))
-
-enum-known-f-2 : tie.Need-enum-known-f-2
-enum-known-f-2 c = search needs
-
-refused-requires-2 : tie.Need-refused-requires-2
-refused-requires-2 c κs = search needs
-
-enum-told : tie.Need-enum-told
-enum-told c = search needs
 
 returns : tie.Need-returns
 returns c =
@@ -72,14 +51,14 @@ pub log-tests-spec : {M : Type 1} → statement M
 log-tests-spec =
     tie.close
     (tie.spec
-    log-test-requires
-    enum-known-f
-    refused-requires
-    enum-known-read
+    (λ c κs. search needs)
+    (λ c. search needs)
+    (λ c κs. search needs)
+    (λ c. search needs)
     hive-flaw-requires
-    enum-known-f-2
-    refused-requires-2
-    enum-told
+    (λ c. search needs)
+    (λ c κs. search needs)
+    (λ c. search needs)
     returns
     returns-2
     returns-3)

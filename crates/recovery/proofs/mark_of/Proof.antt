@@ -9,15 +9,6 @@ use borrow.Author.Needs.{needs}
 use Rattle.recovery.proofs.mark_of.Statement.{statement}
 use Rattle.recovery.proofs.mark_of.Tie as tie
 
-next-logged-requires : tie.Need-next-logged-requires
-next-logged-requires c κs = search needs
-
-enum-told : tie.Need-enum-told
-enum-told c = search needs
-
-enum-known-page : tie.Need-enum-known-page
-enum-known-page c = search needs
-
 page-place-requires : tie.Need-page-place-requires
 page-place-requires c κs =
     let s = c .before .before .before .before .before in
@@ -39,4 +30,4 @@ returns-2 c =
 pub mark-of-spec : {M : Type 1} → statement M
 mark-of-spec =
     tie.close
-    (tie.spec next-logged-requires enum-told enum-known-page page-place-requires returns returns-2)
+    (tie.spec (λ c κs. search needs) (λ c. search needs) (λ c. search needs) page-place-requires returns returns-2)

@@ -21,23 +21,8 @@ log-said c =
     let g = c .before .read .given in
     logged-sound (logFault l) (readOf l) (g .0 .0) (countedOf l) (g .0 .1 .0) (sym (c .before .before .before .log-test .ensures) ∙ g .1)
 
-log-test-requires : tie.Need-log-test-requires
-log-test-requires c κs = search needs
-
-enum-known-f : tie.Need-enum-known-f
-enum-known-f c = search needs
-
-refused-requires : tie.Need-refused-requires
-refused-requires c κs = search needs
-
-enum-known-read : tie.Need-enum-known-read
-enum-known-read c = search needs
-
 bins-size-requires : tie.Need-bins-size-requires
 bins-size-requires c κs = let e = log-said c in (e .0, sym (e .1))
-
-refuse-requires : tie.Need-refuse-requires
-refuse-requires c κs = search needs
 
 returns : tie.Need-returns
 unfolding markedAnswer markedMap
@@ -67,9 +52,6 @@ returns-2 c =
       sym (ap (λ (v : Verdict). whereMarked (markedBy v (loggedCount l)) (marksOf l ++ drop (pageCount l / 8) m) m) e),
     )
 
-same-length : tie.Need-same-length
-same-length c = search needs
-
 returns-3 : tie.Need-returns-3
 unfolding markedAnswer markedMap
 returns-3 c =
@@ -87,14 +69,14 @@ pub mark-pages-spec : {M : Type 1} → statement M
 mark-pages-spec =
     tie.close
     (tie.spec
-    log-test-requires
-    enum-known-f
-    refused-requires
-    enum-known-read
+    (λ c κs. search needs)
+    (λ c. search needs)
+    (λ c κs. search needs)
+    (λ c. search needs)
     bins-size-requires
-    refuse-requires
+    (λ c κs. search needs)
     returns
     mark-requires
     returns-2
-    same-length
+    (λ c. search needs)
     returns-3)

@@ -8,18 +8,6 @@ use borrow.Author.Needs.{needs}
 use Rattle.recovery.proofs.next_mark.Statement.{statement}
 use Rattle.recovery.proofs.next_mark.Tie as tie
 
-head-test-requires : tie.Need-head-test-requires
-head-test-requires c κs = search needs
-
-enum-known-f : tie.Need-enum-known-f
-enum-known-f c = search needs
-
-refused-requires : tie.Need-refused-requires
-refused-requires c κs = search needs
-
-enum-known-read : tie.Need-enum-known-read
-enum-known-read c = search needs
-
 mark-of-requires : tie.Need-mark-of-requires
 mark-of-requires c κs =
     let l = c .before .before .before .before .before .args .log .now in
@@ -46,4 +34,4 @@ returns-2 c =
     c .mark-of .ensures ∙ sym (ap (λ (v : Verdict). markTested v (markOf (nextLogged l (s .args .from)))) e)
 
 pub next-mark-spec : {M : Type 1} → statement M
-next-mark-spec = tie.close (tie.spec head-test-requires enum-known-f refused-requires enum-known-read mark-of-requires returns returns-2)
+next-mark-spec = tie.close (tie.spec (λ c κs. search needs) (λ c. search needs) (λ c κs. search needs) (λ c. search needs) mark-of-requires returns returns-2)

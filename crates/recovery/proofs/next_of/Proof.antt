@@ -19,12 +19,6 @@ marked c =
 next-logged-requires : tie.Need-next-logged-requires
 next-logged-requires c κs = let p = c .before .pre in (head-of (c .before .args .log .now) (p .0), p .1)
 
-enum-told : tie.Need-enum-told
-enum-told c = search needs
-
-enum-known-n : tie.Need-enum-known-n
-enum-known-n c = search needs
-
 logged-place-requires : tie.Need-logged-place-requires
 logged-place-requires c κs = let p = c .before .before .before .before .before .pre in (p .0, (p .1, marked c))
 
@@ -52,8 +46,8 @@ next-of-spec =
     tie.close
     (tie.spec
     next-logged-requires
-    enum-told
-    enum-known-n
+    (λ c. search needs)
+    (λ c. search needs)
     logged-place-requires
     page-place-requires
     returns

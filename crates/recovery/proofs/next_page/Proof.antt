@@ -8,18 +8,6 @@ use borrow.Author.Needs.{needs}
 use Rattle.recovery.proofs.next_page.Statement.{statement}
 use Rattle.recovery.proofs.next_page.Tie as tie
 
-log-test-requires : tie.Need-log-test-requires
-log-test-requires c κs = search needs
-
-enum-known-f : tie.Need-enum-known-f
-enum-known-f c = search needs
-
-refused-requires : tie.Need-refused-requires
-refused-requires c κs = search needs
-
-enum-known-read : tie.Need-enum-known-read
-enum-known-read c = search needs
-
 next-of-requires : tie.Need-next-of-requires
 next-of-requires c κs =
     let l = c .before .before .before .before .before .args .log .now in
@@ -46,4 +34,4 @@ returns-2 c =
     c .next-of .ensures ∙ sym (ap (λ (v : Verdict). nextTested v (nextOf l (nextLogged l (s .args .from)))) e)
 
 pub next-page-spec : {M : Type 1} → statement M
-next-page-spec = tie.close (tie.spec log-test-requires enum-known-f refused-requires enum-known-read next-of-requires returns returns-2)
+next-page-spec = tie.close (tie.spec (λ c κs. search needs) (λ c. search needs) (λ c κs. search needs) (λ c. search needs) next-of-requires returns returns-2)

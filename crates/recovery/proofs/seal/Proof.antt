@@ -16,12 +16,6 @@ all-in-requires c κs =
     let g = passed (s .args .hive .now) (s .args .log .now) (s .pre .0) in
     (g .log, (s .pre .1, g .room))
 
-refuse-requires : tie.Need-refuse-requires
-refuse-requires c κs = search needs
-
-same-length : tie.Need-same-length
-same-length c = search needs
-
 returns : tie.Need-returns
 returns c = (
   ap Refused (c .refuse .ensures)
@@ -35,9 +29,6 @@ store-closing-requires c κs =
     let g = passed (s .args .hive .now) (s .args .log .now) (s .pre .0) in
     (g .log, (s .pre .1, omega (arith, g .room)))
 
-same-length-2 : tie.Need-same-length-2
-same-length-2 c = search needs
-
 returns-2 : tie.Need-returns-2
 returns-2 c = (
   sym (ap (λ (b : Bool). cond b Done (Refused (refusalOf noKey (flaw NotIn nowhere)))) (sym (c .before .before .before .before .before .all-in .ensures) ∙ not-false _ (c .before .before .before .before .if1 .left))),
@@ -49,9 +40,9 @@ seal-spec =
     tie.close
     (tie.spec
     all-in-requires
-    refuse-requires
-    same-length
+    (λ c κs. search needs)
+    (λ c. search needs)
     returns
     store-closing-requires
-    same-length-2
+    (λ c. search needs)
     returns-2)

@@ -7,15 +7,6 @@ use borrow.Author.Needs.{needs}
 use Rattle.recovery.proofs.start.Statement.{statement}
 use Rattle.recovery.proofs.start.Tie as tie
 
-begin-requires : tie.Need-begin-requires
-begin-requires c κs = search needs
-
-enum-told : tie.Need-enum-told
-enum-told c = search needs
-
-enum-known-read : tie.Need-enum-known-read
-enum-known-read c = search needs
-
 logged-count-requires : tie.Need-logged-count-requires
 logged-count-requires c κs =
     let s = c .before .before .before .before .before .before in
@@ -23,9 +14,6 @@ logged-count-requires c κs =
     let g = c .before .read .given in
     let e = begun-ready (readOf l) (countedOf l) (startAnswer (s .args .hive .now) l) (g .0 .0) (g .0 .1 .0) (sym (c .before .before .before .begin .ensures) ∙ g .1) in
     (e .2, e .3)
-
-enum-known-r : tie.Need-enum-known-r
-enum-known-r c = search needs
 
 returns : tie.Need-returns
 returns c =
@@ -50,4 +38,4 @@ returns-3 c =
     sym (begun-refused (readOf l) (countedOf l) (startAnswer (s .args .hive .now) l) (g .0 .0) (sym (c .before .before .before .begin .ensures) ∙ g .1))
 
 pub start-spec : {M : Type 1} → statement M
-start-spec = tie.close (tie.spec begin-requires enum-told enum-known-read logged-count-requires enum-known-r returns returns-2 returns-3)
+start-spec = tie.close (tie.spec (λ c κs. search needs) (λ c. search needs) (λ c. search needs) logged-count-requires (λ c. search needs) returns returns-2 returns-3)

@@ -25,9 +25,6 @@ mul-loop c = let i = c .loop .inv in omega (arith, i .room, i .kept)
 sub-loop : tie.Need-sub-loop Inv-loop μ-loop
 sub-loop c = let i = c .loop .inv in omega (arith, i .room, i .kept)
 
-is-some-requires : tie.Need-is-some-requires Inv-loop μ-loop
-is-some-requires c κs = search needs
-
 same-length : tie.Need-same-length Inv-loop μ-loop
 same-length c = c .before .before .before .loop .inv .kept
 
@@ -73,7 +70,7 @@ fill-spec =
     loop-holds
     mul-loop
     sub-loop
-    is-some-requires
+    (λ c κs. search needs)
     same-length
     returns
     remain-at-requires

@@ -13,9 +13,6 @@ Inv-loop bins at end from o₀ o = Going bins at end from o
 abbrev μ-loop : tie.MeasureT-loop
 μ-loop bins at end from o₀ o = end - o
 
-skip-requires : tie.Need-skip-requires Inv-loop μ-loop
-skip-requires c κs = search needs
-
 next-with-requires : tie.Need-next-with-requires Inv-loop μ-loop
 next-with-requires c κs =
     let g = going _ _ _ (c .before .before .pre) (c .skip .ensures) .free in
@@ -26,9 +23,6 @@ loop-holds c = going-over _ _ _ (going _ _ _ (c .before .before .before .pre) (c
 
 kind-at-requires : tie.Need-kind-at-requires Inv-loop μ-loop
 kind-at-requires c κs = let f = c .before .loop .inv .free in (omega (arith, f .eights, f .ends), f .inside)
-
-is-some-requires : tie.Need-is-some-requires Inv-loop μ-loop
-is-some-requires c κs = search needs
 
 returns : tie.Need-returns Inv-loop μ-loop
 returns c = hit _ _ _ (c .before .before .before .before .loop .inv) (c .before .before .before .loop-test .taken) (c .before .before .kind-at .ensures) (sym (c .before .is-some .ensures) ∙ c .if1 .taken)
@@ -56,11 +50,11 @@ find-spec =
     (tie.spec
     Inv-loop
     μ-loop
-    skip-requires
+    (λ c κs. search needs)
     next-with-requires
     loop-holds
     kind-at-requires
-    is-some-requires
+    (λ c κs. search needs)
     returns
     add-next-with
     next-with-requires-2

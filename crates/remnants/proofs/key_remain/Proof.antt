@@ -4,24 +4,6 @@ use borrow.Author.Needs.{needs}
 use Rattle.remnants.proofs.key_remain.Statement.{statement}
 use Rattle.remnants.proofs.key_remain.Tie as tie
 
-cast-t5 : tie.Need-cast-t5
-cast-t5 c = search needs
-
-u16-at-requires : tie.Need-u16-at-requires
-u16-at-requires c κs = search needs
-
-cast-len : tie.Need-cast-len
-cast-len c = search needs
-
-part-place-requires : tie.Need-part-place-requires
-part-place-requires c κs = search needs
-
-u16-at-requires-2 : tie.Need-u16-at-requires-2
-u16-at-requires-2 c κs = search needs
-
-is-flagged-requires : tie.Need-is-flagged-requires
-is-flagged-requires c κs = search needs
-
 returns : tie.Need-returns
 unfolding remainOf
 returns c =
@@ -31,10 +13,10 @@ pub key-remain-spec : {M : Type 1} → statement M
 key-remain-spec =
     tie.close
     (tie.spec
-    cast-t5
-    u16-at-requires
-    cast-len
-    part-place-requires
-    u16-at-requires-2
-    is-flagged-requires
+    (λ c. search needs)
+    (λ c κs. search needs)
+    (λ c. search needs)
+    (λ c κs. search needs)
+    (λ c κs. search needs)
+    (λ c κs. search needs)
     returns)

@@ -3,15 +3,9 @@ use borrow.Author.Needs.{needs}
 use Rattle.remnants.proofs.kind_at.Statement.{statement}
 use Rattle.remnants.proofs.kind_at.Tie as tie
 
-data-to-requires : tie.Need-data-to-requires
-data-to-requires c κs = search needs
-
-kind-of-requires : tie.Need-kind-of-requires
-kind-of-requires c κs = search needs
-
 returns : tie.Need-returns
 unfolding kindAt
 returns c = rw (← c .before .data-to .ensures) (c .kind-of .ensures)
 
 pub kind-at-spec : {M : Type 1} → statement M
-kind-at-spec = tie.close (tie.spec data-to-requires kind-of-requires returns)
+kind-at-spec = tie.close (tie.spec (λ c κs. search needs) (λ c κs. search needs) returns)

@@ -4,14 +4,8 @@ use borrow.Author.Needs.{needs}
 use Rattle.remnants.proofs.kind_of.Statement.{statement}
 use Rattle.remnants.proofs.kind_of.Tie as tie
 
-is-key-requires : tie.Need-is-key-requires
-is-key-requires c κs = search needs
-
 returns : tie.Need-returns
 returns c = sym (a-key _ (sym (c .before .is-key .ensures) ∙ c .if1 .taken))
-
-is-old-value-requires : tie.Need-is-old-value-requires
-is-old-value-requires c κs = search needs
 
 returns-2 : tie.Need-returns-2
 returns-2 c = sym (a-value _ (sym (c .before .before .before .is-key .ensures) ∙ c .before .before .if1 .left) (sym (c .before .is-old-value .ensures) ∙ c .if2 .taken))
@@ -21,4 +15,4 @@ returns-3 c = sym (no-kind _ (sym (c .before .before .before .is-key .ensures) �
 
 pub kind-of-spec : {M : Type 1} → statement M
 kind-of-spec =
-    tie.close (tie.spec is-key-requires returns is-old-value-requires returns-2 returns-3)
+    tie.close (tie.spec (λ c κs. search needs) returns (λ c κs. search needs) returns-2 returns-3)

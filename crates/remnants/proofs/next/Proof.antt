@@ -6,18 +6,6 @@ use borrow.Author.Needs.{needs}
 use Rattle.remnants.proofs.next.Statement.{statement}
 use Rattle.remnants.proofs.next.Tie as tie
 
-tiles-flaw-requires : tie.Need-tiles-flaw-requires
-tiles-flaw-requires c κs = search needs
-
-enum-known-f : tie.Need-enum-known-f
-enum-known-f c = search needs
-
-refused-requires : tie.Need-refused-requires
-refused-requires c κs = search needs
-
-enum-told : tie.Need-enum-told
-enum-told c = search needs
-
 bins-of-requires : tie.Need-bins-of-requires
 bins-of-requires c κs = base-sound _ (sym (c .before .before .tiles-flaw .ensures) ∙ c .enum-told .given .1)
 
@@ -36,10 +24,10 @@ pub next-spec : {M : Type 1} → statement M
 next-spec =
     tie.close
     (tie.spec
-    tiles-flaw-requires
-    enum-known-f
-    refused-requires
-    enum-told
+    (λ c κs. search needs)
+    (λ c. search needs)
+    (λ c κs. search needs)
+    (λ c. search needs)
     bins-of-requires
     next-in-requires
     returns

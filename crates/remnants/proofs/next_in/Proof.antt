@@ -7,12 +7,6 @@ use Rattle.remnants.proofs.Seeks.{is-spotted, none-left, one-left}
 use Rattle.remnants.proofs.next_in.Statement.{statement}
 use Rattle.remnants.proofs.next_in.Tie as tie
 
-first-requires : tie.Need-first-requires
-first-requires c κs = search needs
-
-is-some-requires : tie.Need-is-some-requires
-is-some-requires c κs = search needs
-
 returns : tie.Need-returns
 returns c = sym (ap firstOf (none-left (c .before .before .first .ensures) (sym (c .before .is-some .ensures) ∙ not-true _ (c .if1 .taken))))
 
@@ -25,4 +19,4 @@ returns-2 c =
     ∙ sym (ap firstOf (one-left (c .before .before .before .first .ensures) (sym (c .before .before .is-some .ensures) ∙ not-false _ (c .before .if1 .left))))
 
 pub next-in-spec : {M : Type 1} → statement M
-next-in-spec = tie.close (tie.spec first-requires is-some-requires returns remain-at-requires returns-2)
+next-in-spec = tie.close (tie.spec (λ c κs. search needs) (λ c κs. search needs) returns remain-at-requires returns-2)

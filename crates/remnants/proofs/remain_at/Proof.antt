@@ -9,28 +9,13 @@ use borrow.Author.Needs.{needs}
 use Rattle.remnants.proofs.remain_at.Statement.{statement}
 use Rattle.remnants.proofs.remain_at.Tie as tie
 
-data-to-requires : tie.Need-data-to-requires
-data-to-requires c κs = search needs
-
-enum-told : tie.Need-enum-told
-enum-told c = search needs
-
 key-remain-requires : tie.Need-key-remain-requires
 key-remain-requires c κs =
     (rw (c .before .before .data-to .ensures) (key-long _ (sym (c .before .before .before .before .pre .is ∙ kind-of-rest _ _ _) ∙ c .enum-told .given .1)), omega arith)
 
-enum-told-2 : tie.Need-enum-told-2
-enum-told-2 c = search needs
-
 value-remain-requires : tie.Need-value-remain-requires
 value-remain-requires c κs =
     (rw (c .before .before .data-to .ensures) (value-long _ (sym (c .before .before .before .before .pre .is ∙ kind-of-rest _ _ _) ∙ c .enum-told2 .given .1)), omega arith)
-
-enum-told-3 : tie.Need-enum-told-3
-enum-told-3 c = search needs
-
-cast-t7 : tie.Need-cast-t7
-cast-t7 c = search needs
 
 returns : tie.Need-returns
 returns c = (
@@ -56,13 +41,13 @@ pub remain-at-spec : {M : Type 1} → statement M
 remain-at-spec =
     tie.close
     (tie.spec
-    data-to-requires
-    enum-told
+    (λ c κs. search needs)
+    (λ c. search needs)
     key-remain-requires
-    enum-told-2
+    (λ c. search needs)
     value-remain-requires
-    enum-told-3
-    cast-t7
+    (λ c. search needs)
+    (λ c. search needs)
     returns
     returns-2
     returns-3)

@@ -6,18 +6,6 @@ use Rattle.remnants.proofs.Tests.{base-sound, stands}
 use Rattle.remnants.proofs.rows.Statement.{statement}
 use Rattle.remnants.proofs.rows.Tie as tie
 
-tiles-flaw-requires : tie.Need-tiles-flaw-requires
-tiles-flaw-requires c κs = search needs
-
-enum-known-f : tie.Need-enum-known-f
-enum-known-f c = search needs
-
-refused-requires : tie.Need-refused-requires
-refused-requires c κs = search needs
-
-enum-told : tie.Need-enum-told
-enum-told c = search needs
-
 bins-of-requires : tie.Need-bins-of-requires
 bins-of-requires c κs = base-sound _ (sym (c .before .before .tiles-flaw .ensures) ∙ c .enum-told .given .1)
 
@@ -27,9 +15,6 @@ rows-in-requires c κs = rw (c .before .bins-of .ensures) (stands _ (sym (c .bef
 returns : tie.Need-returns
 unfolding rowsAnswer rowsOut
 returns c = (ap Refused (c .refused .ensures) ∙ rw (← c .before .before .before .before .tiles-flaw .ensures, c .before .before .f .given .1), rw (← c .before .before .before .before .tiles-flaw .ensures, c .before .before .f .given .1))
-
-same-length : tie.Need-same-length
-same-length c = search needs
 
 returns-2 : tie.Need-returns-2
 unfolding rowsAnswer rowsOut
@@ -43,12 +28,12 @@ pub rows-spec : {M : Type 1} → statement M
 rows-spec =
     tie.close
     (tie.spec
-    tiles-flaw-requires
-    enum-known-f
-    refused-requires
-    enum-told
+    (λ c κs. search needs)
+    (λ c. search needs)
+    (λ c κs. search needs)
+    (λ c. search needs)
     bins-of-requires
     rows-in-requires
     returns
-    same-length
+    (λ c. search needs)
     returns-2)

@@ -8,12 +8,6 @@ use Rattle.remnants.proofs.Stores.{rows-none, rows-short, rows-some}
 use Rattle.remnants.proofs.rows_in.Statement.{statement}
 use Rattle.remnants.proofs.rows_in.Tie as tie
 
-first-requires : tie.Need-first-requires
-first-requires c κs = search needs
-
-is-some-requires : tie.Need-is-some-requires
-is-some-requires c κs = search needs
-
 returns : tie.Need-returns
 returns c =
     rows-none (now (c .before .before .before .before .before .args .rows)) (none-left (c .before .before .first .ensures) (sym (c .before .is-some .ensures) ∙ not-true _ (c .if1 .taken)))
@@ -25,14 +19,8 @@ returns-2 c =
     (one-left (c .before .before .before .before .first .ensures) (sym (c .before .before .before .is-some .ensures) ∙ not-false _ (c .before .before .if1 .left))) in
     (ap filled.Refused (c .refused .ensures) ∙ short .0, short .1)
 
-refused-requires : tie.Need-refused-requires
-refused-requires c κs = search needs
-
 fill-requires : tie.Need-fill-requires
 fill-requires c κs = c .before .before .before .before .first .ensures .sought
-
-same-length : tie.Need-same-length
-same-length c = search needs
 
 returns-3 : tie.Need-returns-3
 returns-3 c =
@@ -44,11 +32,11 @@ pub rows-in-spec : {M : Type 1} → statement M
 rows-in-spec =
     tie.close
     (tie.spec
-    first-requires
-    is-some-requires
+    (λ c κs. search needs)
+    (λ c κs. search needs)
     returns
-    refused-requires
+    (λ c κs. search needs)
     returns-2
     fill-requires
-    same-length
+    (λ c. search needs)
     returns-3)

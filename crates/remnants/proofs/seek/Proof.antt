@@ -19,9 +19,6 @@ loop-holds c = looking (c .before .pre)
 find-requires : tie.Need-find-requires Inv-loop μ-loop
 find-requires c κs = looked-free (c .before .loop .inv)
 
-is-some-requires : tie.Need-is-some-requires Inv-loop μ-loop
-is-some-requires c κs = search needs
-
 returns : tie.Need-returns Inv-loop μ-loop
 returns c = seen (c .before .before .before .before .loop .inv) refl (c .before .before .find .ensures) (sym (c .before .is-some .ensures) ∙ c .if1 .taken)
 
@@ -45,7 +42,7 @@ seek-spec =
     μ-loop
     loop-holds
     find-requires
-    is-some-requires
+    (λ c κs. search needs)
     returns
     next-free-requires
     loop-less

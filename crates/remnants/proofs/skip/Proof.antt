@@ -11,21 +11,9 @@ returns c = record { low = omega arith; high = omega arith; eights = omega arith
 returns-2 : tie.Need-returns-2
 returns-2 c = record { low = omega arith; high = omega arith; eights = omega arith; past = λ h. omega arith; near = inr (omega arith) }
 
-sub-result : tie.Need-sub-result
-sub-result c = search needs
-
-add-result : tie.Need-add-result
-add-result c = search needs
-
-mul-result : tie.Need-mul-result
-mul-result c = search needs
-
-add-result-2 : tie.Need-add-result-2
-add-result-2 c = search needs
-
 returns-3 : tie.Need-returns-3
 returns-3 c = record { low = omega arith; high = omega arith; eights = omega arith; past = λ h. omega arith; near = inr (omega arith) }
 
 pub skip-spec : {M : Type 1} → statement M
 skip-spec =
-    tie.close (tie.spec returns returns-2 sub-result add-result mul-result add-result-2 returns-3)
+    tie.close (tie.spec returns returns-2 (λ c. search needs) (λ c. search needs) (λ c. search needs) (λ c. search needs) returns-3)

@@ -7,26 +7,11 @@ use borrow.Author.Needs.{needs}
 use Rattle.remnants.proofs.tiles_flaw.Statement.{statement}
 use Rattle.remnants.proofs.tiles_flaw.Tie as tie
 
-base-flaw-requires : tie.Need-base-flaw-requires
-base-flaw-requires c κs = search needs
-
-enum-known-f : tie.Need-enum-known-f
-enum-known-f c = search needs
-
-enum-told : tie.Need-enum-told
-enum-told c = search needs
-
 bins-of-requires : tie.Need-bins-of-requires
 bins-of-requires c κs = sym (c .before .before .base-flaw .ensures) ∙ c .enum-told .given .1
 
 count-tiles-requires : tie.Need-count-tiles-requires
 count-tiles-requires c κs = rw (c .bins-of .ensures) (base-pages _ (sym (c .before .before .before .base-flaw .ensures) ∙ c .before .enum-told .given .1))
-
-enum-told-2 : tie.Need-enum-told-2
-enum-told-2 c = search needs
-
-enum-known-f-2 : tie.Need-enum-known-f-2
-enum-known-f-2 c = search needs
 
 returns : tie.Need-returns
 unfolding tilesFault
@@ -42,13 +27,13 @@ pub tiles-flaw-spec : {M : Type 1} → statement M
 tiles-flaw-spec =
     tie.close
     (tie.spec
-    base-flaw-requires
-    enum-known-f
-    enum-told
+    (λ c κs. search needs)
+    (λ c. search needs)
+    (λ c. search needs)
     bins-of-requires
     count-tiles-requires
-    enum-told-2
-    enum-known-f-2
+    (λ c. search needs)
+    (λ c. search needs)
     returns
     returns-2
     returns-3)

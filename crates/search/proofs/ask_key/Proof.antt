@@ -7,26 +7,8 @@ use borrow.Author.Needs.{needs}
 use Rattle.search.proofs.ask_key.Statement.{statement}
 use Rattle.search.proofs.ask_key.Tie as tie
 
-name-at-requires : tie.Need-name-at-requires
-name-at-requires c κs = search needs
-
-enum-known-f : tie.Need-enum-known-f
-enum-known-f c = search needs
-
-enum-known-stored : tie.Need-enum-known-stored
-enum-known-stored c = search needs
-
 order-of-requires : tie.Need-order-of-requires
 order-of-requires c κs = key-room _ [] _ (sym (c .before .before .before .name-at .ensures) ∙ c .before .stored .given .1)
-
-enum-told : tie.Need-enum-told
-enum-told c = search needs
-
-enum-told-2 : tie.Need-enum-told-2
-enum-told-2 c = search needs
-
-enum-told-3 : tie.Need-enum-told-3
-enum-told-3 c = search needs
 
 returns : tie.Need-returns
 returns c = sym (ask-bad _ _ _ (sym (c .before .before .before .name-at .ensures) ∙ c .before .f .given .1))
@@ -44,13 +26,13 @@ pub ask-key-spec : {M : Type 1} → statement M
 ask-key-spec =
     tie.close
     (tie.spec
-    name-at-requires
-    enum-known-f
-    enum-known-stored
+    (λ c κs. search needs)
+    (λ c. search needs)
+    (λ c. search needs)
     order-of-requires
-    enum-told
-    enum-told-2
-    enum-told-3
+    (λ c. search needs)
+    (λ c. search needs)
+    (λ c. search needs)
     returns
     returns-2
     returns-3

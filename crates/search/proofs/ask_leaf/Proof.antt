@@ -6,18 +6,6 @@ use borrow.Author.Needs.{needs}
 use Rattle.search.proofs.ask_leaf.Statement.{statement}
 use Rattle.search.proofs.ask_leaf.Tie as tie
 
-slice-aggregate-leaf-at : tie.Need-slice-aggregate-leaf-at
-slice-aggregate-leaf-at c = search needs
-
-leaf-at-requires : tie.Need-leaf-at-requires
-leaf-at-requires c κs = search needs
-
-enum-known-f : tie.Need-enum-known-f
-enum-known-f c = search needs
-
-enum-known-leaf : tie.Need-enum-known-leaf
-enum-known-leaf c = search needs
-
 ask-keys-requires : tie.Need-ask-keys-requires
 ask-keys-requires c κs =
     let x = c .before .before .before .before .before .before .before .args .name .now in
@@ -34,10 +22,10 @@ pub ask-leaf-spec : {M : Type 1} → statement M
 ask-leaf-spec =
     tie.close
     (tie.spec
-    slice-aggregate-leaf-at
-    leaf-at-requires
-    enum-known-f
-    enum-known-leaf
+    (λ c. search needs)
+    (λ c κs. search needs)
+    (λ c. search needs)
+    (λ c. search needs)
     ask-keys-requires
     returns
     returns-2)

@@ -6,15 +6,6 @@ use borrow.Author.Needs.{needs}
 use Rattle.search.proofs.key_named.Statement.{statement}
 use Rattle.search.proofs.key_named.Tie as tie
 
-name-at-requires : tie.Need-name-at-requires
-name-at-requires c κs = search needs
-
-enum-known-f : tie.Need-enum-known-f
-enum-known-f c = search needs
-
-enum-known-stored : tie.Need-enum-known-stored
-enum-known-stored c = search needs
-
 is-called-requires : tie.Need-is-called-requires
 is-called-requires c κs = key-room _ [] _ (sym (c .before .before .before .name-at .ensures) ∙ c .before .stored .given .1)
 
@@ -31,9 +22,9 @@ pub key-named-spec : {M : Type 1} → statement M
 key-named-spec =
     tie.close
     (tie.spec
-    name-at-requires
-    enum-known-f
-    enum-known-stored
+    (λ c κs. search needs)
+    (λ c. search needs)
+    (λ c. search needs)
     is-called-requires
     returns
     returns-2

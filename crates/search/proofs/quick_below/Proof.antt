@@ -9,18 +9,6 @@ use Rattle.search.proofs.quick_below.Tie as tie
 returns : tie.Need-returns
 returns c = sym (below-none _ _ _ (c .if1 .taken))
 
-slice-aggregate-head-at : tie.Need-slice-aggregate-head-at
-slice-aggregate-head-at c = search needs
-
-head-at-requires : tie.Need-head-at-requires
-head-at-requires c κs = search needs
-
-enum-known-f : tie.Need-enum-known-f
-enum-known-f c = search needs
-
-enum-known-ls : tie.Need-enum-known-ls
-enum-known-ls c = search needs
-
 quick-leaves-requires : tie.Need-quick-leaves-requires
 quick-leaves-requires c κs = below-room _ (c .before .before .before .before .before .before .before .before .before .args .name .now) (c .before .before .before .before .before .before .before .before .before .args .k) (sym (c .before .before .before .head-at .ensures) ∙ c .before .ls .given .1)
 
@@ -35,10 +23,10 @@ quick-below-spec =
     tie.close
     (tie.spec
     returns
-    slice-aggregate-head-at
-    head-at-requires
-    enum-known-f
-    enum-known-ls
+    (λ c. search needs)
+    (λ c κs. search needs)
+    (λ c. search needs)
+    (λ c. search needs)
     quick-leaves-requires
     returns-2
     returns-3)

@@ -27,41 +27,11 @@ returns c =
     let s = c .before .before .before .before .before in
     sym (halves-none (askLeaf (s .args .bins .now) (s .args .name .now)) nowhere (leavesNamed (s .args .bins .now) (s .args .ls)) (l .turns) (l .lo) (l .hi) (l .inv .1) (omega arith) (omega arith))
 
-sub-mid : tie.Need-sub-mid Inv-loop μ-loop
-sub-mid c = search needs
-
-add-mid : tie.Need-add-mid Inv-loop μ-loop
-add-mid c = search needs
-
-leaf-offset-requires : tie.Need-leaf-offset-requires Inv-loop μ-loop
-leaf-offset-requires c κs = search needs
-
-ask-leaf-requires : tie.Need-ask-leaf-requires Inv-loop μ-loop
-ask-leaf-requires c κs = search needs
-
-enum-told : tie.Need-enum-told Inv-loop μ-loop
-enum-told c = search needs
-
-enum-told-2 : tie.Need-enum-told-2 Inv-loop μ-loop
-enum-told-2 c = search needs
-
-add-lo : tie.Need-add-lo Inv-loop μ-loop
-add-lo c = search needs
-
-enum-known-a : tie.Need-enum-known-a Inv-loop μ-loop
-enum-known-a c = search needs
-
 returns-2 : tie.Need-returns-2 Inv-loop μ-loop
 returns-2 c =
     let l = c .before .before .before .before .before .before .before .loop in
     let s = c .before .before .before .before .before .before .before .before .before .before in
     sym (halves-stop (askLeaf (s .args .bins .now) (s .args .name .now)) nowhere (leavesNamed (s .args .bins .now) (s .args .ls)) (l .turns) (l .lo) (l .hi) (l .inv .1) (omega arith) (omega arith) (c .before .before .before .before .leaf-offset .ensures ∙ named-at _ _ (s .pre) _ (omega arith)) (c .before .before .before .ask-leaf .ensures) (c .before .a .given .1))
-
-sub-turns : tie.Need-sub-turns Inv-loop μ-loop
-sub-turns c = search needs
-
-loop-less : tie.Need-loop-less Inv-loop μ-loop
-loop-less c = search needs
 
 loop-again : tie.Need-loop-again Inv-loop μ-loop
 loop-again c =
@@ -86,16 +56,16 @@ quick-leaves-spec =
     μ-loop
     loop-holds
     returns
-    sub-mid
-    add-mid
-    leaf-offset-requires
-    ask-leaf-requires
-    enum-told
-    enum-told-2
-    add-lo
-    enum-known-a
+    (λ c. search needs)
+    (λ c. search needs)
+    (λ c κs. search needs)
+    (λ c κs. search needs)
+    (λ c. search needs)
+    (λ c. search needs)
+    (λ c. search needs)
+    (λ c. search needs)
     returns-2
-    sub-turns
-    loop-less
+    (λ c. search needs)
+    (λ c. search needs)
     loop-again
     returns-3)

@@ -20,32 +20,11 @@ abbrev μ-loop : tie.MeasureT-loop
 loop-holds : tie.Need-loop-holds Inv-loop μ-loop
 loop-holds c = (omega arith, refl, refl)
 
-child-offset-requires : tie.Need-child-offset-requires Inv-loop μ-loop
-child-offset-requires c κs = search needs
-
-key-named-requires : tie.Need-key-named-requires Inv-loop μ-loop
-key-named-requires c κs = search needs
-
-enum-told : tie.Need-enum-told Inv-loop μ-loop
-enum-told c = search needs
-
-enum-known-o : tie.Need-enum-known-o Inv-loop μ-loop
-enum-known-o c = search needs
-
 returns : tie.Need-returns Inv-loop μ-loop
 returns c = let l = c .before .before .before .before .before .before .loop in let a = c .before .before .before .before .before .before .before .before .before .args in sym (turn-found _ _ (l .i) _ (l .inv .2) _ (omega (arith, elements-length (a .bins .now) (a .leaf))) (element-at _ _ _ (omega arith) refl) (sym (key-by _ _ _ _ (c .before .before .before .before .child-offset .ensures)) ∙ sym (c .before .before .before .key-named .ensures) ∙ c .before .o .given .1))
 
-enum-known-f : tie.Need-enum-known-f Inv-loop μ-loop
-enum-known-f c = search needs
-
 returns-2 : tie.Need-returns-2 Inv-loop μ-loop
 returns-2 c = let l = c .before .before .before .before .before .before .loop in let a = c .before .before .before .before .before .before .before .before .before .args in sym (turn-faulty _ _ (l .i) _ (l .inv .2) _ (omega (arith, elements-length (a .bins .now) (a .leaf))) (element-at _ _ _ (omega arith) refl) (sym (key-by _ _ _ _ (c .before .before .before .before .child-offset .ensures)) ∙ sym (c .before .before .before .key-named .ensures) ∙ c .before .f .given .1))
-
-add-i : tie.Need-add-i Inv-loop μ-loop
-add-i c = search needs
-
-loop-less : tie.Need-loop-less Inv-loop μ-loop
-loop-less c = search needs
 
 loop-again : tie.Need-loop-again Inv-loop μ-loop
 loop-again c = let l = c .before .before .before .before .before .loop in let a = c .before .before .before .before .before .before .before .before .args in (omega arith, l .inv .1, turn-on _ _ (l .i) _ (l .inv .2) _ (omega (arith, elements-length (a .bins .now) (a .leaf))) (element-at _ _ _ (omega arith) refl) (sym (key-by _ _ _ _ (c .before .before .before .child-offset .ensures)) ∙ sym (c .before .before .key-named .ensures) ∙ c .enum-told .given .1))
@@ -60,14 +39,14 @@ search-keys-spec =
     Inv-loop
     μ-loop
     loop-holds
-    child-offset-requires
-    key-named-requires
-    enum-told
-    enum-known-o
+    (λ c κs. search needs)
+    (λ c κs. search needs)
+    (λ c. search needs)
+    (λ c. search needs)
     returns
-    enum-known-f
+    (λ c. search needs)
     returns-2
-    add-i
-    loop-less
+    (λ c. search needs)
+    (λ c. search needs)
     loop-again
     returns-3)

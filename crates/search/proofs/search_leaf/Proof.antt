@@ -5,18 +5,6 @@ use borrow.Author.Needs.{needs}
 use Rattle.search.proofs.search_leaf.Statement.{statement}
 use Rattle.search.proofs.search_leaf.Tie as tie
 
-slice-aggregate-leaf-at : tie.Need-slice-aggregate-leaf-at
-slice-aggregate-leaf-at c = search needs
-
-leaf-at-requires : tie.Need-leaf-at-requires
-leaf-at-requires c κs = search needs
-
-enum-known-f : tie.Need-enum-known-f
-enum-known-f c = search needs
-
-enum-known-leaf : tie.Need-enum-known-leaf
-enum-known-leaf c = search needs
-
 search-keys-requires : tie.Need-search-keys-requires
 search-keys-requires c κs = leaf-room _ (c .before .before .before .before .before .before .before .args .name .now) _ (sym (c .before .before .before .leaf-at .ensures) ∙ c .before .leaf .given .1)
 
@@ -30,10 +18,10 @@ pub search-leaf-spec : {M : Type 1} → statement M
 search-leaf-spec =
     tie.close
     (tie.spec
-    slice-aggregate-leaf-at
-    leaf-at-requires
-    enum-known-f
-    enum-known-leaf
+    (λ c. search needs)
+    (λ c κs. search needs)
+    (λ c. search needs)
+    (λ c. search needs)
     search-keys-requires
     returns
     returns-2)

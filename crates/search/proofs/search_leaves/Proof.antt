@@ -23,29 +23,11 @@ loop-holds c = (omega arith, refl, refl)
 leaf-offset-requires : tie.Need-leaf-offset-requires Inv-loop μ-loop
 leaf-offset-requires c κs = (omega arith, c .before .before .before .before .pre)
 
-search-leaf-requires : tie.Need-search-leaf-requires Inv-loop μ-loop
-search-leaf-requires c κs = search needs
-
-enum-told : tie.Need-enum-told Inv-loop μ-loop
-enum-told c = search needs
-
-enum-known-o : tie.Need-enum-known-o Inv-loop μ-loop
-enum-known-o c = search needs
-
 returns : tie.Need-returns Inv-loop μ-loop
 returns c = let l = c .before .before .before .before .before .before .loop in let s = c .before .before .before .before .before .before .before .before .before in sym (turn-found _ _ (l .j) _ (l .inv .2) _ (omega (arith, named-length (s .args .bins .now) (s .args .ls) (s .pre))) (c .before .before .before .before .leaf-offset .ensures ∙ named-at _ _ (s .pre) _ (omega arith)) (sym (c .before .before .before .search-leaf .ensures) ∙ c .before .o .given .1))
 
-enum-known-f : tie.Need-enum-known-f Inv-loop μ-loop
-enum-known-f c = search needs
-
 returns-2 : tie.Need-returns-2 Inv-loop μ-loop
 returns-2 c = let l = c .before .before .before .before .before .before .loop in let s = c .before .before .before .before .before .before .before .before .before in sym (turn-faulty _ _ (l .j) _ (l .inv .2) _ (omega (arith, named-length (s .args .bins .now) (s .args .ls) (s .pre))) (c .before .before .before .before .leaf-offset .ensures ∙ named-at _ _ (s .pre) _ (omega arith)) (sym (c .before .before .before .search-leaf .ensures) ∙ c .before .f .given .1))
-
-add-j : tie.Need-add-j Inv-loop μ-loop
-add-j c = search needs
-
-loop-less : tie.Need-loop-less Inv-loop μ-loop
-loop-less c = search needs
 
 loop-again : tie.Need-loop-again Inv-loop μ-loop
 loop-again c = let l = c .before .before .before .before .before .loop in let s = c .before .before .before .before .before .before .before .before in (omega arith, l .inv .1, turn-on _ _ (l .j) _ (l .inv .2) _ (omega (arith, named-length (s .args .bins .now) (s .args .ls) (s .pre))) (c .before .before .before .leaf-offset .ensures ∙ named-at _ _ (s .pre) _ (omega arith)) (sym (c .before .before .search-leaf .ensures) ∙ c .enum-told .given .1))
@@ -61,13 +43,13 @@ search-leaves-spec =
     μ-loop
     loop-holds
     leaf-offset-requires
-    search-leaf-requires
-    enum-told
-    enum-known-o
+    (λ c κs. search needs)
+    (λ c. search needs)
+    (λ c. search needs)
     returns
-    enum-known-f
+    (λ c. search needs)
     returns-2
-    add-j
-    loop-less
+    (λ c. search needs)
+    (λ c. search needs)
     loop-again
     returns-3)

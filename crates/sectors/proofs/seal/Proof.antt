@@ -7,18 +7,6 @@ use borrow.Author.Needs.{needs}
 use Rattle.sectors.proofs.seal.Statement.{statement}
 use Rattle.sectors.proofs.seal.Tie as tie
 
-put-u32-requires : tie.Need-put-u32-requires
-put-u32-requires c κs = search needs
-
-stored-checksum-requires : tie.Need-stored-checksum-requires
-stored-checksum-requires c κs = search needs
-
-put-u32-requires-2 : tie.Need-put-u32-requires-2
-put-u32-requires-2 c κs = search needs
-
-same-length : tie.Need-same-length
-same-length c = search needs
-
 returns : tie.Need-returns
 unfolding closingSector
 returns c =
@@ -30,4 +18,4 @@ returns c =
 pub seal-spec : {M : Type 1} → statement M
 seal-spec =
     tie.close
-    (tie.spec put-u32-requires stored-checksum-requires put-u32-requires-2 same-length returns)
+    (tie.spec (λ c κs. search needs) (λ c κs. search needs) (λ c κs. search needs) (λ c. search needs) returns)

@@ -8,36 +8,6 @@ use borrow.Author.Needs.{needs}
 use Rattle.sectors.proofs.store.Statement.{statement}
 use Rattle.sectors.proofs.store.Tie as tie
 
-add-copy-all : tie.Need-add-copy-all
-add-copy-all c = search needs
-
-sub-copy-all : tie.Need-sub-copy-all
-sub-copy-all c = search needs
-
-part-copy-all-start : tie.Need-part-copy-all-start
-part-copy-all-start c = search needs
-
-part-copy-all-end : tie.Need-part-copy-all-end
-part-copy-all-end c = search needs
-
-add-copy-all-2 : tie.Need-add-copy-all-2
-add-copy-all-2 c = search needs
-
-sub-copy-all-2 : tie.Need-sub-copy-all-2
-sub-copy-all-2 c = search needs
-
-part-copy-all-start-2 : tie.Need-part-copy-all-start-2
-part-copy-all-start-2 c = search needs
-
-part-copy-all-end-2 : tie.Need-part-copy-all-end-2
-part-copy-all-end-2 c = search needs
-
-copy-all-requires : tie.Need-copy-all-requires
-copy-all-requires c κs = search needs
-
-same-length : tie.Need-same-length
-same-length c = search needs
-
 returns : tie.Need-returns
 returns c =
     let s = c .before .before .before .before .before .before .before in
@@ -53,14 +23,14 @@ pub store-spec : {M : Type 1} → statement M
 store-spec =
     tie.close
     (tie.spec
-    add-copy-all
-    sub-copy-all
-    part-copy-all-start
-    part-copy-all-end
-    add-copy-all-2
-    sub-copy-all-2
-    part-copy-all-start-2
-    part-copy-all-end-2
-    copy-all-requires
-    same-length
+    (λ c. search needs)
+    (λ c. search needs)
+    (λ c. search needs)
+    (λ c. search needs)
+    (λ c. search needs)
+    (λ c. search needs)
+    (λ c. search needs)
+    (λ c. search needs)
+    (λ c κs. search needs)
+    (λ c. search needs)
     returns)

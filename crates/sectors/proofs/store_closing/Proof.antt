@@ -7,24 +7,6 @@ use borrow.Author.Needs.{needs}
 use Rattle.sectors.proofs.store_closing.Statement.{statement}
 use Rattle.sectors.proofs.store_closing.Tie as tie
 
-store-requires : tie.Need-store-requires
-store-requires c κs = search needs
-
-sub-seal : tie.Need-sub-seal
-sub-seal c = search needs
-
-part-seal-start : tie.Need-part-seal-start
-part-seal-start c = search needs
-
-part-seal-end : tie.Need-part-seal-end
-part-seal-end c = search needs
-
-seal-requires : tie.Need-seal-requires
-seal-requires c κs = search needs
-
-same-length : tie.Need-same-length
-same-length c = search needs
-
 returns : tie.Need-returns
 returns c =
     let k = c .before .before in
@@ -40,10 +22,10 @@ pub store-closing-spec : {M : Type 1} → statement M
 store-closing-spec =
     tie.close
     (tie.spec
-    store-requires
-    sub-seal
-    part-seal-start
-    part-seal-end
-    seal-requires
-    same-length
+    (λ c κs. search needs)
+    (λ c. search needs)
+    (λ c. search needs)
+    (λ c. search needs)
+    (λ c κs. search needs)
+    (λ c. search needs)
     returns)

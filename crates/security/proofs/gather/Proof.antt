@@ -52,9 +52,6 @@ insert-requires c κs =
     let l = c .before .before .before .before .before .before .loop-test .taken in
     (g .table, (l, omega (arith, l, g .keys-same, g .older-same, p .links), omega (arith, l, g .keys-same, p .few)))
 
-add-n : tie.Need-add-n Inv-loop μ-loop
-add-n c = search needs
-
 -- after the insertion
 module _ (c : tie.After-struct-known2 Inv-loop μ-loop) where
   abbrev start : tie.Start Inv-loop μ-loop
@@ -130,7 +127,7 @@ gather-spec =
     same-length-3
     returns
     insert-requires
-    add-n
+    (λ c. search needs)
     same-length-4
     same-length-5
     same-length-6

@@ -9,18 +9,6 @@ use Rattle.security.proofs.Items.{item-missing}
 use Rattle.security.proofs.has_room.Statement.{statement}
 use Rattle.security.proofs.has_room.Tie as tie
 
-find-cell-requires : tie.Need-find-cell-requires
-find-cell-requires c κs = search needs
-
-enum-told : tie.Need-enum-told
-enum-told c = search needs
-
-enum-known-c : tie.Need-enum-known-c
-enum-known-c c = search needs
-
-add-result : tie.Need-add-result
-add-result c = search needs
-
 returns : tie.Need-returns
 returns c =
     let p = c .before .before .before .before .before .pre in
@@ -36,4 +24,4 @@ returns-2 c =
 
 pub has-room-spec : {M : Type 1} → statement M
 has-room-spec =
-    tie.close (tie.spec find-cell-requires enum-told enum-known-c add-result returns returns-2)
+    tie.close (tie.spec (λ c κs. search needs) (λ c. search needs) (λ c. search needs) (λ c. search needs) returns returns-2)

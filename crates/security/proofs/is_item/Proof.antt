@@ -16,26 +16,11 @@ found : (c : tie.After-known-told) → let a = c .before .before .before .before
     cellOf Map (now (a .bins)) (now (a .map)) (a .o) ≡ Named (c .before .c .given .0 .0)
 found c = sym (c .before .before .before .find-cell .ensures) ∙ c .before .c .given .1
 
-find-cell-requires : tie.Need-find-cell-requires
-find-cell-requires c κs = search needs
-
-enum-told : tie.Need-enum-told
-enum-told c = search needs
-
-enum-known-c : tie.Need-enum-known-c
-enum-known-c c = search needs
-
 cell-data-requires : tie.Need-cell-data-requires
 cell-data-requires c κs = inside _ _ _ _ (found c)
 
 returns : tie.Need-returns
 returns c = sym (item-short _ _ _ (found (c .before .before)) (rw (c .before .cell-data .ensures) at (c .if1 .taken)))
-
-slice-aggregate-stands-at : tie.Need-slice-aggregate-stands-at
-slice-aggregate-stands-at c = search needs
-
-stands-at-requires : tie.Need-stands-at-requires
-stands-at-requires c κs = search needs
 
 returns-2 : tie.Need-returns-2
 returns-2 c = sym (item-missing _ _ _ (sym (c .before .before .find-cell .ensures) ∙ c .enum-told .given .1))
@@ -49,12 +34,12 @@ pub is-item-spec : {M : Type 1} → statement M
 is-item-spec =
     tie.close
     (tie.spec
-    find-cell-requires
-    enum-told
-    enum-known-c
+    (λ c κs. search needs)
+    (λ c. search needs)
+    (λ c. search needs)
     cell-data-requires
     returns
-    slice-aggregate-stands-at
-    stands-at-requires
+    (λ c. search needs)
+    (λ c κs. search needs)
     returns-2
     returns-3)

@@ -5,9 +5,6 @@ use Rattle.security.proofs.Items.{item-facts, not-linked, linked-by}
 use Rattle.security.proofs.is_linked.Statement.{statement}
 use Rattle.security.proofs.is_linked.Tie as tie
 
-is-item-requires : tie.Need-is-item-requires
-is-item-requires c κs = search needs
-
 returns : tie.Need-returns
 returns c =
     let p = c .before .before .before .before .pre in
@@ -23,4 +20,4 @@ returns-2 c =
     rw (c .before .before .before .item-at .ensures, p) (sym (linked-by _ _ _ (rw p at i)))
 
 pub is-linked-spec : {M : Type 1} → statement M
-is-linked-spec = tie.close (tie.spec is-item-requires returns item-at-requires returns-2)
+is-linked-spec = tie.close (tie.spec (λ c κs. search needs) returns item-at-requires returns-2)

@@ -3,18 +3,6 @@ use Rattle.security.specs.Items.{itemIn}
 use Rattle.security.proofs.item_in.Statement.{statement}
 use Rattle.security.proofs.item_in.Tie as tie
 
-u32-at-requires : tie.Need-u32-at-requires
-u32-at-requires c κs = search needs
-
-u32-at-requires-2 : tie.Need-u32-at-requires-2
-u32-at-requires-2 c κs = search needs
-
-u32-at-requires-3 : tie.Need-u32-at-requires-3
-u32-at-requires-3 c κs = search needs
-
-u32-at-requires-4 : tie.Need-u32-at-requires-4
-u32-at-requires-4 c κs = search needs
-
 returns : tie.Need-returns
 unfolding itemIn
 returns c =
@@ -23,4 +11,4 @@ returns c =
 pub item-in-spec : {M : Type 1} → statement M
 item-in-spec =
     tie.close
-    (tie.spec u32-at-requires u32-at-requires-2 u32-at-requires-3 u32-at-requires-4 returns)
+    (tie.spec (λ c κs. search needs) (λ c κs. search needs) (λ c κs. search needs) (λ c κs. search needs) returns)

@@ -8,18 +8,12 @@ use Rattle.shapes.proofs.data_size.Tie as tie
 returns : tie.Need-returns
 returns c = sym (data-none (c .before .args .n) (omega arith))
 
-cell-size-requires : tie.Need-cell-size-requires
-cell-size-requires c κs = search needs
-
 returns-2 : tie.Need-returns-2
 returns-2 c = c .cell-size .ensures ∙ sym (data-one (c .before .before .before .args .n) (omega arith) (omega arith))
-
-segmented-size-requires : tie.Need-segmented-size-requires
-segmented-size-requires c κs = search needs
 
 returns-3 : tie.Need-returns-3
 returns-3 c = c .segmented-size .ensures ∙ sym (data-more (c .before .before .before .args .n) (omega arith))
 
 pub data-size-spec : {M : Type 1} → statement M
 data-size-spec =
-    tie.close (tie.spec returns cell-size-requires returns-2 segmented-size-requires returns-3)
+    tie.close (tie.spec returns (λ c κs. search needs) returns-2 (λ c κs. search needs) returns-3)

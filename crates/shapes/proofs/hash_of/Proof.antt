@@ -3,15 +3,9 @@ use borrow.Author.Needs.{needs}
 use Rattle.shapes.proofs.hash_of.Statement.{statement}
 use Rattle.shapes.proofs.hash_of.Tie as tie
 
-part-of-requires : tie.Need-part-of-requires
-part-of-requires c κs = search needs
-
-hash-requires : tie.Need-hash-requires
-hash-requires c κs = search needs
-
 returns : tie.Need-returns
 unfolding nameIn
 returns c = rw (← c .before .part-of .ensures) (c .hash .ensures)
 
 pub hash-of-spec : {M : Type 1} → statement M
-hash-of-spec = tie.close (tie.spec part-of-requires hash-requires returns)
+hash-of-spec = tie.close (tie.spec (λ c κs. search needs) (λ c κs. search needs) returns)

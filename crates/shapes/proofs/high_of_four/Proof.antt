@@ -5,20 +5,8 @@ use borrow.Author.Needs.{needs}
 use Rattle.shapes.proofs.high_of_four.Statement.{statement}
 use Rattle.shapes.proofs.high_of_four.Tie as tie
 
-add-result : tie.Need-add-result
-add-result c = search needs
-
-shared-slice-read-result : tie.Need-shared-slice-read-result
-shared-slice-read-result c = search needs
-
 cast-result : tie.Need-cast-result
 cast-result c = let i = c .before .args .i in omega (arith, c .shared-slice-known .given (i + 1))
-
-add-result-2 : tie.Need-add-result-2
-add-result-2 c = search needs
-
-shared-slice-read-result-2 : tie.Need-shared-slice-read-result-2
-shared-slice-read-result-2 c = search needs
 
 cast-result-2 : tie.Need-cast-result-2
 cast-result-2 c = let i = c .before .before .args .i in omega (arith, c .shared-slice-known2 .given (i + 3))
@@ -26,23 +14,11 @@ cast-result-2 c = let i = c .before .before .args .i in omega (arith, c .shared-
 add-result-3 : tie.Need-add-result-3
 add-result-3 c = let i = c .before .before .args .i in omega (arith, c .shared-slice-known2 .given (i + 3), c .before .shared-slice-known .given (i + 1))
 
-add-result-4 : tie.Need-add-result-4
-add-result-4 c = search needs
-
-shared-slice-read-result-3 : tie.Need-shared-slice-read-result-3
-shared-slice-read-result-3 c = search needs
-
 cast-result-3 : tie.Need-cast-result-3
 cast-result-3 c = let i = c .before .before .before .args .i in omega (arith, c .shared-slice-known3 .given (i + 5))
 
 add-result-5 : tie.Need-add-result-5
 add-result-5 c = let i = c .before .before .before .args .i in omega (arith, c .shared-slice-known3 .given (i + 5), c .before .shared-slice-known2 .given (i + 3), c .before .before .shared-slice-known .given (i + 1))
-
-add-result-6 : tie.Need-add-result-6
-add-result-6 c = search needs
-
-shared-slice-read-result-4 : tie.Need-shared-slice-read-result-4
-shared-slice-read-result-4 c = search needs
 
 cast-result-4 : tie.Need-cast-result-4
 cast-result-4 c = let i = c .before .before .before .before .args .i in omega (arith, c .shared-slice-known4 .given (i + 5), c .shared-slice-known4 .given (i + 7))
@@ -57,19 +33,19 @@ pub high-of-four-spec : {M : Type 1} → statement M
 high-of-four-spec =
     tie.close
     (tie.spec
-    add-result
-    shared-slice-read-result
+    (λ c. search needs)
+    (λ c. search needs)
     cast-result
-    add-result-2
-    shared-slice-read-result-2
+    (λ c. search needs)
+    (λ c. search needs)
     cast-result-2
     add-result-3
-    add-result-4
-    shared-slice-read-result-3
+    (λ c. search needs)
+    (λ c. search needs)
     cast-result-3
     add-result-5
-    add-result-6
-    shared-slice-read-result-4
+    (λ c. search needs)
+    (λ c. search needs)
     cast-result-4
     add-result-7
     returns)

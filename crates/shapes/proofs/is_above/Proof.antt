@@ -5,24 +5,6 @@ use borrow.Author.Needs.{needs}
 use Rattle.shapes.proofs.is_above.Statement.{statement}
 use Rattle.shapes.proofs.is_above.Tie as tie
 
-part-of-requires : tie.Need-part-of-requires
-part-of-requires c κs = search needs
-
-part-of-requires-2 : tie.Need-part-of-requires-2
-part-of-requires-2 c κs = search needs
-
-compare-stored-requires : tie.Need-compare-stored-requires
-compare-stored-requires c κs = search needs
-
-enum-told : tie.Need-enum-told
-enum-told c = search needs
-
-enum-told-2 : tie.Need-enum-told-2
-enum-told-2 c = search needs
-
-enum-told-3 : tie.Need-enum-told-3
-enum-told-3 c = search needs
-
 returns : tie.Need-returns
 unfolding nameIn
 returns c = rw (← c .before .before .before .before .part-of .ensures, ← c .before .before .before .part-of2 .ensures) (sym (ap isBefore (sym (c .before .before .compare-stored .ensures) ∙ c .enum-told .given .1)))
@@ -39,12 +21,12 @@ pub is-above-spec : {M : Type 1} → statement M
 is-above-spec =
     tie.close
     (tie.spec
-    part-of-requires
-    part-of-requires-2
-    compare-stored-requires
-    enum-told
-    enum-told-2
-    enum-told-3
+    (λ c κs. search needs)
+    (λ c κs. search needs)
+    (λ c κs. search needs)
+    (λ c. search needs)
+    (λ c. search needs)
+    (λ c. search needs)
     returns
     returns-2
     returns-3)

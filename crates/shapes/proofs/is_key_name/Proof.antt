@@ -16,12 +16,6 @@ returns c = λ n. sym (key-empty _ _ (c .before .before .before .pre) n (omega a
 returns-2 : tie.Need-returns-2
 returns-2 c = λ n. sym (key-long _ _ (c .before .before .before .before .before .pre) n (omega arith) (omega arith))
 
-part-of-requires : tie.Need-part-of-requires
-part-of-requires c κs = search needs
-
-has-in-turn-requires : tie.Need-has-in-turn-requires
-has-in-turn-requires c κs = search needs
-
 returns-3 : tie.Need-returns-3
 unfolding nameIn
 returns-3 c =
@@ -31,4 +25,4 @@ returns-3 c =
 
 pub is-key-name-spec : {M : Type 1} → statement M
 is-key-name-spec =
-    tie.close (tie.spec returns returns-2 part-of-requires has-in-turn-requires returns-3)
+    tie.close (tie.spec returns returns-2 (λ c κs. search needs) (λ c κs. search needs) returns-3)

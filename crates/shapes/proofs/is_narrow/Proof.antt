@@ -7,9 +7,6 @@ use borrow.Author.Needs.{needs}
 use Rattle.shapes.proofs.is_narrow.Statement.{statement}
 use Rattle.shapes.proofs.is_narrow.Tie as tie
 
-part-of-requires : tie.Need-part-of-requires
-part-of-requires c κs = search needs
-
 is-narrow-text-requires : tie.Need-is-narrow-text-requires
 is-narrow-text-requires c κs =
     let p = c .before .before .pre in
@@ -20,4 +17,4 @@ unfolding nameIn
 returns c = rw (← c .before .part-of .ensures) (c .is-narrow-text .ensures)
 
 pub is-narrow-spec : {M : Type 1} → statement M
-is-narrow-spec = tie.close (tie.spec part-of-requires is-narrow-text-requires returns)
+is-narrow-spec = tie.close (tie.spec (λ c κs. search needs) is-narrow-text-requires returns)

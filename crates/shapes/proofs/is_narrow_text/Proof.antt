@@ -19,23 +19,11 @@ abbrev μ-loop : tie.MeasureT-loop
 loop-holds : tie.Need-loop-holds Inv-loop μ-loop
 loop-holds c = (omega arith, omega arith, refl)
 
-sub-if1 : tie.Need-sub-if1 Inv-loop μ-loop
-sub-if1 c = search needs
-
-high-of-four-requires : tie.Need-high-of-four-requires Inv-loop μ-loop
-high-of-four-requires c κs = search needs
-
 returns : tie.Need-returns Inv-loop μ-loop
 returns c =
     let l = c .before .before .before .before .loop in
     let s = c .before .before .before .before .before .before .args .s .now in
     sym (l .inv .2 ∙ four-stop s (l .i) (omega arith) _ (c .before .high-of-four .ensures) (c .if2 .taken))
-
-add-i : tie.Need-add-i Inv-loop μ-loop
-add-i c = search needs
-
-loop-less : tie.Need-loop-less Inv-loop μ-loop
-loop-less c = search needs
 
 loop-again : tie.Need-loop-again Inv-loop μ-loop
 loop-again c =
@@ -47,23 +35,11 @@ loop-again c =
           (λ j. omega (arith, c .before .before .before .before .before .shared-slice-known .given j)) (omega arith),
     )
 
-add-if3 : tie.Need-add-if3 Inv-loop μ-loop
-add-if3 c = search needs
-
-shared-slice-read-if3 : tie.Need-shared-slice-read-if3 Inv-loop μ-loop
-shared-slice-read-if3 c = search needs
-
 returns-2 : tie.Need-returns-2 Inv-loop μ-loop
 returns-2 c =
     let l = c .before .before .before .before .loop in
     let s = c .before .before .before .before .before .before .args .s .now in
     sym (l .inv .2 ∙ narrow-stop s (l .i) (l .i + 1) (l .i + 2) (omega arith) (omega arith) (omega arith) (c .if3 .taken))
-
-add-i-2 : tie.Need-add-i-2 Inv-loop μ-loop
-add-i-2 c = search needs
-
-loop-less-2 : tie.Need-loop-less-2 Inv-loop μ-loop
-loop-less-2 c = search needs
 
 loop-again-2 : tie.Need-loop-again-2 Inv-loop μ-loop
 loop-again-2 c =
@@ -87,16 +63,16 @@ is-narrow-text-spec =
     Inv-loop
     μ-loop
     loop-holds
-    sub-if1
-    high-of-four-requires
+    (λ c. search needs)
+    (λ c κs. search needs)
     returns
-    add-i
-    loop-less
+    (λ c. search needs)
+    (λ c. search needs)
     loop-again
-    add-if3
-    shared-slice-read-if3
+    (λ c. search needs)
+    (λ c. search needs)
     returns-2
-    add-i-2
-    loop-less-2
+    (λ c. search needs)
+    (λ c. search needs)
     loop-again-2
     returns-3)

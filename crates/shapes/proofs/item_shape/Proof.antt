@@ -7,35 +7,11 @@ use Rattle.shapes.proofs.item_shape.Tie as tie
 returns : tie.Need-returns
 returns c = read-none _ (item-short _ _ _ (c .before .before .pre) (c .if1 .taken))
 
-add-u32-at : tie.Need-add-u32-at
-add-u32-at c = search needs
-
-u32-at-requires : tie.Need-u32-at-requires
-u32-at-requires c κs = search needs
-
-cast-n : tie.Need-cast-n
-cast-n c = search needs
-
 returns-2 : tie.Need-returns-2
 returns-2 c = read-none _ (item-odd _ _ _ (c .before .before .before .before .pre) (c .before .before .if1 .left) _ (c .before .u32-at .ensures) (c .if2 .taken))
 
 returns-3 : tie.Need-returns-3
 returns-3 c = read-none _ (item-long _ _ _ (c .before .before .before .before .before .pre) (c .before .before .before .if1 .left) _ (c .before .before .u32-at .ensures) (omega arith) (c .if3 .taken))
-
-add-t9 : tie.Need-add-t9
-add-t9 c = search needs
-
-add-t9-2 : tie.Need-add-t9-2
-add-t9-2 c = search needs
-
-add-t10 : tie.Need-add-t10
-add-t10 c = search needs
-
-sub-t12 : tie.Need-sub-t12
-sub-t12 c = search needs
-
-u32-at-requires-2 : tie.Need-u32-at-requires-2
-u32-at-requires-2 c κs = search needs
 
 returns-4 : tie.Need-returns-4
 returns-4 c = item-whole _ _ _ (c .before .before .before .before .before .before .pre) (c .before .before .before .before .if1 .left) _ (c .before .before .before .u32-at .ensures) _ (c .u32-at2 .ensures) (omega arith) (c .before .if3 .left)
@@ -45,14 +21,14 @@ item-shape-spec =
     tie.close
     (tie.spec
     returns
-    add-u32-at
-    u32-at-requires
-    cast-n
+    (λ c. search needs)
+    (λ c κs. search needs)
+    (λ c. search needs)
     returns-2
     returns-3
-    add-t9
-    add-t9-2
-    add-t10
-    sub-t12
-    u32-at-requires-2
+    (λ c. search needs)
+    (λ c. search needs)
+    (λ c. search needs)
+    (λ c. search needs)
+    (λ c κs. search needs)
     returns-4)

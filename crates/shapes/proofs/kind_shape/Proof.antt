@@ -5,14 +5,8 @@ use borrow.Author.Needs.{needs}
 use Rattle.shapes.proofs.kind_shape.Statement.{statement}
 use Rattle.shapes.proofs.kind_shape.Tie as tie
 
-open-shape-requires : tie.Need-open-shape-requires
-open-shape-requires c κs = search needs
-
 returns : tie.Need-returns
 returns c = read-by (kind-open _ _ (c .before .if1 .taken)) (c .open-shape .ensures)
-
-item-shape-requires : tie.Need-item-shape-requires
-item-shape-requires c κs = search needs
 
 returns-2 : tie.Need-returns-2
 returns-2 c = read-by (kind-item _ _ (c .before .before .if1 .left) (c .before .if2 .taken)) (c .item-shape .ensures)
@@ -30,9 +24,9 @@ pub kind-shape-spec : {M : Type 1} → statement M
 kind-shape-spec =
     tie.close
     (tie.spec
-    open-shape-requires
+    (λ c κs. search needs)
     returns
-    item-shape-requires
+    (λ c κs. search needs)
     returns-2
     returns-3
     returns-4

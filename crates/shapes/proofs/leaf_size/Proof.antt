@@ -8,18 +8,9 @@ use Rattle.shapes.proofs.leaf_size.Tie as tie
 returns : tie.Need-returns
 returns c = sym (leaf-none (c .before .args .n) (omega arith))
 
-mul-cell-size : tie.Need-mul-cell-size
-mul-cell-size c = search needs
-
-add-cell-size : tie.Need-add-cell-size
-add-cell-size c = search needs
-
-cell-size-requires : tie.Need-cell-size-requires
-cell-size-requires c κs = search needs
-
 returns-2 : tie.Need-returns-2
 returns-2 c = c .cell-size .ensures ∙ sym (leaf-some (c .before .before .args .n) (c .before .if1 .left))
 
 pub leaf-size-spec : {M : Type 1} → statement M
 leaf-size-spec =
-    tie.close (tie.spec returns mul-cell-size add-cell-size cell-size-requires returns-2)
+    tie.close (tie.spec returns (λ c. search needs) (λ c. search needs) (λ c κs. search needs) returns-2)

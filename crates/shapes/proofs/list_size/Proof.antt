@@ -8,14 +8,8 @@ use Rattle.shapes.proofs.list_size.Tie as tie
 returns : tie.Need-returns
 returns c = sym (list-none (c .before .args .n) (omega arith))
 
-mul-cell-size : tie.Need-mul-cell-size
-mul-cell-size c = search needs
-
-cell-size-requires : tie.Need-cell-size-requires
-cell-size-requires c κs = search needs
-
 returns-2 : tie.Need-returns-2
 returns-2 c = c .cell-size .ensures ∙ sym (list-some (c .before .before .args .n) (c .before .if1 .left))
 
 pub list-size-spec : {M : Type 1} → statement M
-list-size-spec = tie.close (tie.spec returns mul-cell-size cell-size-requires returns-2)
+list-size-spec = tie.close (tie.spec returns (λ c. search needs) (λ c κs. search needs) returns-2)

@@ -10,14 +10,8 @@ returns c = read-none _ (open-short _ _ _ (c .before .before .pre) (c .if1 .take
 returns-2 : tie.Need-returns-2
 returns-2 c = read-none _ (open-odd _ _ _ (c .before .before .before .pre) (c .before .if1 .left) (c .if2 .taken))
 
-add-t6 : tie.Need-add-t6
-add-t6 c = search needs
-
-u64-at-requires : tie.Need-u64-at-requires
-u64-at-requires c κs = search needs
-
 returns-3 : tie.Need-returns-3
 returns-3 c = open-whole _ _ _ (c .before .before .before .before .pre) (c .before .before .if1 .left) _ (c .u64-at .ensures) (omega arith)
 
 pub open-shape-spec : {M : Type 1} → statement M
-open-shape-spec = tie.close (tie.spec returns returns-2 add-t6 u64-at-requires returns-3)
+open-shape-spec = tie.close (tie.spec returns returns-2 (λ c. search needs) (λ c κs. search needs) returns-3)

@@ -3,20 +3,8 @@ use borrow.Author.Needs.{needs}
 use Rattle.shapes.proofs.part_of.Statement.{statement}
 use Rattle.shapes.proofs.part_of.Tie as tie
 
-add-end : tie.Need-add-end
-add-end c = search needs
-
-sub-result : tie.Need-sub-result
-sub-result c = search needs
-
-part-result-start : tie.Need-part-result-start
-part-result-start c = search needs
-
-part-result-end : tie.Need-part-result-end
-part-result-end c = search needs
-
 returns : tie.Need-returns
 returns c = let a = c .before .before .args in rw (add-sub-cancel-left (a .t .at) (a .t .len))
 
 pub part-of-spec : {M : Type 1} → statement M
-part-of-spec = tie.close (tie.spec add-end sub-result part-result-start part-result-end returns)
+part-of-spec = tie.close (tie.spec (λ c. search needs) (λ c. search needs) (λ c. search needs) (λ c. search needs) returns)

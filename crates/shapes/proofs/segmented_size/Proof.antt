@@ -6,9 +6,6 @@ use borrow.Author.Needs.{needs}
 use Rattle.shapes.proofs.segmented_size.Statement.{statement}
 use Rattle.shapes.proofs.segmented_size.Tie as tie
 
-segments-for-requires : tie.Need-segments-for-requires
-segments-for-requires c κs = search needs
-
 sub-full : tie.Need-sub-full
 sub-full c = let e = segments-are (c .before .args .n) in omega arith
 
@@ -33,9 +30,6 @@ mul-cell-size-2 c = let e = segments-are (c .before .before .args .n) in omega a
 sub-cell-size : tie.Need-sub-cell-size
 sub-cell-size c = let e = segments-are (c .before .before .args .n) in omega arith
 
-cell-size-requires-2 : tie.Need-cell-size-requires-2
-cell-size-requires-2 c κs = search needs
-
 add-result-3 : tie.Need-add-result-3
 add-result-3 c =
     let count = c .before .before .segments-for .result in
@@ -50,7 +44,7 @@ pub segmented-size-spec : {M : Type 1} → statement M
 segmented-size-spec =
     tie.close
     (tie.spec
-    segments-for-requires
+    (λ c κs. search needs)
     sub-full
     mul-cell-size
     cell-size-requires
@@ -59,6 +53,6 @@ segmented-size-spec =
     add-result-2
     mul-cell-size-2
     sub-cell-size
-    cell-size-requires-2
+    (λ c κs. search needs)
     add-result-3
     returns)

@@ -3,11 +3,8 @@ use borrow.Author.Needs.{needs}
 use Rattle.shapes.proofs.segments_for.Statement.{statement}
 use Rattle.shapes.proofs.segments_for.Tie as tie
 
-add-result : tie.Need-add-result
-add-result c = search needs
-
 returns : tie.Need-returns
 returns c = segments-are _
 
 pub segments-for-spec : {M : Type 1} → statement M
-segments-for-spec = tie.close (tie.spec add-result returns)
+segments-for-spec = tie.close (tie.spec (λ c. search needs) returns)

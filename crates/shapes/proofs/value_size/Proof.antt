@@ -5,18 +5,6 @@ use borrow.Author.Needs.{needs}
 use Rattle.shapes.proofs.value_size.Statement.{statement}
 use Rattle.shapes.proofs.value_size.Tie as tie
 
-stored-len-requires : tie.Need-stored-len-requires
-stored-len-requires c κs = search needs
-
-add-cell-size : tie.Need-add-cell-size
-add-cell-size c = search needs
-
-cell-size-requires : tie.Need-cell-size-requires
-cell-size-requires c κs = search needs
-
-data-size-requires : tie.Need-data-size-requires
-data-size-requires c κs = search needs
-
 add-result : tie.Need-add-result
 add-result c =
     let s = c .before .before .before .before .before .before in
@@ -29,9 +17,9 @@ pub value-size-spec : {M : Type 1} → statement M
 value-size-spec =
     tie.close
     (tie.spec
-    stored-len-requires
-    add-cell-size
-    cell-size-requires
-    data-size-requires
+    (λ c κs. search needs)
+    (λ c. search needs)
+    (λ c κs. search needs)
+    (λ c κs. search needs)
     add-result
     returns)

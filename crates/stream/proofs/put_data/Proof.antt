@@ -12,24 +12,6 @@ use borrow.Author.Needs.{needs}
 use Rattle.stream.proofs.put_data.Statement.{statement}
 use Rattle.stream.proofs.put_data.Tie as tie
 
-add-stop : tie.Need-add-stop
-add-stop c = search needs
-
-sub-copy-data : tie.Need-sub-copy-data
-sub-copy-data c = search needs
-
-part-copy-data-start : tie.Need-part-copy-data-start
-part-copy-data-start c = search needs
-
-part-copy-data-end : tie.Need-part-copy-data-end
-part-copy-data-end c = search needs
-
-copy-data-requires : tie.Need-copy-data-requires
-copy-data-requires c κs = search needs
-
-same-length : tie.Need-same-length
-same-length c = search needs
-
 returns : tie.Need-returns
 returns c =
     let a = c .before .before .before .before .before .before .args in
@@ -44,10 +26,10 @@ pub put-data-spec : {M : Type 1} → statement M
 put-data-spec =
     tie.close
     (tie.spec
-    add-stop
-    sub-copy-data
-    part-copy-data-start
-    part-copy-data-end
-    copy-data-requires
-    same-length
+    (λ c. search needs)
+    (λ c. search needs)
+    (λ c. search needs)
+    (λ c. search needs)
+    (λ c κs. search needs)
+    (λ c. search needs)
     returns)

@@ -14,32 +14,11 @@ use borrow.Author.Needs.{needs}
 use Rattle.stream.proofs.put_name.Statement.{statement}
 use Rattle.stream.proofs.put_name.Tie as tie
 
-wide-len-requires : tie.Need-wide-len-requires
-wide-len-requires c κs = search needs
-
-add-stop : tie.Need-add-stop
-add-stop c = search needs
-
-part-in-requires : tie.Need-part-in-requires
-part-in-requires c κs = search needs
-
-sub-put-wide : tie.Need-sub-put-wide
-sub-put-wide c = search needs
-
-part-put-wide-start : tie.Need-part-put-wide-start
-part-put-wide-start c = search needs
-
-part-put-wide-end : tie.Need-part-put-wide-end
-part-put-wide-end c = search needs
-
 put-wide-requires : tie.Need-put-wide-requires
 put-wide-requires c κs =
     let a = c .before .before .before .before .before .args in
     let l = ap length (c .before .part-in .ensures) ∙ name-length (a .bins .now) (a .n) (c .before .before .before .before .before .pre .0 .inside) in
     (simp (l, length-take, length-drop) (omega (arith, c .before .before .wide-len .ensures)), subst (λ (k : ℕ). isWhole k (a .n .narrow) ≡ true) (sym l) (c .before .before .before .before .before .pre .0 .whole))
-
-same-length : tie.Need-same-length
-same-length c = search needs
 
 returns : tie.Need-returns
 unfolding codesOf
@@ -57,12 +36,12 @@ pub put-name-spec : {M : Type 1} → statement M
 put-name-spec =
     tie.close
     (tie.spec
-    wide-len-requires
-    add-stop
-    part-in-requires
-    sub-put-wide
-    part-put-wide-start
-    part-put-wide-end
+    (λ c κs. search needs)
+    (λ c. search needs)
+    (λ c κs. search needs)
+    (λ c. search needs)
+    (λ c. search needs)
+    (λ c. search needs)
     put-wide-requires
-    same-length
+    (λ c. search needs)
     returns)

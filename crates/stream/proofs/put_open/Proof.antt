@@ -23,20 +23,11 @@ cast-put-head c = omega (arith, c .wide-len .ensures, named-few _ _ (c .before .
 put-head-requires : tie.Need-put-head-requires
 put-head-requires c κs = omega (arith, open-room _ _ (c .before .before .before .before .before .before .pre .0) _ (c .before .before .before .key-fields .ensures), c .before .before .before .before .before .before .pre .1)
 
-add-put-part : tie.Need-add-put-part
-add-put-part c = search needs
-
 put-part-requires : tie.Need-put-part-requires
 put-part-requires c κs = let r = key-room Header _ [] _ (c .before .before .before .before .before .before .before .before .before .before .pre .0) in (record { some = omega arith; ends = omega arith }, omega (arith, open-room _ _ (c .before .before .before .before .before .before .before .before .before .before .pre .0) _ (c .before .before .before .before .before .before .before .key-fields .ensures), c .before .before .before .before .before .before .before .before .before .before .pre .1))
 
-add-put-name : tie.Need-add-put-name
-add-put-name c = search needs
-
 put-name-requires : tie.Need-put-name-requires
 put-name-requires c κs = (named-stands _ _ (c .before .before .before .before .before .before .before .before .before .before .before .before .before .before .pre .0) _ (c .before .before .before .before .before .before .before .before .before .before .before .key-fields .ensures), omega (arith, open-room _ _ (c .before .before .before .before .before .before .before .before .before .before .before .before .before .before .pre .0) _ (c .before .before .before .before .before .before .before .before .before .before .before .key-fields .ensures), c .before .before .before .before .before .before .before .before .before .before .before .before .before .before .pre .1))
-
-same-length : tie.Need-same-length
-same-length c = search needs
 
 returns : tie.Need-returns
 returns c = rw (c .before .before .put-name .ensures, c .before .before .before .before .before .before .put-part .ensures, c .before .before .before .before .before .before .before .before .before .before .put-head .ensures) (open-puts _ _ (c .before .before .before .before .before .before .before .before .before .before .before .before .before .before .before .before .before .pre .0) _ (c .before .before .before .before .before .before .before .before .before .before .before .before .before .before .key-fields .ensures) _ _ _ (omega (arith, c .before .before .before .before .before .before .before .before .before .before .before .wide-len .ensures)))
@@ -50,9 +41,9 @@ put-open-spec =
     add-put-head
     cast-put-head
     put-head-requires
-    add-put-part
+    (λ c. search needs)
     put-part-requires
-    add-put-name
+    (λ c. search needs)
     put-name-requires
-    same-length
+    (λ c. search needs)
     returns)

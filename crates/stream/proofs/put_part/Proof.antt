@@ -11,26 +11,8 @@ use borrow.Author.Needs.{needs}
 use Rattle.stream.proofs.put_part.Statement.{statement}
 use Rattle.stream.proofs.put_part.Tie as tie
 
-add-stop : tie.Need-add-stop
-add-stop c = search needs
-
-part-in-requires : tie.Need-part-in-requires
-part-in-requires c κs = search needs
-
-sub-copy-all : tie.Need-sub-copy-all
-sub-copy-all c = search needs
-
-part-copy-all-start : tie.Need-part-copy-all-start
-part-copy-all-start c = search needs
-
-part-copy-all-end : tie.Need-part-copy-all-end
-part-copy-all-end c = search needs
-
 copy-all-requires : tie.Need-copy-all-requires
 copy-all-requires c κs = let a = c .before .before .before .before .args in let l = ap length (c .before .part-in .ensures) ∙ part-length (dataAt (a .bins .now) (a .o)) (a .from) (a .n) (c .before .before .before .before .pre .0 .ends) in simp (l, length-take, length-drop) (omega arith)
-
-same-length : tie.Need-same-length
-same-length c = search needs
 
 returns : tie.Need-returns
 returns c =
@@ -44,11 +26,11 @@ pub put-part-spec : {M : Type 1} → statement M
 put-part-spec =
     tie.close
     (tie.spec
-    add-stop
-    part-in-requires
-    sub-copy-all
-    part-copy-all-start
-    part-copy-all-end
+    (λ c. search needs)
+    (λ c κs. search needs)
+    (λ c. search needs)
+    (λ c. search needs)
+    (λ c. search needs)
     copy-all-requires
-    same-length
+    (λ c. search needs)
     returns)

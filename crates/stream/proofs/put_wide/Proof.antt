@@ -12,14 +12,8 @@ widen-requires c κs = c .before .before .before .before .pre .0 ∙ ap (λ (k :
 copy-all-requires : tie.Need-copy-all-requires
 copy-all-requires c κs = c .before .before .before .before .pre .0 ∙ wide-count _ _ (c .before .if1 .left) (c .before .before .before .before .pre .1)
 
-same-length : tie.Need-same-length
-same-length c = search needs
-
 returns : tie.Need-returns
 returns c = rw (c .before .before .before .before .if1 .taken) (c .before .before .widen .ensures)
-
-same-length-2 : tie.Need-same-length-2
-same-length-2 c = search needs
 
 returns-2 : tie.Need-returns-2
 returns-2 c = rw (c .before .before .before .before .if1 .left) (c .before .before .copy-all .ensures ∙ sym (stored-wide _ (λ i. omega (arith, c .before .before .before .before .before .before .shared-slice-known .given i)) (wide-even _ _ (c .before .before .before .before .if1 .left) (c .before .before .before .before .before .before .before .pre .1))))
@@ -27,4 +21,4 @@ returns-2 c = rw (c .before .before .before .before .if1 .left) (c .before .befo
 pub put-wide-spec : {M : Type 1} → statement M
 put-wide-spec =
     tie.close
-    (tie.spec widen-requires copy-all-requires same-length returns same-length-2 returns-2)
+    (tie.spec widen-requires copy-all-requires (λ c. search needs) returns (λ c. search needs) returns-2)

@@ -6,15 +6,6 @@ use borrow.Author.Needs.{needs}
 use Rattle.stream.proofs.value_len.Statement.{statement}
 use Rattle.stream.proofs.value_len.Tie as tie
 
-part-of-requires : tie.Need-part-of-requires
-part-of-requires c κs = search needs
-
-wide-len-requires : tie.Need-wide-len-requires
-wide-len-requires c κs = search needs
-
-add-result : tie.Need-add-result
-add-result c = search needs
-
 add-result-2 : tie.Need-add-result-2
 add-result-2 c = let e = ap (λ (p : Part). p .len) (c .before .before .part-of .ensures) ∙ part-whole _ in omega (arith, c .before .wide-len .ensures, c .before .before .before .before .pre .0, c .before .before .before .before .pre .1)
 
@@ -23,4 +14,4 @@ returns c = let e = ap (λ (p : Part). p .len) (c .before .before .part-of .ensu
 
 pub value-len-spec : {M : Type 1} → statement M
 value-len-spec =
-    tie.close (tie.spec part-of-requires wide-len-requires add-result add-result-2 returns)
+    tie.close (tie.spec (λ c κs. search needs) (λ c κs. search needs) (λ c. search needs) add-result-2 returns)

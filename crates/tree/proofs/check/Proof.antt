@@ -9,28 +9,10 @@ use borrow.Author.Needs.{needs}
 use Rattle.tree.proofs.check.Statement.{statement}
 use Rattle.tree.proofs.check.Tie as tie
 
-survey-requires : tie.Need-survey-requires
-survey-requires c κs = search needs
-
-enum-known-f : tie.Need-enum-known-f
-enum-known-f c = search needs
-
-refused-requires : tie.Need-refused-requires
-refused-requires c κs = search needs
-
-enum-known-t : tie.Need-enum-known-t
-enum-known-t c = search needs
-
 walk-tree-requires : tie.Need-walk-tree-requires
 walk-tree-requires c κs =
     let s = c .before .before .before .before .before .before .survey .ensures in
     rw (s .1) (check-ready _ _ (sym (s .0) ∙ c .before .before .t .given .1))
-
-enum-known-r : tie.Need-enum-known-r
-enum-known-r c = search needs
-
-enum-known-report : tie.Need-enum-known-report
-enum-known-report c = search needs
 
 check-items-requires : tie.Need-check-items-requires
 check-items-requires c κs =
@@ -40,16 +22,10 @@ check-items-requires c κs =
     let walk = ap (λ (x : List ℕ). walkAnswer (now (a .hive)) x (t .0 .0)) (sym (s .1)) ∙ sym (c .before .before .before .before .walk-tree .ensures) ∙ c .before .before .report .given .1 in
     rw (s .1) (check-walked _ _ (sym (s .0) ∙ t .1) walk)
 
-same-length : tie.Need-same-length
-same-length c = search needs
-
 returns : tie.Need-returns
 returns c =
     let s = c .before .before .before .before .before .before .survey .ensures in
     (sym (check-refused _ _ (sym (s .0) ∙ c .before .before .f .given .1) (c .refused .ensures)), s .1)
-
-same-length-2 : tie.Need-same-length-2
-same-length-2 c = search needs
 
 returns-2 : tie.Need-returns-2
 returns-2 c =
@@ -58,9 +34,6 @@ returns-2 c =
     let t = c .before .before .before .before .before .before .t .given in
     let walk = ap (λ (x : List ℕ). walkAnswer (now (a .hive)) x (t .0 .0)) (sym (s .1)) ∙ sym (c .before .before .before .walk-tree .ensures) ∙ c .before .r .given .1 in
     (sym (check-stops _ _ (sym (s .0) ∙ t .1) walk), s .1)
-
-same-length-3 : tie.Need-same-length-3
-same-length-3 c = search needs
 
 returns-3 : tie.Need-returns-3
 returns-3 c =
@@ -76,17 +49,17 @@ pub check-spec : {M : Type 1} → statement M
 check-spec =
     tie.close
     (tie.spec
-    survey-requires
-    enum-known-f
-    refused-requires
-    enum-known-t
+    (λ c κs. search needs)
+    (λ c. search needs)
+    (λ c κs. search needs)
+    (λ c. search needs)
     walk-tree-requires
-    enum-known-r
-    enum-known-report
+    (λ c. search needs)
+    (λ c. search needs)
     check-items-requires
-    same-length
+    (λ c. search needs)
     returns
-    same-length-2
+    (λ c. search needs)
     returns-2
-    same-length-3
+    (λ c. search needs)
     returns-3)

@@ -16,23 +16,11 @@ security-charge-requires c κs =
     let a = c .before .before .before .before .before .args in
     asked (now (a .hive)) _ (c .before .bins-of .ensures) (c .before .before .root-of .ensures) _ (c .before .before .before .before .before .pre)
 
-enum-told : tie.Need-enum-told
-enum-told c = search needs
-
-enum-known-r : tie.Need-enum-known-r
-enum-known-r c = search needs
-
-same-length : tie.Need-same-length
-same-length c = search needs
-
 returns : tie.Need-returns
 returns c =
     let a = c .before .before .before .before .before .before .before .before .before .before .args in
     let s = c .before .before .before .before .security-charge .ensures in
     (sym (items-stand (now (a .hive)) (now (a .map)) (c .before .before .before .before .before .before .bins-of .ensures) (c .before .before .before .before .before .before .before .root-of .ensures) (sym (s .0) ∙ c .enum-told .given .1) _), s .1)
-
-same-length-2 : tie.Need-same-length-2
-same-length-2 c = search needs
 
 returns-2 : tie.Need-returns-2
 returns-2 c =
@@ -47,9 +35,9 @@ check-items-spec =
     root-of-requires
     bins-of-requires
     security-charge-requires
-    enum-told
-    enum-known-r
-    same-length
+    (λ c. search needs)
+    (λ c. search needs)
+    (λ c. search needs)
     returns
-    same-length-2
+    (λ c. search needs)
     returns-2)

@@ -8,17 +8,11 @@ use Rattle.tree.proofs.hash_flaw.Tie as tie
 returns : tie.Need-returns
 returns c = sym (hash-none _ _ _ (not-true _ (c .if1 .taken)))
 
-hash-of-requires : tie.Need-hash-of-requires
-hash-of-requires c κs = search needs
-
 returns-2 : tie.Need-returns-2
 returns-2 c = sym (hash-good _ _ _ (not-false _ (c .before .before .before .before .if1 .left)) (sym (c .before .before .hash-of .ensures) ∙ c .if2 .taken))
-
-flawed-requires : tie.Need-flawed-requires
-flawed-requires c κs = search needs
 
 returns-3 : tie.Need-returns-3
 returns-3 c = c .flawed .ensures ∙ sym (hash-bad _ _ _ (not-false _ (c .before .before .before .before .before .if1 .left)) (λ e. c .before .if2 .left (c .before .before .before .hash-of .ensures ∙ e)))
 
 pub hash-flaw-spec : {M : Type 1} → statement M
-hash-flaw-spec = tie.close (tie.spec returns hash-of-requires returns-2 flawed-requires returns-3)
+hash-flaw-spec = tie.close (tie.spec returns (λ c κs. search needs) returns-2 (λ c κs. search needs) returns-3)

@@ -9,17 +9,11 @@ use Rattle.tree.proofs.hint_flaw.Tie as tie
 returns : tie.Need-returns
 returns c = sym (hint-none _ _ _ (not-true _ (c .if1 .taken)))
 
-is-hinted-requires : tie.Need-is-hinted-requires
-is-hinted-requires c κs = search needs
-
 returns-2 : tie.Need-returns-2
 returns-2 c = sym (hint-is _ _ _ (not-false _ (c .before .before .before .if1 .left)) (c .before .is-hinted .ensures) ∙ holds _ (c .if2 .taken))
-
-flawed-requires : tie.Need-flawed-requires
-flawed-requires c κs = search needs
 
 returns-3 : tie.Need-returns-3
 returns-3 c = c .flawed .ensures ∙ sym (hint-is _ _ _ (not-false _ (c .before .before .before .before .if1 .left)) (c .before .before .is-hinted .ensures) ∙ fails _ (c .before .if2 .left))
 
 pub hint-flaw-spec : {M : Type 1} → statement M
-hint-flaw-spec = tie.close (tie.spec returns is-hinted-requires returns-2 flawed-requires returns-3)
+hint-flaw-spec = tie.close (tie.spec returns (λ c κs. search needs) returns-2 (λ c κs. search needs) returns-3)

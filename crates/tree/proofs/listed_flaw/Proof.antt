@@ -4,18 +4,6 @@ use borrow.Author.Needs.{needs}
 use Rattle.tree.proofs.listed_flaw.Statement.{statement}
 use Rattle.tree.proofs.listed_flaw.Tie as tie
 
-namesake-flaw-requires : tie.Need-namesake-flaw-requires
-namesake-flaw-requires c κs = search needs
-
-enum-known-f : tie.Need-enum-known-f
-enum-known-f c = search needs
-
-enum-told : tie.Need-enum-told
-enum-told c = search needs
-
-subkeys-flaw-requires : tie.Need-subkeys-flaw-requires
-subkeys-flaw-requires c κs = search needs
-
 returns : tie.Need-returns
 returns c = sym (listed-names _ _ _ _ (sym (c .before .before .before .namesake-flaw .ensures) ∙ c .before .f .given .1))
 
@@ -25,4 +13,4 @@ returns-2 c =
     ∙ sym (listed-subkeys _ _ _ _ (sym (c .before .before .before .namesake-flaw .ensures) ∙ c .before .enum-told .given .1))
 
 pub listed-flaw-spec : {M : Type 1} → statement M
-listed-flaw-spec = tie.close (tie.spec namesake-flaw-requires enum-known-f enum-told subkeys-flaw-requires returns returns-2)
+listed-flaw-spec = tie.close (tie.spec (λ c κs. search needs) (λ c. search needs) (λ c. search needs) (λ c κs. search needs) returns returns-2)

@@ -8,26 +8,8 @@ use borrow.Author.Needs.{needs}
 use Rattle.tree.proofs.order_flaw.Statement.{statement}
 use Rattle.tree.proofs.order_flaw.Tie as tie
 
-key-fields-requires : tie.Need-key-fields-requires
-key-fields-requires c κs = search needs
-
 compare-names-requires : tie.Need-compare-names-requires
 compare-names-requires c κs = rw (c .before .before .key-fields .ensures) (c .before .before .before .before .pre .1 .name, c .before .before .before .before .pre .0)
-
-enum-told : tie.Need-enum-told
-enum-told c = search needs
-
-enum-told-2 : tie.Need-enum-told-2
-enum-told-2 c = search needs
-
-flawed-requires : tie.Need-flawed-requires
-flawed-requires c κs = search needs
-
-enum-told-3 : tie.Need-enum-told-3
-enum-told-3 c = search needs
-
-flawed-requires-2 : tie.Need-flawed-requires-2
-flawed-requires-2 c κs = search needs
 
 returns : tie.Need-returns
 returns c = let s = c .before .before .before .before .before .before .before in
@@ -48,13 +30,13 @@ pub order-flaw-spec : {M : Type 1} → statement M
 order-flaw-spec =
     tie.close
     (tie.spec
-    key-fields-requires
+    (λ c κs. search needs)
     compare-names-requires
-    enum-told
-    enum-told-2
-    flawed-requires
-    enum-told-3
-    flawed-requires-2
+    (λ c. search needs)
+    (λ c. search needs)
+    (λ c κs. search needs)
+    (λ c. search needs)
+    (λ c κs. search needs)
     returns
     returns-2
     returns-3)

@@ -4,27 +4,6 @@ use borrow.Author.Needs.{needs}
 use Rattle.tree.proofs.own_flaw.Statement.{statement}
 use Rattle.tree.proofs.own_flaw.Tie as tie
 
-place-flaw-requires : tie.Need-place-flaw-requires
-place-flaw-requires c κs = search needs
-
-enum-known-f : tie.Need-enum-known-f
-enum-known-f c = search needs
-
-enum-told : tie.Need-enum-told
-enum-told c = search needs
-
-beside-flaw-requires : tie.Need-beside-flaw-requires
-beside-flaw-requires c κs = search needs
-
-enum-known-f-2 : tie.Need-enum-known-f-2
-enum-known-f-2 c = search needs
-
-enum-told-2 : tie.Need-enum-told-2
-enum-told-2 c = search needs
-
-rest-flaw-requires : tie.Need-rest-flaw-requires
-rest-flaw-requires c κs = search needs
-
 returns : tie.Need-returns
 returns c = sym (own-place _ _ _ _ _ _ _ (sym (c .before .before .before .place-flaw .ensures) ∙ c .before .f .given .1))
 
@@ -38,13 +17,13 @@ pub own-flaw-spec : {M : Type 1} → statement M
 own-flaw-spec =
     tie.close
     (tie.spec
-    place-flaw-requires
-    enum-known-f
-    enum-told
-    beside-flaw-requires
-    enum-known-f-2
-    enum-told-2
-    rest-flaw-requires
+    (λ c κs. search needs)
+    (λ c. search needs)
+    (λ c. search needs)
+    (λ c κs. search needs)
+    (λ c. search needs)
+    (λ c. search needs)
+    (λ c κs. search needs)
     returns
     returns-2
     returns-3)

@@ -4,14 +4,8 @@ use borrow.Author.Needs.{needs}
 use Rattle.tree.proofs.parent_flaw.Statement.{statement}
 use Rattle.tree.proofs.parent_flaw.Tie as tie
 
-flawed-requires : tie.Need-flawed-requires
-flawed-requires c κs = search needs
-
 returns : tie.Need-returns
 returns c = c .flawed .ensures ∙ sym (parent-other _ _ _ _ (c .before .if1 .taken))
-
-flawed-requires-2 : tie.Need-flawed-requires-2
-flawed-requires-2 c κs = search needs
 
 returns-2 : tie.Need-returns-2
 returns-2 c = c .flawed2 .ensures ∙ sym (parent-root _ _ _ _ (c .before .before .before .before .if1 .left) (c .before .if2 .taken))
@@ -21,4 +15,4 @@ returns-3 c = sym (parent-good _ _ _ _ (c .before .before .before .if1 .left) (c
 
 pub parent-flaw-spec : {M : Type 1} → statement M
 parent-flaw-spec =
-    tie.close (tie.spec flawed-requires returns flawed-requires-2 returns-2 returns-3)
+    tie.close (tie.spec (λ c κs. search needs) returns (λ c κs. search needs) returns-2 returns-3)

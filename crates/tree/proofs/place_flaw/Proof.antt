@@ -4,27 +4,6 @@ use borrow.Author.Needs.{needs}
 use Rattle.tree.proofs.place_flaw.Statement.{statement}
 use Rattle.tree.proofs.place_flaw.Tie as tie
 
-enum-told : tie.Need-enum-told
-enum-told c = search needs
-
-enum-known-l : tie.Need-enum-known-l
-enum-known-l c = search needs
-
-parent-flaw-requires : tie.Need-parent-flaw-requires
-parent-flaw-requires c κs = search needs
-
-enum-known-l-2 : tie.Need-enum-known-l-2
-enum-known-l-2 c = search needs
-
-parent-flaw-requires-2 : tie.Need-parent-flaw-requires-2
-parent-flaw-requires-2 c κs = search needs
-
-enum-known-f : tie.Need-enum-known-f
-enum-known-f c = search needs
-
-enum-told-2 : tie.Need-enum-told-2
-enum-told-2 c = search needs
-
 order-flaw-requires : tie.Need-order-flaw-requires
 order-flaw-requires c κs = (c .before .before .before .before .before .before .before .pre .0, sibling-fits _ _ (c .before .before .before .before .before .before .before .pre .1) (c .before .before .before .before .l2 .given .1))
 
@@ -44,13 +23,13 @@ pub place-flaw-spec : {M : Type 1} → statement M
 place-flaw-spec =
     tie.close
     (tie.spec
-    enum-told
-    enum-known-l
-    parent-flaw-requires
-    enum-known-l-2
-    parent-flaw-requires-2
-    enum-known-f
-    enum-told-2
+    (λ c. search needs)
+    (λ c. search needs)
+    (λ c κs. search needs)
+    (λ c. search needs)
+    (λ c κs. search needs)
+    (λ c. search needs)
+    (λ c. search needs)
     order-flaw-requires
     returns
     returns-2

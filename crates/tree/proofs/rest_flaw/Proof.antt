@@ -6,20 +6,8 @@ use borrow.Author.Needs.{needs}
 use Rattle.tree.proofs.rest_flaw.Statement.{statement}
 use Rattle.tree.proofs.rest_flaw.Tie as tie
 
-flawed-requires : tie.Need-flawed-requires
-flawed-requires c κs = search needs
-
 returns : tie.Need-returns
 returns c = c .flawed .ensures ∙ sym (rest-level _ _ _ _ _ _ (c .before .if1 .taken))
-
-values-flaw-requires : tie.Need-values-flaw-requires
-values-flaw-requires c κs = search needs
-
-enum-known-f : tie.Need-enum-known-f
-enum-known-f c = search needs
-
-enum-told : tie.Need-enum-told
-enum-told c = search needs
 
 listed-flaw-requires : tie.Need-listed-flaw-requires
 listed-flaw-requires c κs = passed-lie Map _ _ _ _ (sym (c .before .before .values-flaw .ensures) ∙ c .enum-told .given .1)
@@ -34,11 +22,11 @@ pub rest-flaw-spec : {M : Type 1} → statement M
 rest-flaw-spec =
     tie.close
     (tie.spec
-    flawed-requires
+    (λ c κs. search needs)
     returns
-    values-flaw-requires
-    enum-known-f
-    enum-told
+    (λ c κs. search needs)
+    (λ c. search needs)
+    (λ c. search needs)
     listed-flaw-requires
     returns-2
     returns-3)

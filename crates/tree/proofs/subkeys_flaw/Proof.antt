@@ -9,21 +9,6 @@ use borrow.Author.Needs.{needs}
 use Rattle.tree.proofs.subkeys_flaw.Statement.{statement}
 use Rattle.tree.proofs.subkeys_flaw.Tie as tie
 
-total-of-requires : tie.Need-total-of-requires
-total-of-requires c κs = search needs
-
-enum-known-f : tie.Need-enum-known-f
-enum-known-f c = search needs
-
-enum-known-n : tie.Need-enum-known-n
-enum-known-n c = search needs
-
-cast-if1 : tie.Need-cast-if1
-cast-if1 c = search needs
-
-flawed-requires : tie.Need-flawed-requires
-flawed-requires c κs = search needs
-
 returns : tie.Need-returns
 returns c = let a = c .before .before .before .before .before .before .before .before .before .args in
     let t = totalled-total (listsFault Map (now (a .bins)) (now (a .map)) (a .k)) (length (childrenBelow (now (a .bins)) (a .k))) (sym (c .before .before .before .before .before .before .total-of .ensures) ∙ c .before .before .before .before .n .given .1) in
@@ -42,11 +27,11 @@ pub subkeys-flaw-spec : {M : Type 1} → statement M
 subkeys-flaw-spec =
     tie.close
     (tie.spec
-    total-of-requires
-    enum-known-f
-    enum-known-n
-    cast-if1
-    flawed-requires
+    (λ c κs. search needs)
+    (λ c. search needs)
+    (λ c. search needs)
+    (λ c. search needs)
+    (λ c κs. search needs)
     returns
     returns-2
     returns-3)

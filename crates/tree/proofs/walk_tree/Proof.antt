@@ -17,12 +17,6 @@ bins-of-requires c κs = c .before .before .before .before .pre .base
 check-row-requires : tie.Need-check-row-requires
 check-row-requires c κs = (root-lies _ _, tt)
 
-enum-known-f : tie.Need-enum-known-f
-enum-known-f c = search needs
-
-enum-known-n : tie.Need-enum-known-n
-enum-known-n c = search needs
-
 returns : tie.Need-returns
 returns c =
     let a = c .before .before .before .before .before .before .before .before .before .args in
@@ -43,7 +37,7 @@ walk-tree-spec =
     root-of-requires
     bins-of-requires
     check-row-requires
-    enum-known-f
-    enum-known-n
+    (λ c. search needs)
+    (λ c. search needs)
     returns
     returns-2)

@@ -22,9 +22,6 @@ find-requires c κs = c .before .before .before .before .before .pre .table
 loop-holds : tie.Need-loop-holds Inv-loop μ-loop
 loop-holds c = let a = c .before .before .before .before .before .before .args in seek-start (startsCalled (a .s .now) (a .starts .now)) _ _ _ _ _ (c .before .before .before .before .before .before .pre .telling) (c .find .ensures)
 
-sub-name-at : tie.Need-sub-name-at Inv-loop μ-loop
-sub-name-at c = search needs
-
 mul-name-at : tie.Need-mul-name-at Inv-loop μ-loop
 mul-name-at c = omega (arith, c .before .before .before .before .before .before .before .before .pre .room, c .before .loop .inv .chain .within)
 
@@ -44,9 +41,6 @@ returns c =
     let q = getD (a .starts .now) (l .p - 1) 0 in
     sym (l .inv .left ∙ hit (startsCalled (a .s .now) (a .starts .now)) _ (l .p) (c .before .before .before .before .loop-test .taken)
     (read-compared (a .s .now) q q (nameIn (a .s .now) (a .x)) (c .before .before .name-at .ensures .0) refl (c .before .is-namesake .ensures) ∙ c .if1 .taken))
-
-sub-q : tie.Need-sub-q Inv-loop μ-loop
-sub-q c = search needs
 
 mul-q : tie.Need-mul-q Inv-loop μ-loop
 mul-q c = omega (arith, c .before .before .before .before .before .before .before .before .before .before .before .before .pre .table .linked .links, c .before .before .before .before .before .loop .inv .chain .within)
@@ -89,13 +83,13 @@ is-met-spec =
     μ-loop
     find-requires
     loop-holds
-    sub-name-at
+    (λ c. search needs)
     mul-name-at
     shared-slice-read-name-at
     name-at-requires
     is-namesake-requires
     returns
-    sub-q
+    (λ c. search needs)
     mul-q
     shared-slice-read-q
     cast-q

@@ -13,11 +13,8 @@ add-u32-at c = let a = c .before .args in let r = held-room (a .s .now) (a .p) (
 u32-at-requires : tie.Need-u32-at-requires
 u32-at-requires c κs = let a = c .before .args in let r = held-room (a .s .now) (a .p) (c .before .pre) in omega arith
 
-cast-t6 : tie.Need-cast-t6
-cast-t6 c = search needs
-
 returns : tie.Need-returns
 returns c = let a = c .before .before .args in name-made (a .s .now) (a .p) (c .before .before .pre) (c .u32-at .ensures)
 
 pub name-at-spec : {M : Type 1} → statement M
-name-at-spec = tie.close (tie.spec add-t3 add-u32-at u32-at-requires cast-t6 returns)
+name-at-spec = tie.close (tie.spec add-t3 add-u32-at u32-at-requires (λ c. search needs) returns)

@@ -11,27 +11,6 @@ insert-requires c κs =
     let l = c .before .before .before .if1 .taken in
     (p .0, (l, omega (arith, l, p .1 .0), omega (arith, l, p .1 .2)))
 
-mul-starts : tie.Need-mul-starts
-mul-starts c = search needs
-
-slice-write-starts : tie.Need-slice-write-starts
-slice-write-starts c = search needs
-
-add-result : tie.Need-add-result
-add-result c = search needs
-
-same-length : tie.Need-same-length
-same-length c = search needs
-
-same-length-2 : tie.Need-same-length-2
-same-length-2 c = search needs
-
-same-length-3 : tie.Need-same-length-3
-same-length-3 c = search needs
-
-same-length-4 : tie.Need-same-length-4
-same-length-4 c = search needs
-
 returns : tie.Need-returns
 returns c =
     let e = c .before .before .before .before .before .before .insert .ensures in
@@ -46,12 +25,12 @@ take-in-spec =
     tie.close
     (tie.spec
     insert-requires
-    mul-starts
-    slice-write-starts
-    add-result
-    same-length
-    same-length-2
-    same-length-3
-    same-length-4
+    (λ c. search needs)
+    (λ c. search needs)
+    (λ c. search needs)
+    (λ c. search needs)
+    (λ c. search needs)
+    (λ c. search needs)
+    (λ c. search needs)
     returns
     returns-2)

@@ -4,18 +4,9 @@ use borrow.Author.Needs.{needs}
 use Rattle.values.proofs.content_of.Statement.{statement}
 use Rattle.values.proofs.content_of.Tie as tie
 
-u32-at-requires : tie.Need-u32-at-requires
-u32-at-requires c κs = search needs
-
 returns : tie.Need-returns
 unfolding contentOf
 returns c = rw (← c .before .u32-at .ensures, le-leb _ _ (c .if1 .taken))
-
-u32-at-requires-2 : tie.Need-u32-at-requires-2
-u32-at-requires-2 c κs = search needs
-
-is-segmented-requires : tie.Need-is-segmented-requires
-is-segmented-requires c κs = search needs
 
 returns-2 : tie.Need-returns-2
 unfolding contentOf
@@ -29,9 +20,9 @@ pub content-of-spec : {M : Type 1} → statement M
 content-of-spec =
     tie.close
     (tie.spec
-    u32-at-requires
+    (λ c κs. search needs)
     returns
-    u32-at-requires-2
-    is-segmented-requires
+    (λ c κs. search needs)
+    (λ c κs. search needs)
     returns-2
     returns-3)

@@ -16,29 +16,14 @@ returns c =
     let a = c .before .before .before .args in
     rw (c .if1 .taken) (paste-zero (a .out .now) (a .to) (drop (a .p .at) (dataAt (a .bins .now) (a .p .cell))))
 
-add-stop : tie.Need-add-stop
-add-stop c = search needs
-
 part-in-requires : tie.Need-part-in-requires
 part-in-requires c κs = record { some = omega arith; ends = search needs }
-
-sub-copy-all : tie.Need-sub-copy-all
-sub-copy-all c = search needs
-
-part-copy-all-start : tie.Need-part-copy-all-start
-part-copy-all-start c = search needs
-
-part-copy-all-end : tie.Need-part-copy-all-end
-part-copy-all-end c = search needs
 
 copy-all-requires : tie.Need-copy-all-requires
 copy-all-requires c κs =
     let a = c .before .before .before .before .before .args in
     let l = ap length (c .before .part-in .ensures) ∙ part-length (dataAt (a .bins .now) (a .p .cell)) (a .p .at) (a .p .len) (c .before .before .before .before .before .pre .0) in
     simp (l, length-take, length-drop) (omega arith)
-
-same-length : tie.Need-same-length
-same-length c = search needs
 
 returns-2 : tie.Need-returns-2
 returns-2 c =
@@ -56,11 +41,11 @@ copy-part-spec =
     tie.close
     (tie.spec
     returns
-    add-stop
+    (λ c. search needs)
     part-in-requires
-    sub-copy-all
-    part-copy-all-start
-    part-copy-all-end
+    (λ c. search needs)
+    (λ c. search needs)
+    (λ c. search needs)
     copy-all-requires
-    same-length
+    (λ c. search needs)
     returns-2)

@@ -16,9 +16,6 @@ abbrev μ-loop : tie.MeasureT-loop
 loop-holds : tie.Need-loop-holds Inv-loop μ-loop
 loop-holds c = (refl, copied-start _ _ _ _ (c .before .before .pre .0))
 
-segment-length-requires : tie.Need-segment-length-requires Inv-loop μ-loop
-segment-length-requires c κs = search needs
-
 entry-requires : tie.Need-entry-requires Inv-loop μ-loop
 entry-requires c κs = (c .before .before .before .before .before .pre .0 .room, omega arith)
 
@@ -53,7 +50,7 @@ copy-segments-spec =
     Inv-loop
     μ-loop
     loop-holds
-    segment-length-requires
+    (λ c κs. search needs)
     entry-requires
     sub-copy-part
     copy-part-requires

@@ -5,27 +5,9 @@ use borrow.Author.Needs.{needs}
 use Rattle.values.proofs.data_flaw.Statement.{statement}
 use Rattle.values.proofs.data_flaw.Tie as tie
 
-enum-told : tie.Need-enum-told
-enum-told c = search needs
-
-enum-known-x : tie.Need-enum-known-x
-enum-known-x c = search needs
-
 returns : tie.Need-returns
 unfolding dataFault
 returns c = rw (c .before .before .x .given .1, eq-eqb _ 0 (c .if1 .taken))
-
-cast-room-flaw : tie.Need-cast-room-flaw
-cast-room-flaw c = search needs
-
-room-flaw-requires : tie.Need-room-flaw-requires
-room-flaw-requires c κs = search needs
-
-enum-known-x-2 : tie.Need-enum-known-x-2
-enum-known-x-2 c = search needs
-
-segments-flaw-requires : tie.Need-segments-flaw-requires
-segments-flaw-requires c κs = search needs
 
 returns-2 : tie.Need-returns-2
 unfolding dataFault
@@ -43,13 +25,13 @@ pub data-flaw-spec : {M : Type 1} → statement M
 data-flaw-spec =
     tie.close
     (tie.spec
-    enum-told
-    enum-known-x
+    (λ c. search needs)
+    (λ c. search needs)
     returns
-    cast-room-flaw
-    room-flaw-requires
-    enum-known-x-2
-    segments-flaw-requires
+    (λ c. search needs)
+    (λ c κs. search needs)
+    (λ c. search needs)
+    (λ c κs. search needs)
     returns-2
     returns-3
     returns-4)

@@ -20,23 +20,11 @@ abbrev μ-loop : tie.MeasureT-loop
 loop-holds : tie.Need-loop-holds Inv-loop μ-loop
 loop-holds c = (omega arith, refl, segments-start _ _ _ _)
 
-segment-length-requires : tie.Need-segment-length-requires Inv-loop μ-loop
-segment-length-requires c κs = search needs
-
 entry-requires : tie.Need-entry-requires Inv-loop μ-loop
 entry-requires c κs = (search needs, omega arith)
 
-room-flaw-requires : tie.Need-room-flaw-requires Inv-loop μ-loop
-room-flaw-requires c κs = search needs
-
-enum-known-f : tie.Need-enum-known-f Inv-loop μ-loop
-enum-known-f c = search needs
-
 returns : tie.Need-returns Inv-loop μ-loop
 returns c = let l = c .before .before .before .before .before .before .before .loop in sym (segment-stop _ _ (l .i) (l .left) (omega arith) _ _ (c .before .before .before .before .entry .ensures) (c .before .before .before .before .before .segment-length .ensures) _ _ _ (l .inv .2) (sym (c .before .before .before .room-flaw .ensures) ∙ c .before .f .given .1))
-
-enum-told : tie.Need-enum-told Inv-loop μ-loop
-enum-told c = search needs
 
 sub-left : tie.Need-sub-left Inv-loop μ-loop
 sub-left c = let t = takes (c .before .before .before .before .before .before .loop .left) in omega arith
@@ -60,12 +48,12 @@ each-segment-flaw-spec =
     Inv-loop
     μ-loop
     loop-holds
-    segment-length-requires
+    (λ c κs. search needs)
     entry-requires
-    room-flaw-requires
-    enum-known-f
+    (λ c κs. search needs)
+    (λ c. search needs)
     returns
-    enum-told
+    (λ c. search needs)
     sub-left
     add-i
     loop-less

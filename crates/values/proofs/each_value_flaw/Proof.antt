@@ -25,17 +25,8 @@ loop-holds c = (omega arith, refl, refl)
 entry-requires : tie.Need-entry-requires Inv-loop μ-loop
 entry-requires c κs = (search needs, omega arith)
 
-whole-value-flaw-requires : tie.Need-whole-value-flaw-requires Inv-loop μ-loop
-whole-value-flaw-requires c κs = search needs
-
-enum-known-f : tie.Need-enum-known-f Inv-loop μ-loop
-enum-known-f c = search needs
-
 returns : tie.Need-returns Inv-loop μ-loop
 returns c = let l = c .before .before .before .before .before .before .loop in let a = c .before .before .before .before .before .before .before .before .before .args in sym (loop-stop _ _ (l .seen) _ (l .inv .2) _ (omega (arith, entries-length (a .bins .now) (a .e))) (c .before .before .before .before .entry .ensures) (sym (c .before .before .before .whole-value-flaw .ensures) ∙ c .before .f .given .1))
-
-enum-told : tie.Need-enum-told Inv-loop μ-loop
-enum-told c = search needs
 
 add-seen : tie.Need-add-seen Inv-loop μ-loop
 add-seen c = omega arith
@@ -57,10 +48,10 @@ each-value-flaw-spec =
     μ-loop
     loop-holds
     entry-requires
-    whole-value-flaw-requires
-    enum-known-f
+    (λ c κs. search needs)
+    (λ c. search needs)
     returns
-    enum-told
+    (λ c. search needs)
     add-seen
     loop-less
     loop-again

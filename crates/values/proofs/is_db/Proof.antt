@@ -8,24 +8,9 @@ returns : tie.Need-returns
 unfolding isDb
 returns c = rw (lt-leb 8 _ (c .if1 .taken))
 
-slice-aggregate-stands-at : tie.Need-slice-aggregate-stands-at
-slice-aggregate-stands-at c = search needs
-
-stands-at-requires : tie.Need-stands-at-requires
-stands-at-requires c κs = search needs
-
 returns-2 : tie.Need-returns-2
 unfolding isDb
 returns-2 c = rw (le-leb 8 _ (c .before .before .before .if1 .left), ← c .before .stands-at .ensures, not-true (c .before .stands-at .result) (c .if2 .taken))
-
-u16-at-requires : tie.Need-u16-at-requires
-u16-at-requires c κs = search needs
-
-cast-result : tie.Need-cast-result
-cast-result c = search needs
-
-segments-for-requires : tie.Need-segments-for-requires
-segments-for-requires c κs = search needs
 
 returns-3 : tie.Need-returns-3
 unfolding isDb
@@ -36,10 +21,10 @@ is-db-spec =
     tie.close
     (tie.spec
     returns
-    slice-aggregate-stands-at
-    stands-at-requires
+    (λ c. search needs)
+    (λ c κs. search needs)
     returns-2
-    u16-at-requires
-    cast-result
-    segments-for-requires
+    (λ c κs. search needs)
+    (λ c. search needs)
+    (λ c κs. search needs)
     returns-3)

@@ -7,17 +7,11 @@ use borrow.Author.Needs.{needs}
 use Rattle.values.proofs.is_value.Statement.{statement}
 use Rattle.values.proofs.is_value.Tie as tie
 
-is-old-value-requires : tie.Need-is-old-value-requires
-is-old-value-requires c κs = search needs
-
 returns : tie.Need-returns
 returns c = sym (not-old _ (sym (c .before .is-old-value .ensures) ∙ not-true _ (c .if1 .taken)))
 
 u32-at-requires : tie.Need-u32-at-requires
 u32-at-requires c κs = let o = old _ (sym (c .before .is-old-value .ensures) ∙ not-false _ (c .if1 .left)) in omega arith
-
-is-data-size-requires : tie.Need-is-data-size-requires
-is-data-size-requires c κs = search needs
 
 returns-2 : tie.Need-returns-2
 returns-2 c =
@@ -25,4 +19,4 @@ returns-2 c =
     ∙ sym (by-size _ (sym (c .before .before .before .is-old-value .ensures) ∙ not-false _ (c .before .before .if1 .left)))
 
 pub is-value-spec : {M : Type 1} → statement M
-is-value-spec = tie.close (tie.spec is-old-value-requires returns u32-at-requires is-data-size-requires returns-2)
+is-value-spec = tie.close (tie.spec (λ c κs. search needs) returns u32-at-requires (λ c κs. search needs) returns-2)

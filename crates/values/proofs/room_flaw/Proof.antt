@@ -4,18 +4,6 @@ use borrow.Author.Needs.{needs}
 use Rattle.values.proofs.room_flaw.Statement.{statement}
 use Rattle.values.proofs.room_flaw.Tie as tie
 
-find-cell-requires : tie.Need-find-cell-requires
-find-cell-requires c κs = search needs
-
-enum-known-f : tie.Need-enum-known-f
-enum-known-f c = search needs
-
-enum-known-c : tie.Need-enum-known-c
-enum-known-c c = search needs
-
-flawed-requires : tie.Need-flawed-requires
-flawed-requires c κs = search needs
-
 returns : tie.Need-returns
 returns c = c .flawed .ensures ∙ sym (room-short _ _ _ _ _ (sym (c .before .before .before .before .before .find-cell .ensures) ∙ c .before .before .before .c .given .1) (c .before .if1 .taken))
 
@@ -29,10 +17,10 @@ pub room-flaw-spec : {M : Type 1} → statement M
 room-flaw-spec =
     tie.close
     (tie.spec
-    find-cell-requires
-    enum-known-f
-    enum-known-c
-    flawed-requires
+    (λ c κs. search needs)
+    (λ c. search needs)
+    (λ c. search needs)
+    (λ c κs. search needs)
     returns
     returns-2
     returns-3)

@@ -4,15 +4,6 @@ use borrow.Author.Needs.{needs}
 use Rattle.values.proofs.segments_flaw.Statement.{statement}
 use Rattle.values.proofs.segments_flaw.Tie as tie
 
-segment-list-requires : tie.Need-segment-list-requires
-segment-list-requires c κs = search needs
-
-enum-known-f : tie.Need-enum-known-f
-enum-known-f c = search needs
-
-enum-known-e : tie.Need-enum-known-e
-enum-known-e c = search needs
-
 each-segment-flaw-requires : tie.Need-each-segment-flaw-requires
 each-segment-flaw-requires c κs = let s = entered-whole _ _ (sym (c .before .before .before .segment-list .ensures) ∙ c .before .e .given .1) in list-room _ _ _ _ _ (s .0) _ (s .1)
 
@@ -26,9 +17,9 @@ pub segments-flaw-spec : {M : Type 1} → statement M
 segments-flaw-spec =
     tie.close
     (tie.spec
-    segment-list-requires
-    enum-known-f
-    enum-known-e
+    (λ c κs. search needs)
+    (λ c. search needs)
+    (λ c. search needs)
     each-segment-flaw-requires
     returns
     returns-2)

@@ -8,20 +8,8 @@ use borrow.Author.Needs.{needs}
 use Rattle.values.proofs.value_at.Statement.{statement}
 use Rattle.values.proofs.value_at.Tie as tie
 
-find-cell-requires : tie.Need-find-cell-requires
-find-cell-requires c κs = search needs
-
-enum-known-f : tie.Need-enum-known-f
-enum-known-f c = search needs
-
-enum-known-c : tie.Need-enum-known-c
-enum-known-c c = search needs
-
 cell-data-requires : tie.Need-cell-data-requires
 cell-data-requires c κs = inside _ _ _ _ (sym (c .before .before .before .find-cell .ensures) ∙ c .before .c .given .1)
-
-is-value-requires : tie.Need-is-value-requires
-is-value-requires c κs = search needs
 
 returns : tie.Need-returns
 returns c = sym (value-refused _ _ _ _ _ (sym (c .before .before .before .before .before .before .find-cell .ensures) ∙ c .before .before .before .before .c .given .1) _ (c .before .before .cell-data .ensures) (sym (c .before .is-value .ensures) ∙ not-true _ (c .if1 .taken)))
@@ -39,11 +27,11 @@ pub value-at-spec : {M : Type 1} → statement M
 value-at-spec =
     tie.close
     (tie.spec
-    find-cell-requires
-    enum-known-f
-    enum-known-c
+    (λ c κs. search needs)
+    (λ c. search needs)
+    (λ c. search needs)
     cell-data-requires
-    is-value-requires
+    (λ c κs. search needs)
     returns
     fields-of-requires
     returns-2

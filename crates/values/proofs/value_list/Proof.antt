@@ -9,12 +9,9 @@ returns : tie.Need-returns
 unfolding valueListFault valueEntries
 returns c = rw (eq-eqb _ 0 (c .if1 .taken))
 
-list-at-requires : tie.Need-list-at-requires
-list-at-requires c κs = search needs
-
 returns-2 : tie.Need-returns-2
 unfolding valueListFault valueEntries
 returns-2 c = c .list-at .ensures ∙ rw (ne-eqb _ 0 (c .before .if1 .left))
 
 pub value-list-spec : {M : Type 1} → statement M
-value-list-spec = tie.close (tie.spec returns list-at-requires returns-2)
+value-list-spec = tie.close (tie.spec returns (λ c κs. search needs) returns-2)

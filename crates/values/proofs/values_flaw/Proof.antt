@@ -5,15 +5,6 @@ use borrow.Author.Needs.{needs}
 use Rattle.values.proofs.values_flaw.Statement.{statement}
 use Rattle.values.proofs.values_flaw.Tie as tie
 
-value-list-requires : tie.Need-value-list-requires
-value-list-requires c κs = search needs
-
-enum-known-f : tie.Need-enum-known-f
-enum-known-f c = search needs
-
-enum-known-e : tie.Need-enum-known-e
-enum-known-e c = search needs
-
 each-value-flaw-requires : tie.Need-each-value-flaw-requires
 each-value-flaw-requires c κs = let s = entered-whole _ _ (sym (c .before .before .before .value-list .ensures) ∙ c .before .e .given .1) in list-room _ _ _ _ (s .0) _ (s .1)
 
@@ -27,9 +18,9 @@ pub values-flaw-spec : {M : Type 1} → statement M
 values-flaw-spec =
     tie.close
     (tie.spec
-    value-list-requires
-    enum-known-f
-    enum-known-e
+    (λ c κs. search needs)
+    (λ c. search needs)
+    (λ c. search needs)
     each-value-flaw-requires
     returns
     returns-2)

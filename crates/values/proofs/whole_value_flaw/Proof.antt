@@ -8,32 +8,14 @@ use borrow.Author.Needs.{needs}
 use Rattle.values.proofs.whole_value_flaw.Statement.{statement}
 use Rattle.values.proofs.whole_value_flaw.Tie as tie
 
-find-cell-requires : tie.Need-find-cell-requires
-find-cell-requires c κs = search needs
-
-enum-known-f : tie.Need-enum-known-f
-enum-known-f c = search needs
-
-enum-known-c : tie.Need-enum-known-c
-enum-known-c c = search needs
-
 cell-data-requires : tie.Need-cell-data-requires
 cell-data-requires c κs = inside _ _ _ _ (sym (c .before .before .before .find-cell .ensures) ∙ c .before .c .given .1)
-
-is-value-requires : tie.Need-is-value-requires
-is-value-requires c κs = search needs
-
-flawed-requires : tie.Need-flawed-requires
-flawed-requires c κs = search needs
 
 returns : tie.Need-returns
 returns c = c .flawed .ensures ∙ sym (whole-refused _ _ _ _ _ (sym (c .before .before .before .before .before .before .before .find-cell .ensures) ∙ c .before .before .before .before .before .c .given .1) _ (c .before .before .before .cell-data .ensures) (sym (c .before .before .is-value .ensures) ∙ not-true _ (c .before .if1 .taken)))
 
 content-of-requires : tie.Need-content-of-requires
 content-of-requires c κs = let r = kept _ (sym (c .before .is-value .ensures) ∙ not-false _ (c .if1 .left)) .long in omega arith
-
-data-flaw-requires : tie.Need-data-flaw-requires
-data-flaw-requires c κs = search needs
 
 returns-2 : tie.Need-returns-2
 returns-2 c = sym (whole-lacks _ _ _ _ _ (sym (c .before .before .before .find-cell .ensures) ∙ c .before .f .given .1))
@@ -45,14 +27,14 @@ pub whole-value-flaw-spec : {M : Type 1} → statement M
 whole-value-flaw-spec =
     tie.close
     (tie.spec
-    find-cell-requires
-    enum-known-f
-    enum-known-c
+    (λ c κs. search needs)
+    (λ c. search needs)
+    (λ c. search needs)
     cell-data-requires
-    is-value-requires
-    flawed-requires
+    (λ c κs. search needs)
+    (λ c κs. search needs)
     returns
     content-of-requires
-    data-flaw-requires
+    (λ c κs. search needs)
     returns-2
     returns-3)

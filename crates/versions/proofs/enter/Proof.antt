@@ -10,17 +10,11 @@ enter-reference-requires c κs =
     let s = c .before .before .before in
     (between-pages (s .args .c) (s .pre .0), c .if1 .taken, s .pre .1)
 
-returns : tie.Need-returns
-returns c = search needs
-
 enter-entry-requires : tie.Need-enter-entry-requires
 enter-entry-requires c κs =
     let s = c .before .before .before in
     let none : s .args .c .refs ≡ 0 = omega (arith, c .if1 .left) in
     (between-pages (s .args .c) (s .pre .0), none, between-left (s .args .c) (s .pre .0) none, s .pre .1)
 
-returns-2 : tie.Need-returns-2
-returns-2 c = search needs
-
 pub enter-spec : {M : Type 1} → statement M
-enter-spec = tie.close (tie.spec enter-reference-requires returns enter-entry-requires returns-2)
+enter-spec = tie.close (tie.spec enter-reference-requires (λ c. search needs) enter-entry-requires (λ c. search needs))

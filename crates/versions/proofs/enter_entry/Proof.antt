@@ -18,29 +18,17 @@ add-u32-at c = omega (arith, here (c .before) .head)
 u32-at-requires : tie.Need-u32-at-requires
 u32-at-requires c κs = omega (arith, here (c .before) .head)
 
-cast-count : tie.Need-cast-count
-cast-count c = search needs
-
 add-u32-at-2 : tie.Need-add-u32-at-2
 add-u32-at-2 c = omega (arith, here (c .before .before) .head)
 
 u32-at-requires-2 : tie.Need-u32-at-requires-2
 u32-at-requires-2 c κs = omega (arith, here (c .before .before) .head)
 
-cast-t7 : tie.Need-cast-t7
-cast-t7 c = search needs
-
 add-t8 : tie.Need-add-t8
 add-t8 c = omega (arith, here (c .before .before .before) .ends, c .u32-at2 .ensures)
 
-sub-t9 : tie.Need-sub-t9
-sub-t9 c = search needs
-
 add-t10 : tie.Need-add-t10
 add-t10 c = omega (arith, here (c .before .before .before .before) .head)
-
-mul-t11 : tie.Need-mul-t11
-mul-t11 c = search needs
 
 add-t12 : tie.Need-add-t12
 add-t12 c = omega (arith, here (c .before .before .before .before) .refs-end, c .before .before .u32-at .ensures)
@@ -59,13 +47,13 @@ enter-entry-spec =
     (tie.spec
     add-u32-at
     u32-at-requires
-    cast-count
+    (λ c. search needs)
     add-u32-at-2
     u32-at-requires-2
-    cast-t7
+    (λ c. search needs)
     add-t8
-    sub-t9
+    (λ c. search needs)
     add-t10
-    mul-t11
+    (λ c. search needs)
     add-t12
     returns)

@@ -25,23 +25,14 @@ add-field-2 c = omega (arith, here (c .before .before .before) .head)
 add-t4 : tie.Need-add-t4
 add-t4 c = omega (arith, here (c .before .before .before .before) .head)
 
-sub-t5 : tie.Need-sub-t5
-sub-t5 c = search needs
-
 u32-at-requires : tie.Need-u32-at-requires
 u32-at-requires c κs = omega (arith, here (c .before .before .before .before .before) .head)
-
-cast-t7 : tie.Need-cast-t7
-cast-t7 c = search needs
 
 add-u32-at : tie.Need-add-u32-at
 add-u32-at c = omega (arith, here (c .before .before .before .before .before .before) .head)
 
 u32-at-requires-2 : tie.Need-u32-at-requires-2
 u32-at-requires-2 c κs = omega (arith, here (c .before .before .before .before .before .before) .head)
-
-cast-t11 : tie.Need-cast-t11
-cast-t11 c = search needs
 
 returns : tie.Need-returns
 returns c =
@@ -64,10 +55,10 @@ enter-reference-spec =
     mul-field
     add-field-2
     add-t4
-    sub-t5
+    (λ c. search needs)
     u32-at-requires
-    cast-t7
+    (λ c. search needs)
     add-u32-at
     u32-at-requires-2
-    cast-t11
+    (λ c. search needs)
     returns)

@@ -6,15 +6,6 @@ use Rattle.versions.proofs.Steps.{past-split, past-lies}
 use Rattle.versions.proofs.next.Statement.{statement}
 use Rattle.versions.proofs.next.Tie as tie
 
-add-t3 : tie.Need-add-t3
-add-t3 c = search needs
-
-add-t4 : tie.Need-add-t4
-add-t4 c = search needs
-
-sub-t5 : tie.Need-sub-t5
-sub-t5 c = search needs
-
 settle-requires : tie.Need-settle-requires
 settle-requires c κs =
     let s = c .before .before .before .before in
@@ -31,4 +22,4 @@ returns c =
     }
 
 pub next-spec : {M : Type 1} → statement M
-next-spec = tie.close (tie.spec add-t3 add-t4 sub-t5 settle-requires returns)
+next-spec = tie.close (tie.spec (λ c. search needs) (λ c. search needs) (λ c. search needs) settle-requires returns)

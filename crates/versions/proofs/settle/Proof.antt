@@ -14,9 +14,6 @@ abbrev μ-loop : tie.MeasureT-loop
 loop-holds : tie.Need-loop-holds Inv-loop μ-loop
 loop-holds c = (refl, c .before .pre)
 
-is-between-requires : tie.Need-is-between-requires Inv-loop μ-loop
-is-between-requires c κs = search needs
-
 enter-requires : tie.Need-enter-requires Inv-loop μ-loop
 enter-requires c κs = (sym (c .before .is-between .ensures) ∙ c .if1 .taken, c .before .before .loop .inv .1)
 
@@ -39,7 +36,7 @@ settle-spec =
     Inv-loop
     μ-loop
     loop-holds
-    is-between-requires
+    (λ c κs. search needs)
     enter-requires
     loop-less
     loop-again

@@ -9,17 +9,11 @@ use Rattle.walk.proofs.ahead.Tie as tie
 returns : tie.Need-returns
 returns c = sym (in-over _ _ _ (c .if1 .taken))
 
-short-requires : tie.Need-short-requires
-short-requires c κs = search needs
-
 returns-2 : tie.Need-returns-2
 returns-2 c = ap ahead.Refused (c .short .ensures) ∙ sym (in-short _ _ _ (c .before .before .if1 .left) (omega arith))
-
-ahead-at-requires : tie.Need-ahead-at-requires
-ahead-at-requires c κs = search needs
 
 returns-3 : tie.Need-returns-3
 returns-3 c = c .ahead-at .ensures ∙ sym (in-on _ _ _ (c .before .before .if1 .left) (omega arith))
 
 pub ahead-spec : {M : Type 1} → statement M
-ahead-spec = tie.close (tie.spec returns short-requires returns-2 ahead-at-requires returns-3)
+ahead-spec = tie.close (tie.spec returns (λ c κs. search needs) returns-2 (λ c κs. search needs) returns-3)

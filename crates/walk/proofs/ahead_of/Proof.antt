@@ -9,56 +9,8 @@ use borrow.Author.Needs.{needs}
 use Rattle.walk.proofs.ahead_of.Statement.{statement}
 use Rattle.walk.proofs.ahead_of.Tie as tie
 
-sub-i : tie.Need-sub-i
-sub-i c = search needs
-
-mul-i : tie.Need-mul-i
-mul-i c = search needs
-
-mul-t11 : tie.Need-mul-t11
-mul-t11 c = search needs
-
-shared-slice-read-t13 : tie.Need-shared-slice-read-t13
-shared-slice-read-t13 c = search needs
-
-add-t11 : tie.Need-add-t11
-add-t11 c = search needs
-
-mul-t14 : tie.Need-mul-t14
-mul-t14 c = search needs
-
-shared-slice-read-t13-2 : tie.Need-shared-slice-read-t13-2
-shared-slice-read-t13-2 c = search needs
-
-add-t16 : tie.Need-add-t16
-add-t16 c = search needs
-
-mul-t17 : tie.Need-mul-t17
-mul-t17 c = search needs
-
-shared-slice-read-t19 : tie.Need-shared-slice-read-t19
-shared-slice-read-t19 c = search needs
-
 key-fields-requires : tie.Need-key-fields-requires
 key-fields-requires c κs = key-room Header _ [] _ (c .before .before .before .before .before .pre .1)
-
-next-below-requires : tie.Need-next-below-requires
-next-below-requires c κs = search needs
-
-enum-known-f : tie.Need-enum-known-f
-enum-known-f c = search needs
-
-refused-requires : tie.Need-refused-requires
-refused-requires c κs = search needs
-
-enum-told : tie.Need-enum-told
-enum-told c = search needs
-
-enum-known-c : tie.Need-enum-known-c
-enum-known-c c = search needs
-
-open-requires : tie.Need-open-requires
-open-requires c κs = search needs
 
 returns : tie.Need-returns
 returns c =
@@ -84,23 +36,23 @@ pub ahead-of-spec : {M : Type 1} → statement M
 ahead-of-spec =
     tie.close
     (tie.spec
-    sub-i
-    mul-i
-    mul-t11
-    shared-slice-read-t13
-    add-t11
-    mul-t14
-    shared-slice-read-t13-2
-    add-t16
-    mul-t17
-    shared-slice-read-t19
+    (λ c. search needs)
+    (λ c. search needs)
+    (λ c. search needs)
+    (λ c. search needs)
+    (λ c. search needs)
+    (λ c. search needs)
+    (λ c. search needs)
+    (λ c. search needs)
+    (λ c. search needs)
+    (λ c. search needs)
     key-fields-requires
-    next-below-requires
-    enum-known-f
-    refused-requires
-    enum-told
-    enum-known-c
-    open-requires
+    (λ c κs. search needs)
+    (λ c. search needs)
+    (λ c κs. search needs)
+    (λ c. search needs)
+    (λ c. search needs)
+    (λ c κs. search needs)
     returns
     returns-2
     returns-3)

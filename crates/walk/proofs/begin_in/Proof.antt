@@ -11,29 +11,11 @@ use borrow.Author.Needs.{needs}
 use Rattle.walk.proofs.begin_in.Statement.{statement}
 use Rattle.walk.proofs.begin_in.Tie as tie
 
-name-at-requires : tie.Need-name-at-requires
-name-at-requires c κs = search needs
-
-enum-known-f : tie.Need-enum-known-f
-enum-known-f c = search needs
-
-refused-requires : tie.Need-refused-requires
-refused-requires c κs = search needs
-
-enum-known-name : tie.Need-enum-known-name
-enum-known-name c = search needs
-
-short-requires : tie.Need-short-requires
-short-requires c κs = search needs
-
 returns : tie.Need-returns
 returns c =
     let a = c .before .before .before .before .before .before .before .before .args in
     let q = root-short (a .bins .now) (now (a .levels)) (a .root) (sym (c .before .before .before .before .before .name-at .ensures) ∙ c .before .before .before .name .given .1) (omega arith) in
     (ap Refused (c .short .ensures) ∙ sym (ap (λ (v : Verdict). begunWhere v (entryOf (a .root) (keyOf (a .bins .now) (a .root) .name))) q), sym (ap (begunLevels (now (a .levels)) (a .root)) q))
-
-put-key-requires : tie.Need-put-key-requires
-put-key-requires c κs = search needs
 
 entry-of-requires : tie.Need-entry-of-requires
 entry-of-requires c κs = name-small _ _ (sym (c .before .before .before .before .before .before .before .before .name-at .ensures) ∙ c .before .before .before .before .before .before .name .given .1)
@@ -43,9 +25,6 @@ returns-2 c =
     let a = c .before .before .before .before .before .before .before .args in
     let q = root-bad (a .bins .now) (now (a .levels)) (a .root) (sym (c .before .before .before .before .name-at .ensures) ∙ c .before .before .f .given .1) in
     (ap Refused (c .refused .ensures) ∙ sym (ap (λ (v : Verdict). begunWhere v (entryOf (a .root) (keyOf (a .bins .now) (a .root) .name))) q), sym (ap (begunLevels (now (a .levels)) (a .root)) q))
-
-same-length : tie.Need-same-length
-same-length c = search needs
 
 returns-3 : tie.Need-returns-3
 returns-3 c =
@@ -60,14 +39,14 @@ pub begin-in-spec : {M : Type 1} → statement M
 begin-in-spec =
     tie.close
     (tie.spec
-    name-at-requires
-    enum-known-f
-    refused-requires
-    enum-known-name
-    short-requires
+    (λ c κs. search needs)
+    (λ c. search needs)
+    (λ c κs. search needs)
+    (λ c. search needs)
+    (λ c κs. search needs)
     returns
-    put-key-requires
+    (λ c κs. search needs)
     entry-of-requires
     returns-2
-    same-length
+    (λ c. search needs)
     returns-3)

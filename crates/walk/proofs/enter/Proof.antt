@@ -6,17 +6,8 @@ use borrow.Author.Needs.{needs}
 use Rattle.walk.proofs.enter.Statement.{statement}
 use Rattle.walk.proofs.enter.Tie as tie
 
-refused-requires : tie.Need-refused-requires
-refused-requires c κs = search needs
-
 returns : tie.Need-returns
 returns c = ap ahead.Refused (c .refused .ensures) ∙ sym (enter-deep _ _ _ _ _ (omega arith))
-
-add-if2 : tie.Need-add-if2
-add-if2 c = search needs
-
-short-requires : tie.Need-short-requires
-short-requires c κs = search needs
 
 returns-2 : tie.Need-returns-2
 returns-2 c = ap ahead.Refused (c .short .ensures) ∙ sym (enter-short _ _ _ _ _ (omega arith) (omega arith))
@@ -26,4 +17,4 @@ returns-3 c = sym (enter-on _ _ _ _ _ (omega arith) (omega arith))
 
 pub enter-spec : {M : Type 1} → statement M
 enter-spec =
-    tie.close (tie.spec refused-requires returns add-if2 short-requires returns-2 returns-3)
+    tie.close (tie.spec (λ c κs. search needs) returns (λ c. search needs) (λ c κs. search needs) returns-2 returns-3)

@@ -5,17 +5,8 @@ use borrow.Author.Needs.{needs}
 use Rattle.walk.proofs.next_of.Statement.{statement}
 use Rattle.walk.proofs.next_of.Tie as tie
 
-cast-i : tie.Need-cast-i
-cast-i c = search needs
-
 returns : tie.Need-returns
 returns c = sym (leaf-end _ _ _ (omega arith))
-
-child-offset-requires : tie.Need-child-offset-requires
-child-offset-requires c κs = search needs
-
-mark-after-requires : tie.Need-mark-after-requires
-mark-after-requires c κs = search needs
 
 returns-2 : tie.Need-returns-2
 returns-2 c = sym (leaf-next _ _ _ (omega arith) (c .before .child-offset .ensures) (c .mark-after .ensures))
@@ -24,8 +15,8 @@ pub next-of-spec : {M : Type 1} → statement M
 next-of-spec =
     tie.close
     (tie.spec
-    cast-i
+    (λ c. search needs)
     returns
-    child-offset-requires
-    mark-after-requires
+    (λ c κs. search needs)
+    (λ c κs. search needs)
     returns-2)

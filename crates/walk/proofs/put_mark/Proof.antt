@@ -6,23 +6,8 @@ use borrow.Author.Needs.{needs}
 use Rattle.walk.proofs.put_mark.Statement.{statement}
 use Rattle.walk.proofs.put_mark.Tie as tie
 
-mul-levels : tie.Need-mul-levels
-mul-levels c = search needs
-
-slice-write-levels : tie.Need-slice-write-levels
-slice-write-levels c = search needs
-
-add-levels : tie.Need-add-levels
-add-levels c = search needs
-
-mul-levels-2 : tie.Need-mul-levels-2
-mul-levels-2 c = search needs
-
 slice-write-levels-2 : tie.Need-slice-write-levels-2
 slice-write-levels-2 c = simp length-set (omega arith)
-
-same-length : tie.Need-same-length
-same-length c = search needs
 
 returns : tie.Need-returns
 returns c = let a = c .args in put-two (now (a .levels)) (a .i) (a .m .leaf) (a .m .element)
@@ -31,10 +16,10 @@ pub put-mark-spec : {M : Type 1} → statement M
 put-mark-spec =
     tie.close
     (tie.spec
-    mul-levels
-    slice-write-levels
-    add-levels
-    mul-levels-2
+    (λ c. search needs)
+    (λ c. search needs)
+    (λ c. search needs)
+    (λ c. search needs)
     slice-write-levels-2
-    same-length
+    (λ c. search needs)
     returns)

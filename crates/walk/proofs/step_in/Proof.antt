@@ -6,44 +6,17 @@ use borrow.Author.Needs.{needs}
 use Rattle.walk.proofs.step_in.Statement.{statement}
 use Rattle.walk.proofs.step_in.Tie as tie
 
-ahead-requires : tie.Need-ahead-requires
-ahead-requires c κs = search needs
-
-enum-known-r : tie.Need-enum-known-r
-enum-known-r c = search needs
-
-enum-told : tie.Need-enum-told
-enum-told c = search needs
-
-enum-known-k : tie.Need-enum-known-k
-enum-known-k c = search needs
-
-enum-known-e : tie.Need-enum-known-e
-enum-known-e c = search needs
-
 go-below-requires : tie.Need-go-below-requires
 go-below-requires c κs = let b = moves-below _ _ _ (sym (c .before .before .before .before .ahead .ensures) ∙ c .before .before .e .given .1) in (b .some, b .room)
-
-same-length : tie.Need-same-length
-same-length c = search needs
 
 returns : tie.Need-returns
 returns c = let a = c .before .before .before .before .before .before .before .args in let q = sym (c .before .before .before .ahead .ensures) ∙ c .before .r .given .1 in (sym (ap answerOf q), sym (ap (levelsAfter (now (a .levels)) (a .depth)) q))
 
-same-length-2 : tie.Need-same-length-2
-same-length-2 c = search needs
-
 returns-2 : tie.Need-returns-2
 returns-2 c = let a = c .before .before .before .before .before .before .args in let q = sym (c .before .before .ahead .ensures) ∙ c .enum-told .given .1 in (sym (ap answerOf q), sym (ap (levelsAfter (now (a .levels)) (a .depth)) q))
 
-same-length-3 : tie.Need-same-length-3
-same-length-3 c = search needs
-
 returns-3 : tie.Need-returns-3
 returns-3 c = let a = c .before .before .before .before .before .before .before .args in let q = sym (c .before .before .before .ahead .ensures) ∙ c .before .k .given .1 in (sym (ap answerOf q), sym (ap (levelsAfter (now (a .levels)) (a .depth)) q))
-
-same-length-4 : tie.Need-same-length-4
-same-length-4 c = search needs
 
 returns-4 : tie.Need-returns-4
 returns-4 c = let a = c .before .before .before .before .before .before .before .before .before .before .before .args in let q = sym (c .before .before .before .before .before .before .before .ahead .ensures) ∙ c .before .before .before .before .before .e .given .1 in (sym (ap answerOf q), c .before .before .go-below .ensures ∙ sym (ap (levelsAfter (now (a .levels)) (a .depth)) q))
@@ -52,17 +25,17 @@ pub step-in-spec : {M : Type 1} → statement M
 step-in-spec =
     tie.close
     (tie.spec
-    ahead-requires
-    enum-known-r
-    enum-told
-    enum-known-k
-    enum-known-e
+    (λ c κs. search needs)
+    (λ c. search needs)
+    (λ c. search needs)
+    (λ c. search needs)
+    (λ c. search needs)
     go-below-requires
-    same-length
+    (λ c. search needs)
     returns
-    same-length-2
+    (λ c. search needs)
     returns-2
-    same-length-3
+    (λ c. search needs)
     returns-3
-    same-length-4
+    (λ c. search needs)
     returns-4)

@@ -6,17 +6,8 @@ use borrow.Author.Needs.{needs}
 use Rattle.writing.proofs.key_flags.Statement.{statement}
 use Rattle.writing.proofs.key_flags.Tie as tie
 
-flag-requires : tie.Need-flag-requires
-flag-requires c κs = search needs
-
-flag-requires-2 : tie.Need-flag-requires-2
-flag-requires-2 c κs = search needs
-
 add-result : tie.Need-add-result
 add-result c = omega (arith, c .before .flag .ensures, c .flag2 .ensures, flag-small (c .before .before .args .narrow) 32, flag-small (eqb (c .before .before .args .parent) nothing) 12)
 
-returns : tie.Need-returns
-returns c = search needs
-
 pub key-flags-spec : {M : Type 1} → statement M
-key-flags-spec = tie.close (tie.spec flag-requires flag-requires-2 add-result returns)
+key-flags-spec = tie.close (tie.spec (λ c κs. search needs) (λ c κs. search needs) add-result (λ c. search needs))

@@ -16,12 +16,6 @@ add-put-copy c = omega (arith, cell-room (length (c .before .before .before .bef
 put-copy-requires : tie.Need-put-copy-requires
 put-copy-requires c κs = omega (arith, cell-room (length (c .before .before .before .before .before .before .before .args .body .now)))
 
-put-pad-requires : tie.Need-put-pad-requires
-put-pad-requires c κs = search needs
-
-same-length : tie.Need-same-length
-same-length c = search needs
-
 returns : tie.Need-returns
 returns c = rw (c .before .before .put-pad .ensures, c .before .before .before .before .before .before .put-copy .ensures, c .before .before .before .before .before .before .before .before .before .before .put-size .ensures) (cell-put (c .before .before .before .before .before .before .before .before .before .before .before .before .before .before .args .body .now) (c .before .before .before .before .before .before .before .before .before .before .before .before .before .before .args .out .now) (c .before .before .before .before .before .before .before .before .before .before .before .before .before .before .args .at) _ refl)
 
@@ -32,6 +26,6 @@ put-bytes-spec =
     put-size-requires
     add-put-copy
     put-copy-requires
-    put-pad-requires
-    same-length
+    (λ c κs. search needs)
+    (λ c. search needs)
     returns)

@@ -9,24 +9,6 @@ use borrow.Author.Needs.{needs}
 use Rattle.writing.proofs.put_copy.Statement.{statement}
 use Rattle.writing.proofs.put_copy.Tie as tie
 
-add-stop : tie.Need-add-stop
-add-stop c = search needs
-
-sub-copy-all : tie.Need-sub-copy-all
-sub-copy-all c = search needs
-
-part-copy-all-start : tie.Need-part-copy-all-start
-part-copy-all-start c = search needs
-
-part-copy-all-end : tie.Need-part-copy-all-end
-part-copy-all-end c = search needs
-
-copy-all-requires : tie.Need-copy-all-requires
-copy-all-requires c κs = search needs
-
-same-length : tie.Need-same-length
-same-length c = search needs
-
 returns : tie.Need-returns
 returns c =
     let a = c .before .before .before .before .before .before .args in
@@ -39,10 +21,10 @@ pub put-copy-spec : {M : Type 1} → statement M
 put-copy-spec =
     tie.close
     (tie.spec
-    add-stop
-    sub-copy-all
-    part-copy-all-start
-    part-copy-all-end
-    copy-all-requires
-    same-length
+    (λ c. search needs)
+    (λ c. search needs)
+    (λ c. search needs)
+    (λ c. search needs)
+    (λ c κs. search needs)
+    (λ c. search needs)
     returns)

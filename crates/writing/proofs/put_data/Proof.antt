@@ -16,14 +16,8 @@ put-bytes-requires c κs = (omega arith, omega (arith, size-one (length (c .befo
 put-segmented-requires : tie.Need-put-segmented-requires
 put-segmented-requires c κs = (c .before .before .before .before .before .pre .0, omega (arith, size-many (length (c .before .before .before .before .before .args .body .now)) (c .before .if2 .left), c .before .before .before .before .before .pre .1))
 
-same-length : tie.Need-same-length
-same-length c = search needs
-
 returns-2 : tie.Need-returns-2
 returns-2 c = c .before .before .put-bytes .ensures ∙ data-one (c .before .before .before .before .before .before .before .before .args .body .now) (c .before .before .before .before .before .before .before .before .args .out .now) (c .before .before .before .before .before .before .before .before .args .at) (c .before .before .before .before .before .before .before .before .args .offset) (c .before .before .before .before .before .if1 .left) (c .before .before .before .before .if2 .taken)
-
-same-length-2 : tie.Need-same-length-2
-same-length-2 c = search needs
 
 returns-3 : tie.Need-returns-3
 returns-3 c = c .before .before .put-segmented .ensures ∙ data-many (c .before .before .before .before .before .before .before .before .args .body .now) (c .before .before .before .before .before .before .before .before .args .out .now) (c .before .before .before .before .before .before .before .before .args .at) (c .before .before .before .before .before .before .before .before .args .offset) (c .before .before .before .before .if2 .left)
@@ -35,7 +29,7 @@ put-data-spec =
     returns
     put-bytes-requires
     put-segmented-requires
-    same-length
+    (λ c. search needs)
     returns-2
-    same-length-2
+    (λ c. search needs)
     returns-3)

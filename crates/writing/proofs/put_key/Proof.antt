@@ -10,9 +10,6 @@ use borrow.Author.Needs.{needs}
 use Rattle.writing.proofs.put_key.Statement.{statement}
 use Rattle.writing.proofs.put_key.Tie as tie
 
-stored-len-requires : tie.Need-stored-len-requires
-stored-len-requires c κs = search needs
-
 add-put-size : tie.Need-add-put-size
 add-put-size c = omega (arith, c .before .stored-len .ensures, stored-few _ _ (c .before .before .before .before .pre .0 .0), c .before .before .before .before .pre .0 .1)
 
@@ -22,14 +19,8 @@ put-size-requires c κs = (omega (arith, c .before .stored-len .ensures, stored-
 cast-put-fixed : tie.Need-cast-put-fixed
 cast-put-fixed c = omega (arith, c .before .before .before .before .stored-len .ensures, stored-few _ _ (c .before .before .before .before .before .before .before .pre .0 .0), c .before .before .before .before .before .before .before .pre .0 .1)
 
-add-put-fixed : tie.Need-add-put-fixed
-add-put-fixed c = search needs
-
 put-fixed-requires : tie.Need-put-fixed-requires
 put-fixed-requires c κs = omega (arith, cell-room (76 + c .before .before .before .before .before .stored-len .result), ap (λ (k : ℕ). cellSize (76 + k)) (c .before .before .before .before .before .stored-len .ensures), c .before .before .before .before .before .before .before .before .pre .1)
-
-add-put-stored : tie.Need-add-put-stored
-add-put-stored c = search needs
 
 put-stored-requires : tie.Need-put-stored-requires
 put-stored-requires c κs = (c .before .before .before .before .before .before .before .before .before .before .before .before .pre .0 .0, omega (arith, cell-room (76 + c .before .before .before .before .before .before .before .before .before .stored-len .result), c .before .before .before .before .before .before .before .before .before .stored-len .ensures, ap (λ (k : ℕ). cellSize (76 + k)) (c .before .before .before .before .before .before .before .before .before .stored-len .ensures), c .before .before .before .before .before .before .before .before .before .before .before .before .pre .1))
@@ -40,9 +31,6 @@ add-put-pad c = omega (arith, c .before .before .before .before .before .before 
 put-pad-requires : tie.Need-put-pad-requires
 put-pad-requires c κs = (omega (arith, c .before .before .before .before .before .before .before .before .before .before .before .before .before .stored-len .ensures, stored-few _ _ (c .before .before .before .before .before .before .before .before .before .before .before .before .before .before .before .before .pre .0 .0), c .before .before .before .before .before .before .before .before .before .before .before .before .before .before .before .before .pre .0 .1), omega (arith, ap (λ (k : ℕ). cellSize (76 + k)) (c .before .before .before .before .before .before .before .before .before .before .before .before .before .stored-len .ensures), c .before .before .before .before .before .before .before .before .before .before .before .before .before .before .before .before .pre .1))
 
-same-length : tie.Need-same-length
-same-length c = search needs
-
 returns : tie.Need-returns
 returns c =
     rw (c .before .before .put-pad .ensures, c .before .before .before .before .before .before .put-stored .ensures, c .before .before .before .before .before .before .before .before .before .before .put-fixed .ensures, c .before .before .before .before .before .before .before .before .before .before .before .before .before .before .put-size .ensures)
@@ -52,15 +40,15 @@ pub put-key-spec : {M : Type 1} → statement M
 put-key-spec =
     tie.close
     (tie.spec
-    stored-len-requires
+    (λ c κs. search needs)
     add-put-size
     put-size-requires
     cast-put-fixed
-    add-put-fixed
+    (λ c. search needs)
     put-fixed-requires
-    add-put-stored
+    (λ c. search needs)
     put-stored-requires
     add-put-pad
     put-pad-requires
-    same-length
+    (λ c. search needs)
     returns)

@@ -9,9 +9,6 @@ use borrow.Author.Needs.{needs}
 use Rattle.writing.proofs.put_list.Statement.{statement}
 use Rattle.writing.proofs.put_list.Tie as tie
 
-mul-len : tie.Need-mul-len
-mul-len c = search needs
-
 put-size-requires : tie.Need-put-size-requires
 put-size-requires c κs = (omega arith, omega (arith, cell-room (4 * c .before .before .args .n), c .before .before .pre .1))
 
@@ -20,12 +17,6 @@ add-put-offsets c = omega (arith, cell-room (4 * c .before .before .before .befo
 
 put-offsets-requires : tie.Need-put-offsets-requires
 put-offsets-requires c κs = (c .before .before .before .before .before .before .pre .0, omega (arith, cell-room (4 * c .before .before .before .before .before .before .args .n), c .before .before .before .before .before .before .pre .1))
-
-put-pad-requires : tie.Need-put-pad-requires
-put-pad-requires c κs = search needs
-
-same-length : tie.Need-same-length
-same-length c = search needs
 
 returns : tie.Need-returns
 returns c =
@@ -36,10 +27,10 @@ pub put-list-spec : {M : Type 1} → statement M
 put-list-spec =
     tie.close
     (tie.spec
-    mul-len
+    (λ c. search needs)
     put-size-requires
     add-put-offsets
     put-offsets-requires
-    put-pad-requires
-    same-length
+    (λ c κs. search needs)
+    (λ c. search needs)
     returns)

@@ -14,9 +14,6 @@ add-put-zeros c = omega (arith, cell-room (c .before .before .args .len))
 add-put-zeros-2 : tie.Need-add-put-zeros-2
 add-put-zeros-2 c = omega (arith, cell-room (c .before .before .args .len))
 
-cell-size-requires : tie.Need-cell-size-requires
-cell-size-requires c κs = search needs
-
 add-put-zeros-3 : tie.Need-add-put-zeros-3
 add-put-zeros-3 c = omega (arith, cell-room (c .before .before .before .args .len))
 
@@ -25,9 +22,6 @@ sub-put-zeros c = omega (arith, cell-room (c .before .before .before .args .len)
 
 put-zeros-requires : tie.Need-put-zeros-requires
 put-zeros-requires c κs = omega (arith, cell-room (c .before .before .before .args .len), c .cell-size .ensures)
-
-same-length : tie.Need-same-length
-same-length c = search needs
 
 returns : tie.Need-returns
 returns c = c .before .before .put-zeros .ensures ∙ ap (λ (k : ℕ). sets (c .before .before .before .before .before .before .args .out .now) (c .before .before .before .before .before .before .args .at + 4 + c .before .before .before .before .before .before .args .len) (zeros (k - (4 + c .before .before .before .before .before .before .args .len)))) (c .before .before .before .cell-size .ensures)
@@ -38,9 +32,9 @@ put-pad-spec =
     (tie.spec
     add-put-zeros
     add-put-zeros-2
-    cell-size-requires
+    (λ c κs. search needs)
     add-put-zeros-3
     sub-put-zeros
     put-zeros-requires
-    same-length
+    (λ c. search needs)
     returns)

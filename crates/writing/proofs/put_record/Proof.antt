@@ -10,9 +10,6 @@ use borrow.Author.Needs.{needs}
 use Rattle.writing.proofs.put_record.Statement.{statement}
 use Rattle.writing.proofs.put_record.Tie as tie
 
-stored-len-requires : tie.Need-stored-len-requires
-stored-len-requires c κs = search needs
-
 add-cell-size : tie.Need-add-cell-size
 add-cell-size c = omega (arith, c .stored-len .ensures, stored-few _ _ (c .before .before .before .before .pre .0 .0), c .before .before .before .before .pre .0 .1)
 
@@ -22,50 +19,14 @@ cell-size-requires c κs = omega (arith, c .stored-len .ensures, stored-few _ _ 
 add-next : tie.Need-add-next
 add-next c = omega (arith, c .before .stored-len .ensures, stored-few _ _ (c .before .before .before .before .before .pre .0 .0), c .before .before .before .before .before .pre .0 .1, c .cell-size .ensures, cell-few (20 + c .before .stored-len .result), c .before .before .before .before .before .pre .1 .0 .1)
 
-add-last : tie.Need-add-last
-add-last c = search needs
-
-put-u16-requires : tie.Need-put-u16-requires
-put-u16-requires c κs = search needs
-
-add-put-u16 : tie.Need-add-put-u16
-add-put-u16 c = search needs
-
 cast-put-u16 : tie.Need-cast-put-u16
 cast-put-u16 c = omega (arith, c .before .before .before .before .before .before .stored-len .ensures, stored-few _ _ (c .before .before .before .before .before .before .before .before .before .before .pre .0 .0), c .before .before .before .before .before .before .before .before .before .before .pre .0 .1)
-
-put-u16-requires-2 : tie.Need-put-u16-requires-2
-put-u16-requires-2 c κs = search needs
-
-add-put-field : tie.Need-add-put-field
-add-put-field c = search needs
 
 put-field-requires : tie.Need-put-field-requires
 put-field-requires c κs = ((c .before .before .before .before .before .before .before .before .before .before .before .before .before .before .pre .1 .0 .0, omega (arith, c .before .before .before .before .before .before .before .before .before .before .stored-len .ensures, stored-few _ _ (c .before .before .before .before .before .before .before .before .before .before .before .before .before .before .pre .0 .0), c .before .before .before .before .before .before .before .before .before .before .before .before .before .before .pre .0 .1, c .before .before .before .before .before .before .before .before .before .cell-size .ensures, cell-few (20 + c .before .before .before .before .before .before .before .before .before .before .stored-len .result), c .before .before .before .before .before .before .before .before .before .before .before .before .before .before .pre .1 .0 .1)), omega (arith, c .before .before .before .before .before .before .before .before .before .before .before .before .before .before .pre .1 .1))
 
-add-put-u32 : tie.Need-add-put-u32
-add-put-u32 c = search needs
-
-put-u32-requires : tie.Need-put-u32-requires
-put-u32-requires c κs = search needs
-
-add-put-u32-2 : tie.Need-add-put-u32-2
-add-put-u32-2 c = search needs
-
-flag-requires : tie.Need-flag-requires
-flag-requires c κs = search needs
-
-cast-put-u32 : tie.Need-cast-put-u32
-cast-put-u32 c = search needs
-
-put-u32-requires-2 : tie.Need-put-u32-requires-2
-put-u32-requires-2 c κs = search needs
-
 put-stored-requires : tie.Need-put-stored-requires
 put-stored-requires c κs = (c .before .before .before .before .before .before .before .before .before .before .before .before .before .before .before .before .before .before .before .before .before .before .before .before .before .before .before .pre .0 .0, omega (arith, c .before .before .before .before .before .before .before .before .before .before .before .before .before .before .before .before .before .before .before .before .before .before .before .before .before .before .before .pre .1 .1))
-
-same-length : tie.Need-same-length
-same-length c = search needs
 
 returns : tie.Need-returns
 returns c =
@@ -77,23 +38,23 @@ pub put-record-spec : {M : Type 1} → statement M
 put-record-spec =
     tie.close
     (tie.spec
-    stored-len-requires
+    (λ c κs. search needs)
     add-cell-size
     cell-size-requires
     add-next
-    add-last
-    put-u16-requires
-    add-put-u16
+    (λ c. search needs)
+    (λ c κs. search needs)
+    (λ c. search needs)
     cast-put-u16
-    put-u16-requires-2
-    add-put-field
+    (λ c κs. search needs)
+    (λ c. search needs)
     put-field-requires
-    add-put-u32
-    put-u32-requires
-    add-put-u32-2
-    flag-requires
-    cast-put-u32
-    put-u32-requires-2
+    (λ c. search needs)
+    (λ c κs. search needs)
+    (λ c. search needs)
+    (λ c κs. search needs)
+    (λ c. search needs)
+    (λ c κs. search needs)
     put-stored-requires
-    same-length
+    (λ c. search needs)
     returns)

@@ -9,26 +9,14 @@ use borrow.Author.Needs.{needs}
 use Rattle.writing.proofs.put_segmented.Statement.{statement}
 use Rattle.writing.proofs.put_segmented.Tie as tie
 
-segments-for-requires : tie.Need-segments-for-requires
-segments-for-requires c κs = search needs
-
 mul-cell-size : tie.Need-mul-cell-size
 mul-cell-size c = omega (arith, c .segments-for .ensures, count-few (length (c .before .before .before .args .body .now)) (c .before .before .before .pre .0 .0))
 
 cell-size-requires : tie.Need-cell-size-requires
 cell-size-requires c κs = omega (arith, c .segments-for .ensures, count-few (length (c .before .before .before .args .body .now)) (c .before .before .before .pre .0 .0))
 
-add-put-db : tie.Need-add-put-db
-add-put-db c = search needs
-
 put-db-requires : tie.Need-put-db-requires
 put-db-requires c κs = ((omega (arith, c .before .before .segments-for .ensures, count-few (length (c .before .before .before .before .before .args .body .now)) (c .before .before .before .before .before .pre .0 .0)), omega (arith, c .before .before .before .before .before .pre .0 .1)), omega (arith, c .before .before .before .before .before .pre .1))
-
-add-put-list : tie.Need-add-put-list
-add-put-list c = search needs
-
-add-put-list-2 : tie.Need-add-put-list-2
-add-put-list-2 c = search needs
 
 add-put-list-3 : tie.Need-add-put-list-3
 add-put-list-3 c = omega (arith, c .before .before .before .before .before .cell-size .ensures, c .before .before .before .before .before .before .segments-for .ensures, count-few (length (c .before .before .before .before .before .before .before .before .before .args .body .now)) (c .before .before .before .before .before .before .before .before .before .pre .0 .0), cell-few (4 * c .before .before .before .before .before .before .segments-for .result))
@@ -36,17 +24,11 @@ add-put-list-3 c = omega (arith, c .before .before .before .before .before .cell
 put-list-requires : tie.Need-put-list-requires
 put-list-requires c κs = ((omega (arith, c .before .before .before .before .before .before .segments-for .ensures, count-few (length (c .before .before .before .before .before .before .before .before .before .args .body .now)) (c .before .before .before .before .before .before .before .before .before .pre .0 .0)), omega (arith, c .before .before .before .before .before .cell-size .ensures, c .before .before .before .before .before .before .segments-for .ensures, count-few (length (c .before .before .before .before .before .before .before .before .before .args .body .now)) (c .before .before .before .before .before .before .before .before .before .pre .0 .0), cell-few (4 * c .before .before .before .before .before .before .segments-for .result))), omega (arith, ap (λ (i : ℕ). cellSize (4 * i)) (c .before .before .before .before .before .before .segments-for .ensures), c .before .before .before .before .before .before .before .before .before .pre .1))
 
-add-put-segments : tie.Need-add-put-segments
-add-put-segments c = search needs
-
 add-put-segments-2 : tie.Need-add-put-segments-2
 add-put-segments-2 c = omega (arith, c .before .before .before .before .before .before .before .before .before .cell-size .ensures, ap (λ (i : ℕ). cellSize (4 * i)) (c .before .before .before .before .before .before .before .before .before .before .segments-for .ensures), c .before .before .before .before .before .before .before .before .before .before .before .before .before .pre .1)
 
 put-segments-requires : tie.Need-put-segments-requires
 put-segments-requires c κs = (c .before .before .before .before .before .before .before .before .before .before .before .before .before .pre .0 .0, omega (arith, c .before .before .before .before .before .before .before .before .before .cell-size .ensures, ap (λ (i : ℕ). cellSize (4 * i)) (c .before .before .before .before .before .before .before .before .before .before .segments-for .ensures), c .before .before .before .before .before .before .before .before .before .before .before .before .before .pre .1))
-
-same-length : tie.Need-same-length
-same-length c = search needs
 
 returns : tie.Need-returns
 returns c =
@@ -57,17 +39,17 @@ pub put-segmented-spec : {M : Type 1} → statement M
 put-segmented-spec =
     tie.close
     (tie.spec
-    segments-for-requires
+    (λ c κs. search needs)
     mul-cell-size
     cell-size-requires
-    add-put-db
+    (λ c. search needs)
     put-db-requires
-    add-put-list
-    add-put-list-2
+    (λ c. search needs)
+    (λ c. search needs)
     add-put-list-3
     put-list-requires
-    add-put-segments
+    (λ c. search needs)
     add-put-segments-2
     put-segments-requires
-    same-length
+    (λ c. search needs)
     returns)

@@ -23,12 +23,6 @@ loop-holds c = (refl, omega arith, refl, segments-none (c .before .before .args 
 mul-loop : tie.Need-mul-loop Inv-loop μ-loop
 mul-loop c = omega (arith, count-few _ (c .before .before .before .pre .0), c .loop .inv .1)
 
-mul-start : tie.Need-mul-start Inv-loop μ-loop
-mul-start c = search needs
-
-segment-end-requires : tie.Need-segment-end-requires Inv-loop μ-loop
-segment-end-requires c κs = search needs
-
 sub-put-bytes : tie.Need-sub-put-bytes Inv-loop μ-loop
 sub-put-bytes c = let f = end-facts (c .before .before .before .before .before .args .body .now) (16344 * c .before .before .loop .i) (c .segment-end .result) (c .segment-end .ensures) (omega arith) in omega (arith, f .0, f .1)
 
@@ -38,17 +32,8 @@ part-put-bytes-start c = let f = end-facts (c .before .before .before .before .b
 part-put-bytes-end : tie.Need-part-put-bytes-end Inv-loop μ-loop
 part-put-bytes-end c = let f = end-facts (c .before .before .before .before .before .args .body .now) (16344 * c .before .before .loop .i) (c .segment-end .result) (c .segment-end .ensures) (omega arith) in omega (arith, f .0, f .1)
 
-mul-put-bytes : tie.Need-mul-put-bytes Inv-loop μ-loop
-mul-put-bytes c = search needs
-
-add-put-bytes : tie.Need-add-put-bytes Inv-loop μ-loop
-add-put-bytes c = search needs
-
 put-bytes-requires : tie.Need-put-bytes-requires Inv-loop μ-loop
 put-bytes-requires c κs = let f = part-room (c .before .before .before .before .before .before .before .args .body .now) (16344 * c .before .before .before .before .loop .i) (c .before .before .segment-end .result) (c .before .before .segment-end .ensures) (omega arith) (c .before .before .before .before .loop .i) refl (omega arith) in (f .0, omega (arith, f .1, c .before .before .before .before .before .before .before .pre .1))
-
-add-i : tie.Need-add-i Inv-loop μ-loop
-add-i c = search needs
 
 loop-less : tie.Need-loop-less Inv-loop μ-loop
 loop-less c = omega (arith, count-more (length (c .before .before .before .before .before .before .before .before .before .before .args .body .now)) (c .before .before .before .before .before .before .before .loop .i) (omega arith))
@@ -63,9 +48,6 @@ loop-again c = (
       ∙ segments-next (c .before .before .before .before .before .before .before .before .before .before .args .body .now) (c .before .before .before .before .before .before .before .before .before .before .args .out .now) (c .before .before .before .before .before .before .before .before .before .before .args .at) (c .before .before .before .before .before .before .before .loop .i) (omega arith),
 )
 
-same-length : tie.Need-same-length Inv-loop μ-loop
-same-length c = search needs
-
 returns : tie.Need-returns Inv-loop μ-loop
 returns c = c .before .loop .inv .3 ∙ segments-last (c .before .before .before .before .args .body .now) (c .before .before .before .before .args .out .now) (c .before .before .before .before .args .at) (c .before .loop .i) (c .before .loop .inv .1) (omega arith)
 
@@ -77,16 +59,16 @@ put-segments-spec =
     μ-loop
     loop-holds
     mul-loop
-    mul-start
-    segment-end-requires
+    (λ c. search needs)
+    (λ c κs. search needs)
     sub-put-bytes
     part-put-bytes-start
     part-put-bytes-end
-    mul-put-bytes
-    add-put-bytes
+    (λ c. search needs)
+    (λ c. search needs)
     put-bytes-requires
-    add-i
+    (λ c. search needs)
     loop-less
     loop-again
-    same-length
+    (λ c. search needs)
     returns)

@@ -15,14 +15,8 @@ put-low-requires c κs =
 put-copy-requires : tie.Need-put-copy-requires
 put-copy-requires c κs = omega (arith, whole-length _ _ (c .before .before .before .before .pre .0) (c .before .if1 .left), c .before .before .before .before .pre .1)
 
-same-length : tie.Need-same-length
-same-length c = search needs
-
 returns : tie.Need-returns
 returns c = c .before .before .put-low .ensures ∙ ap (sets (c .before .before .before .before .before .before .before .args .out .now) (c .before .before .before .before .before .before .before .args .at)) (sym (stored-low _ _ (c .before .before .before .before .before .before .before .pre .0) (c .before .before .before .before .if1 .taken)))
-
-same-length-2 : tie.Need-same-length-2
-same-length-2 c = search needs
 
 returns-2 : tie.Need-returns-2
 returns-2 c =
@@ -32,4 +26,4 @@ returns-2 c =
 pub put-stored-spec : {M : Type 1} → statement M
 put-stored-spec =
     tie.close
-    (tie.spec put-low-requires put-copy-requires same-length returns same-length-2 returns-2)
+    (tie.spec put-low-requires put-copy-requires (λ c. search needs) returns (λ c. search needs) returns-2)

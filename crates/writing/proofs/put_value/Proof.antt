@@ -9,9 +9,6 @@ use borrow.Author.Needs.{needs}
 use Rattle.writing.proofs.put_value.Statement.{statement}
 use Rattle.writing.proofs.put_value.Tie as tie
 
-stored-len-requires : tie.Need-stored-len-requires
-stored-len-requires c κs = search needs
-
 add-len : tie.Need-add-len
 add-len c = omega (arith, c .stored-len .ensures, stored-few _ _ (c .before .before .before .before .pre .0 .0), c .before .before .before .before .pre .0 .1)
 
@@ -27,9 +24,6 @@ put-record-requires c κs = (c .before .before .before .before .before .before .
 put-pad-requires : tie.Need-put-pad-requires
 put-pad-requires c κs = (omega (arith, c .before .before .before .before .before .before .before .before .before .stored-len .ensures, stored-few _ _ (c .before .before .before .before .before .before .before .before .before .before .before .before .before .pre .0 .0), c .before .before .before .before .before .before .before .before .before .before .before .before .before .pre .0 .1), omega (arith, ap (λ (k : ℕ). cellSize (20 + k)) (c .before .before .before .before .before .before .before .before .before .stored-len .ensures), c .before .before .before .before .before .before .before .before .before .before .before .before .before .pre .1 .1))
 
-same-length : tie.Need-same-length
-same-length c = search needs
-
 returns : tie.Need-returns
 returns c =
     rw (c .before .before .put-pad .ensures, c .before .before .before .before .before .before .put-record .ensures, c .before .before .before .before .before .before .before .before .before .before .put-size .ensures)
@@ -40,11 +34,11 @@ pub put-value-spec : {M : Type 1} → statement M
 put-value-spec =
     tie.close
     (tie.spec
-    stored-len-requires
+    (λ c κs. search needs)
     add-len
     put-size-requires
     add-put-record
     put-record-requires
     put-pad-requires
-    same-length
+    (λ c. search needs)
     returns)

@@ -3,17 +3,11 @@ use borrow.Author.Needs.{needs}
 use Rattle.writing.proofs.segment_end.Statement.{statement}
 use Rattle.writing.proofs.segment_end.Tie as tie
 
-sub-if1 : tie.Need-sub-if1
-sub-if1 c = search needs
-
 returns : tie.Need-returns
 returns c = let e = le-leb _ 16344 (c .if1 .taken) in rw e
-
-add-result : tie.Need-add-result
-add-result c = search needs
 
 returns-2 : tie.Need-returns-2
 returns-2 c = let e = lt-leb _ 16344 (c .if1 .left) in rw e
 
 pub segment-end-spec : {M : Type 1} → statement M
-segment-end-spec = tie.close (tie.spec sub-if1 returns add-result returns-2)
+segment-end-spec = tie.close (tie.spec (λ c. search needs) returns (λ c. search needs) returns-2)
