@@ -1,6 +1,5 @@
 /* A new hive from a stream of frames and one security descriptor. */
 #include <stdlib.h>
-#include <string.h>
 
 #include "host.h"
 
@@ -26,13 +25,13 @@ static int build(const char *file, Bytes frames, Bytes descriptor, Bytes *out)
     return b.answer.number == 0 ? GOOD : unbuilt(file, frames, b);
 }
 
-/* Nothing is written but a hive that the check accepts, and nothing is said before it is on the disk. */
-static int finish(const Hive *h)
+/* Nothing is written but a hive that the check accepts, and nothing is said before it is on the disk, or at standard output's other end. */
+static int finish(const Hive *h, FILE *to)
 {
     HiveReport r;
     int status = check(h->file, h->bytes, &r);
     if (status == GOOD && r.answer.number == 0)
-        status = write_new(h->file, h->bytes);
+        status = to != NULL ? put_output(to, h->bytes) : write_new(h->file, h->bytes);
     if (status != GOOD)
         return status;
     if (r.answer.number == 0) {
@@ -47,14 +46,15 @@ int build_verb(const Order *o)
 {
     Hive h = {.file = o->words[1]};
     Bytes frames, descriptor = {common, sizeof common};
-    if (strcmp(h.file, "-") == 0)
-        return misused("OUT is a new file, not standard output");
-    if (o->descriptor != NULL && strcmp(o->words[0], "-") == 0 && strcmp(o->descriptor, "-") == 0)
+    FILE *to = NULL;
+    if (o->descriptor != NULL && is_standard(o->words[0]) && is_standard(o->descriptor))
         return misused("FRAMES and the descriptor cannot both be standard input");
-    int status = read_file(o->words[0], &frames);
+    int status = is_standard(h.file) ? raw_output("a hive's bytes", &to) : GOOD;
+    if (status == GOOD)
+        status = read_file(o->words[0], &frames);
     if (status == GOOD && o->descriptor != NULL)
         status = read_file(o->descriptor, &descriptor);
     if (status == GOOD)
         status = build(o->words[0], frames, descriptor, &h.bytes);
-    return status == GOOD ? finish(&h) : status;
+    return status == GOOD ? finish(&h, to) : status;
 }

@@ -52,13 +52,7 @@ static int to_file(const char *path, Export *x)
     work_starts("exporting frames", 0);
     int status = pieces_new(path, export_next, x);
     work_ends();
-    if (status != GOOD)
-        return status;
-    say(x->h->file, "exported");
-    say_number("frames", x->frames);
-    say_number("bytes", x->bytes);
-    say_end();
-    return GOOD;
+    return status;
 }
 
 static int to_output(FILE *to, Export *x)
@@ -66,9 +60,17 @@ static int to_output(FILE *to, Export *x)
     Bytes piece;
     int status = export_next(x, &piece);
     for (; status == GOOD && piece.length > 0; status = export_next(x, &piece))
-        if (fwrite(piece.at, 1, piece.length, to) != piece.length)
-            return trouble("standard output", "it cannot be written");
-    return fflush(to) != 0 && status == GOOD ? trouble("standard output", "it cannot be written") : status;
+        if (put_output(to, piece) != GOOD)
+            return TROUBLE;
+    return status;
+}
+
+static void tell(const Export *x)
+{
+    say(x->h->file, "exported");
+    say_number("frames", x->frames);
+    say_number("bytes", x->bytes);
+    say_end();
 }
 
 FILE *own_output(void)
@@ -78,19 +80,35 @@ FILE *own_output(void)
     return to != NULL && dup2(2, 1) == 1 ? to : NULL;
 }
 
+int raw_output(const char *what, FILE **to)
+{
+    if (isatty(1))
+        return trouble("standard output", "%s are no text for a terminal; give OUT, or direct them to a file", what);
+    *to = own_output();
+    return *to != NULL ? GOOD : trouble("standard output", "it cannot be written");
+}
+
+int put_output(FILE *to, Bytes bytes)
+{
+    bool done = fwrite(bytes.at, 1, bytes.length, to) == bytes.length && fflush(to) == 0;
+    return done ? GOOD : trouble("standard output", "it cannot be written");
+}
+
+/* Without OUT nothing is said of what went well. */
 int export_verb(const Order *o)
 {
     Hive h;
     Export x;
     FILE *to = NULL;
-    if (o->count == 1 && isatty(1))
-        return trouble("standard output", "frames are no text for a terminal; give OUT, or direct them to a file");
-    if (o->count == 1 && (to = own_output()) == NULL)
-        return trouble("standard output", "it cannot be written");
-    int status = read_hive(o, o->words[0], &h);
+    const char *out = o->count == 2 ? o->words[1] : NULL;
+    int status = out == NULL || is_standard(out) ? raw_output("frames", &to) : GOOD;
+    if (status == GOOD)
+        status = read_hive(o, o->words[0], &h);
     if (status == GOOD)
         status = export_begin(&h, &x);
-    if (status != GOOD)
-        return status;
-    return to == NULL ? to_file(o->words[1], &x) : to_output(to, &x);
+    if (status == GOOD)
+        status = to == NULL ? to_file(out, &x) : to_output(to, &x);
+    if (status == GOOD && out != NULL)
+        tell(&x);
+    return status;
 }

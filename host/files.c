@@ -115,10 +115,15 @@ int read_open(int fd, const char *path, Bytes *out)
     return length > 0 ? read_known(fd, path, (size_t)length, out) : read_stream(fd, path, out);
 }
 
-/* - is standard input. */
+/* -, which is no file's name: standard input where a file is read, standard output where one is written. */
+bool is_standard(const char *path)
+{
+    return strcmp(path, "-") == 0;
+}
+
 int read_file(const char *path, Bytes *out)
 {
-    if (strcmp(path, "-") == 0)
+    if (is_standard(path))
         return read_open(0, "standard input", out);
     int fd = open(path, O_RDONLY | O_CLOEXEC);
     if (fd < 0)
@@ -130,9 +135,9 @@ int read_file(const char *path, Bytes *out)
 
 static int from_input(const Order *o, const char *file)
 {
-    int n = strcmp(file, "-") == 0;
+    int n = is_standard(file);
     for (int i = 0; i < o->log_count; i++)
-        n += strcmp(o->logs[i], "-") == 0;
+        n += is_standard(o->logs[i]);
     return n;
 }
 

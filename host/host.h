@@ -129,8 +129,12 @@ int export_next(void *of, Bytes *piece);
 
 /* Standard output for one kind of bytes alone: whatever else there is to say goes to standard error from here on. NULL where it cannot be had. */
 FILE *own_output(void);
+/* The same for bytes that are no text, which do not go to a terminal, and so many of them. GOOD, or TROUBLE after a message. */
+int raw_output(const char *what, FILE **to);
+int put_output(FILE *to, Bytes bytes);
 
 /* files.c. Those that answer an int answer GOOD or TROUBLE, after a message. */
+bool is_standard(const char *path);
 int read_file(const char *path, Bytes *out);
 int read_open(int fd, const char *path, Bytes *out);
 int read_hive(const Order *o, const char *file, Hive *out);

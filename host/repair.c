@@ -154,8 +154,10 @@ int repair_verb(const Order *o)
 {
     Hive h = {.file = o->words[0]};
     for (int i = 0; i < o->count; i++)
-        if (strcmp(o->words[i], "-") == 0)
+        if (is_standard(o->words[i]))
             return misused("repair wants a FILE and a LOG that stay, not standard input");
+    if (o->backup != NULL && is_standard(o->backup))
+        return misused("--backup wants the name of a new file, and - is none");
     int fd = o->dry ? open(h.file, O_RDONLY | O_CLOEXEC) : open_locked(h.file);
     if (fd < 0)
         return o->dry ? trouble(h.file, "%s", strerror(errno)) : TROUBLE;

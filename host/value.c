@@ -1,19 +1,19 @@
 /* A value's data. */
 #include <stdlib.h>
-#include <string.h>
 
 #include "host.h"
+
+/* Standard output for the data alone, where OUT is -. */
+static FILE *raw;
 
 /* To the new file OUT, raw to standard output if that is -, or as words. */
 static int show(const Order *o, uint32_t kind, Bytes data)
 {
     char room[16];
-    const char *file = o->words[0], *to = o->count == 4 ? o->words[3] : NULL;
-    if (to != NULL && strcmp(to, "-") != 0)
-        return write_new(to, data);
-    if (to != NULL)
-        fwrite(data.at, 1, data.length, stdout);
-    else if (!say_json())
+    const char *file = o->words[0];
+    if (o->count == 4)
+        return raw != NULL ? put_output(raw, data) : write_new(o->words[3], data);
+    if (!say_json())
         print_data(file, kind, data);
     else {
         say(file, "data");
@@ -106,6 +106,8 @@ int value_verb(const Order *o)
     int status = path_units(o->words[1], &path);
     if (status == GOOD)
         status = name_units(o->words[2], &name);
+    if (status == GOOD && o->count == 4 && is_standard(o->words[3]))
+        status = raw_output("raw bytes", &raw);
     if (status == GOOD)
         status = read_hive(o, o->words[0], &h);
     if (status != GOOD)

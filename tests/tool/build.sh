@@ -126,8 +126,22 @@ try 'build: no file behind the option' 2 '' '--descriptor wants a FILE behind it
 try 'build: not of another verb' 2 '' 'export takes no --descriptor' hive export --descriptor no-descriptor minimal out
 try 'build: no log' 2 '' 'build takes no --log' hive build --log log smallest out
 try 'build: both from a pipe' 2 '' 'FRAMES and the descriptor cannot both be standard input' piped --descriptor - - out
-try 'build: not to a pipe' 2 '' 'OUT is a new file, not standard output' hive build smallest -
 right 'build: nothing was written for that' unbuilt
+built_out() { hive build "$@" - >stream; }
+try 'build: to standard output' 0 '' 'built 8192' built_out smallest
+right 'build: to standard output, its lines' [ "$(cat stderr)" = "$(printf '%s\n' 'built 8192' 'accepted bins 1 keys 1 values 0 used 240 free 3824')" ]
+same 'build: to standard output, the same hive' stream built
+try 'build: to standard output, json' 0 '' '{"file":"-","answer":"built","bytes":8192}' built_out --json smallest
+same 'build: to standard output, json, the same hive' stream built
+try 'build: to standard output, refused' 1 '' 'refused 30 at 0' built_out sample
+right 'build: to standard output, refused, and it is empty' [ ! -s stream ]
+through() { cat smallest | hive build - - 2>/dev/null | hive check -; }
+try 'build: a pipe on either side' 0 'accepted bins 1 keys 1 values 0 used 240 free 3824' '' through
+try 'build: not to a terminal' 2 '' "standard output: a hive's bytes are no text for a terminal; give OUT" on_terminal build smallest -
+full_build() { hive build smallest - >/dev/full; }
+try 'build: to standard output, no room' 2 '' 'standard output: it cannot be written' full_build
+right 'build: to standard output, no room, and nothing more is said' [ "$(wc -l <stderr)" -eq 1 ]
+right 'build: no file is called -' [ ! -e ./- ]
 
 # The file has another name until it is whole and on the disk: cut after its write, after its sync, after that of its folder; and a write or a sync that fails.
 cut_off() { HIVE_CUT=$cut hive_cut build smallest out; }

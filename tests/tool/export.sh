@@ -26,5 +26,18 @@ right 'export: it is empty' [ ! -s stream ]
 try 'export: not finished' 1 'refused 7 at 0' 'give its log with --log' hive export spoilt spoilt.frames
 try 'export: as its log would repair it' 0 '' '' to_output --log log spoilt
 same 'export: the repaired tree' stream sample.frames
+try 'export: to -' 0 '' 'exported frames 2 bytes 22' to_output minimal -
+same 'export: to -, frames alone' stream wanted
+try 'export: to -, json' 0 '' '{"file":"minimal","answer":"exported","frames":2,"bytes":22}' to_output --json minimal -
+same 'export: to -, json, frames alone' stream wanted
+try 'export: to -, refused' 1 '' 'refused 12 at 120' to_output bad-key -
+right 'export: to -, refused, and it is empty' [ ! -s stream ]
+try 'export: to a terminal' 2 '' 'standard output: frames are no text for a terminal; give OUT' on_terminal export minimal
+try 'export: to -, a terminal' 2 '' 'standard output: frames are no text for a terminal; give OUT' on_terminal export minimal -
+right 'export: no file is called so' [ ! -e ./- ]
+full_frames() { hive export "$@" >/dev/full; }
+try 'export: no room' 2 '' 'standard output: it cannot be written' full_frames sample
+try 'export: to -, no room' 2 '' 'standard output: it cannot be written' full_frames sample -
+right 'export: to -, no room, and nothing more is said' [ "$(wc -l <stderr)" -eq 1 ]
 try 'export: a word too many' 2 '' 'export wants FILE [OUT], and "x" is a word too many; see: hive --help' hive export minimal a x
 try 'export: no file' 2 '' 'hive: nothing: No such file' hive export nothing out.frames

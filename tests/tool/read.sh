@@ -75,6 +75,16 @@ try 'value: to a file' 0 '' '' hive value sample "$print" Large large
 right 'value: all of it' [ "$(wc -c <large)" -eq 40000 ]
 hive value sample "$print" Large - >raw
 same 'value: raw to standard output' raw large
+raw_value() { hive value "$@" - >raw; }
+try 'value: raw, refused' 1 '' 'refused 18 at 0' raw_value sample "$print" nobody
+right 'value: raw, refused, and standard output is empty' [ ! -s raw ]
+try 'value: raw, json' 1 '' '"answer":"refused","number":18' raw_value --json sample "$print" nobody
+try 'value: raw, by number' 0 '' '' raw_value --nth 1 sample "$print" Large
+same 'value: raw, by number, the same' raw large
+try 'value: raw, not to a terminal' 2 '' 'standard output: raw bytes are no text for a terminal; give OUT' on_terminal value texts '' order -
+full_value() { hive value "$@" - >/dev/full; }
+try 'value: raw, no room' 2 '' 'standard output: it cannot be written' full_value sample "$print" Large
+right 'value: no file is called -' [ ! -e ./- ]
 right 'value: nothing is left beside it' [ "$(echo large*)" = large ]
 try 'value: never over a file' 2 '' 'is not overwritten' hive value sample "$print" Large sample
 ln -s nowhere dangling

@@ -45,6 +45,9 @@ mkdir folder
 try 'repair: a directory' 2 '' 'is a directory' hive repair folder log
 try 'repair: no log' 2 '' 'nothing: No such file' hive repair file nothing
 same 'repair: no log, nothing changed' file spoilt
+try 'repair: a backup to standard output' 2 '' '--backup wants the name of a new file, and - is none' hive repair --backup - file log
+right 'repair: no file is called -' [ ! -e ./- ]
+same 'repair: and nothing was changed' file spoilt
 
 # Pages, fsync, closing sector, fsync; and with a backup that first, synced with its folder.
 stores() { sed -n 's/^fsync.*/fsync/p; s/^\(pwrite [0-9]* [0-9]*\).*/\1/p' trace; }
