@@ -20,10 +20,20 @@ static int check_one(const Order *o, const char *file)
     return status;
 }
 
+static int inputs(const Order *o)
+{
+    int n = 0;
+    for (int i = 0; i < o->count; i++)
+        n += is_standard(o->words[i]);
+    return n;
+}
+
 /* Every file, and the worst status. */
 int check_verb(const Order *o)
 {
     int worst = GOOD;
+    if (inputs(o) > 1)
+        return misused("standard input is read once, and - stands for it more than once");
     if (o->log_count > 0 && o->count > 1)
         return misused("check --log wants one FILE, the log's own");
     for (int i = 0; i < o->count; i++) {
@@ -67,6 +77,15 @@ int key_verb(const Order *o)
     return show_key(o, &h, a.value);
 }
 
+/* Wrong usage is told as the words ask for it, before they are understood. */
+static bool wants_json(int count, char **words)
+{
+    for (int i = 0; i < count && strcmp(words[i], "--") != 0; i++)
+        if (strcmp(words[i], "--json") == 0)
+            return true;
+    return false;
+}
+
 static bool wants_help(const char *word)
 {
     return strcmp(word, "--help") == 0 || strcmp(word, "-h") == 0 || strcmp(word, "help") == 0;
@@ -76,6 +95,7 @@ static int answer(int count, char **words)
 {
     Order o;
     Verb *verb;
+    say_as(wants_json(count, words), false);
     if (count == 0)
         return misused("a verb is wanted: check, key, ls, keys, value, export, build, reg, deleted, repair or explain");
     if (wants_help(words[0])) {

@@ -64,7 +64,10 @@ void say(const char *file, const char *answer)
     if (shape.json) {
         shape.replaced = false;
         fputs("{\"file\":", stdout);
-        put_json_text(stdout, file);
+        if (file != NULL)
+            put_json_text(stdout, file);
+        else
+            fputs("null", stdout);
         printf(",\"answer\":\"%s\"", answer);
         return;
     }
@@ -198,5 +201,10 @@ int misused(const char *format, ...)
     va_end(list);
     strcat(words, "; see: hive --help");
     note(NULL, words);
+    if (shape.json) {
+        say(NULL, "usage");
+        say_word("words", words);
+        say_end();
+    }
     return TROUBLE;
 }

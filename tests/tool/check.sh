@@ -36,6 +36,9 @@ from_pipe() { cat sample | hive "$@"; }
 try 'check: standard input' 0 "$(hive check sample)" '' from_input check -
 try 'check: a pipe' 0 "$(hive check sample)" '' from_pipe check -
 try 'check: a pipe by its name' 0 "$(hive check sample)" '' from_pipe check /dev/stdin
+try 'check: standard input, twice' 2 '' 'standard input is read once, and - stands for it more than once' from_input check - -
+try 'check: standard input, twice among others' 2 '' 'standard input is read once' from_input check minimal - sample -
+try 'check: standard input, among others' 0 "$(hive check sample minimal | sed 's/^sample/-/')" '' from_input check - minimal
 try 'key: a pipe' 0 "$(hive key sample "$print")" '' from_pipe key - "$print"
 try 'repair: no pipe' 2 '' 'not standard input' from_pipe repair - log
 try 'repair: no pipe for a log' 2 '' 'not standard input' from_pipe repair spoilt -
@@ -44,6 +47,16 @@ try 'json: accepted' 0 '{"file":"minimal","answer":"accepted","bins":1,"keys":1,
 try 'json: many' 2 "$(printf '%s\n' '{"file":"nothing","answer":"trouble","words":"No such file or directory"}' \
     '{"file":"no-root","answer":"refused","number":12,"place":32,"key":null,"words":"a record in a cell is wrong or does not fit its cell, at offset 32 (0x20), which is byte 4128 (0x1020) of the file"}' \
     '{"file":"cut","answer":"refused","number":6,"place":null,"key":null,"words":"the file ends before its bins do"}')" 'nothing: No such' hive check --json nothing no-root cut
+wrong() { printf '{"file":null,"answer":"usage","words":"%s; see: hive --help"}' "$1"; }
+try 'json: a word too few' 2 "$(wrong 'key wants FILE PATH, and a word is missing')" 'hive: key wants FILE PATH, and a word is missing' hive key --json sample
+try 'json: an option that is none' 2 "$(wrong 'ls: --fast is no option (-- ends the options)')" '--fast is no option' hive ls --fast sample --json
+try 'json: no verb' 2 "$(wrong '\"chekc\" is none of check, key, ls, keys, value, export, build, reg, deleted, repair and explain')" 'none of check' hive chekc --json sample
+try 'json: no number' 2 "$(wrong '--nth wants a number from 1 on, not \"0\"')" '--nth wants' hive value --json --nth 0 sample '' x
+try 'json: a path that is none' 2 "$(wrong "this is not UTF-8: $replaced" | sed 's/}$/,"replaced":true}/')" 'this is not UTF-8' hive key --json sample "$(printf '\377')"
+try 'json: standard input twice' 2 "$(wrong 'FILE and LOG cannot both be standard input')" 'cannot both' hive check --json --log - -
+try 'json: not behind --' 2 '' 'key wants FILE PATH, and "x" is a word too many' hive key -- sample --json x
+try "json: not an option's word" 0 "$(hive check sample)" '' eval 'cp spoilt file && hive repair --backup --json file log | tail -n 1'
+rm -f ./--json
 try 'json: a name that is no UTF-8' 0 '{"file":"odd\u001b[2J'"$replaced"'","answer":"accepted","bins":1,"keys":1,"values":0,"used":112,"free":3952,"replaced":true}' '' hive check --json odd*
 rm odd*
 

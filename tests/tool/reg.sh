@@ -155,7 +155,7 @@ try 'reg: standard input' 0 "$(hive reg --utf8 sample)" '' reg_input
 reg_full() { hive reg sample >/dev/full; }
 try 'reg: standard output is full' 2 '' 'standard output: it cannot be written' reg_full
 try 'reg: a word too many' 2 '' 'reg wants FILE [PATH], and "x" is a word too many; see: hive --help' hive reg sample a x
-try 'reg: no json' 2 '' 'reg takes no --json' hive reg --json sample
+try 'reg: no json' 2 "$(wrong 'reg takes no --json')" 'reg takes no --json' hive reg --json sample
 try 'reg: no file' 2 '' 'hive: nothing: No such file' hive reg nothing
 for prefix in '' '\' 'a\' '\\\a' 'a\\\b' '-HKEY_USERS' 'a\\x0ab'; do
     try "reg: no prefix: $prefix" 2 '' '--prefix wants the path of a key' hive reg --prefix "$prefix" minimal

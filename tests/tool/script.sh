@@ -27,6 +27,7 @@ try 'script: no frames behind a descriptor' 2 '' 'hive: nothing: No such file' u
 try 'script: no verb' 2 '' '"chekc" is none of check' unproved chekc minimal
 try 'script: --version' 0 "hive $(cat "$top/VERSION")" '' unproved --version
 right 'script: nothing was proved for that' [ ! -e prover/called ]
+try 'script: no verb, json: the tool tells' 2 '' 'error: something else' unproved chekc --json minimal
 try 'script: --help without the kit' 0 "$(cat "$top/host/help.txt")" '' bare --help
 try 'script: without the kit' 2 '' 'a release of hive needs none of it' bare check minimal
 right 'script: without the kit, one line' [ "$(wc -l <stderr)" -eq 1 ]
