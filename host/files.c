@@ -121,16 +121,25 @@ bool is_standard(const char *path)
     return strcmp(path, "-") == 0;
 }
 
+static int read_close(int fd, const char *path, Bytes *out)
+{
+    int status = read_open(fd, path, out);
+    close(fd);
+    return status;
+}
+
 int read_file(const char *path, Bytes *out)
 {
     if (is_standard(path))
         return read_open(0, "standard input", out);
     int fd = open(path, O_RDONLY | O_CLOEXEC);
-    if (fd < 0)
-        return trouble(path, "%s", reason(errno));
-    int status = read_open(fd, path, out);
-    close(fd);
-    return status;
+    return fd < 0 ? trouble(path, "%s", reason(errno)) : read_close(fd, path, out);
+}
+
+int read_kept(const char *path, Bytes *out)
+{
+    int fd = open_kept(path, O_RDONLY);
+    return fd < 0 ? TROUBLE : read_close(fd, path, out);
 }
 
 static int from_input(const Order *o, const char *file)
@@ -151,7 +160,7 @@ int read_hive(const Order *o, const char *file, Hive *out)
         return misused("--grow goes with --log");
     int status = read_file(file, &out->bytes);
     if (status == GOOD && o->log_count > 0)
-        status = take_logs(out, o->logs, o->log_count, o->grow);
+        status = take_logs(out, o->logs, o->log_count, o->grow, read_file);
     return status == GOOD && o->log_count > 0 ? recover(out) : status;
 }
 

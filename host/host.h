@@ -134,16 +134,18 @@ int raw_output(const char *what, FILE **to);
 int put_output(FILE *to, Bytes bytes);
 
 /* files.c. Those that answer an int answer GOOD or TROUBLE, after a message. */
+typedef int Reader(const char *path, Bytes *out);
+Reader read_file, read_kept;
 bool is_standard(const char *path);
-int read_file(const char *path, Bytes *out);
 int read_open(int fd, const char *path, Bytes *out);
 int read_hive(const Order *o, const char *file, Hive *out);
 void drop_hive(Hive *h);
 
 /* logs.c. GOOD, TROUBLE or REFUSED, after a message: one log, or two that are one or of which one fits. */
-int take_logs(Hive *h, const char *const *names, int count, bool grow);
+int take_logs(Hive *h, const char *const *names, int count, bool grow, Reader *reader);
 
 /* store.c. The same. */
+int open_kept(const char *path, int flags);
 int open_locked(const char *path);
 int store(int fd, const char *path, const uint8_t *from, size_t length, uint64_t at);
 int settle(int fd, const char *path);

@@ -18,10 +18,10 @@ static HiveRecovery start(Bytes hive, Bytes log)
     return hive_recover_start(hive.at, hive.length, log.at, log.length);
 }
 
-static int read_log(const char *name, Log *out)
+static int read_log(const char *name, Reader *reader, Log *out)
 {
     out->name = name;
-    int status = read_file(name, &out->bytes);
+    int status = reader(name, &out->bytes);
     if (status == GOOD)
         out->facts = hive_recover_log(out->bytes.at, out->bytes.length);
     return status;
@@ -130,12 +130,35 @@ static int choose(Hive *h, const Log *tries, int n, bool grow)
     return status;
 }
 
-int take_logs(Hive *h, const char *const *names, int count, bool grow)
+/* The file type of what starts as hives and logs do, else -1. */
+static long type_of(Bytes b)
+{
+    if (b.length < 32 || memcmp(b.at, "regf", 4) != 0)
+        return -1;
+    return b.at[28] | b.at[29] << 8 | b.at[30] << 16 | (long)b.at[31] << 24;
+}
+
+/* A log that is the hive itself, and the two in each other's place: told before the library is asked, which would find a log that is not sound. */
+static int tell_apart(const Hive *h, const Log *log)
+{
+    Bytes b = h->bytes;
+    long type = type_of(b);
+    if (b.length > 0 && b.length == log->bytes.length && memcmp(b.at, log->bytes.at, b.length) == 0)
+        return trouble(log->name, "as LOG this is FILE once more, or a copy of it: give the log that Windows keeps beside the hive, as FILE.LOG, FILE.LOG1 or FILE.LOG2");
+    if ((type == 1 || type == 2 || type == 6) && type_of(log->bytes) == 0)
+        return trouble(h->file, "this is a log, and what is given as LOG is a hive: exchange the two");
+    return GOOD;
+}
+
+int take_logs(Hive *h, const char *const *names, int count, bool grow, Reader *reader)
 {
     Log logs[LOGS] = {{0}}, tries[CANDIDATES] = {{0}};
     int n = 0, status = GOOD;
-    for (int i = 0; i < count && status == GOOD; i++)
-        status = read_log(names[i], &logs[i]);
+    for (int i = 0; i < count && status == GOOD; i++) {
+        status = read_log(names[i], reader, &logs[i]);
+        if (status == GOOD)
+            status = tell_apart(h, &logs[i]);
+    }
     if (status == GOOD)
         status = candidates(logs, count, tries, &n);
     if (status == GOOD)

@@ -1,9 +1,7 @@
 /* Repair in place. A power failure at any moment leaves a file that the same command repairs. */
-#include <errno.h>
 #include <fcntl.h>
 #include <stdlib.h>
 #include <string.h>
-#include <unistd.h>
 
 #include "host.h"
 
@@ -158,13 +156,11 @@ int repair_verb(const Order *o)
             return misused("repair wants a FILE and a LOG that stay, not standard input");
     if (o->backup != NULL && is_standard(o->backup))
         return misused("--backup wants the name of a new file, and - is none");
-    int fd = o->dry ? open(h.file, O_RDONLY | O_CLOEXEC) : open_locked(h.file);
+    int fd = o->dry ? open_kept(h.file, O_RDONLY) : open_locked(h.file);
     if (fd < 0)
-        return o->dry ? trouble(h.file, "%s", strerror(errno)) : TROUBLE;
-    if (lseek(fd, 0, SEEK_END) < 0)
-        return trouble(h.file, "it is a pipe or a terminal; repair wants a file");
+        return TROUBLE;
     int status = read_open(fd, h.file, &h.bytes);
     if (status == GOOD)
-        status = take_logs(&h, (const char *const *)o->words + 1, o->count - 1, o->grow);
+        status = take_logs(&h, (const char *const *)o->words + 1, o->count - 1, o->grow, read_kept);
     return status == GOOD ? run(o->dry ? -1 : fd, o, &h) : status;
 }

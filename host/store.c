@@ -9,14 +9,31 @@
 
 #include "host.h"
 
-/* A descriptor, or -1 after a message. The lock ends with the process. */
-int open_locked(const char *path)
+/* A file that stays: its descriptor, or -1 after a message. Nobody is waited for at the other end of a pipe; EWOULDBLOCK is of a file on which another program has
+ * a lease, and that is waited for. */
+int open_kept(const char *path, int flags)
 {
-    int fd = open(path, O_RDWR | O_CLOEXEC);
+    int fd = open(path, flags | O_NONBLOCK | O_CLOEXEC);
+    if (fd < 0 && errno == EWOULDBLOCK)
+        fd = open(path, flags | O_CLOEXEC);
     if (fd < 0) {
         trouble(path, "%s", errno == EISDIR ? "is a directory" : strerror(errno));
         return -1;
     }
+    if (lseek(fd, 0, SEEK_END) < 0) {
+        trouble(path, "it is a pipe or a terminal; repair wants files that stay, for the same command may have to be given again: copy it to a file first");
+        close(fd);
+        return -1;
+    }
+    return fd;
+}
+
+/* The lock ends with the process. */
+int open_locked(const char *path)
+{
+    int fd = open_kept(path, O_RDWR);
+    if (fd < 0)
+        return -1;
     if (flock(fd, LOCK_EX | LOCK_NB) != 0) {
         trouble(path, "%s", errno == EWOULDBLOCK ? "another program has locked it; nothing was changed" : strerror(errno));
         close(fd);

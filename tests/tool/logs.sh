@@ -17,4 +17,11 @@ try 'log: none there' 2 '' 'hive: none: No such file' hive check --log none file
 from_log() { hive check --log - file <log; }
 try 'log: from standard input' 0 "$(hive check sample)" '' from_log
 try 'log: not both from there' 2 '' 'cannot both be standard input' hive check --log - -
+try 'log: the hive itself' 2 '' 'file: as LOG this is FILE once more, or a copy of it: give the log' hive check --log file file
+try 'log: exchanged' 2 '' 'log: this is a log, and what is given as LOG is a hive: exchange the two' hive check --log file log
+try 'log: exchanged, of Windows 8.1' 2 '' 'new-log: this is a log, and what is given as LOG is a hive: exchange the two' hive ls new-log --log file
+mkfifo named
+from_named() { cat log >named & hive check --log named file; }
+try 'log: a pipe by its name' 0 "$(hive check sample)" '' from_named
+rm named
 same 'log: the hive is as it was' file spoilt

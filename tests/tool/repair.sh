@@ -45,6 +45,32 @@ mkdir folder
 try 'repair: a directory' 2 '' 'is a directory' hive repair folder log
 try 'repair: no log' 2 '' 'nothing: No such file' hive repair file nothing
 same 'repair: no log, nothing changed' file spoilt
+try 'repair: the log is the hive' 2 '' 'file: as LOG this is FILE once more, or a copy of it: give the log that Windows keeps beside the hive' hive repair file file
+try 'repair: the log is a copy of the hive' 2 '' 'spoilt: as LOG this is FILE once more' hive repair file spoilt
+try 'repair: the log is the hive, by a link' 2 '' 'hard: as LOG this is FILE once more' eval 'ln file hard && hive repair file hard'
+try 'repair: the second log is the hive' 2 '' 'file: as LOG this is FILE once more' hive repair file new-log1 file
+try 'repair: the log is the hive, which is clean' 2 '' 'sample: as LOG this is FILE once more' hive repair --dry-run sample sample
+try 'repair: the log is the hive, json' 2 '{"file":"file","answer":"trouble","words":"as LOG this is FILE once more, or a copy of it: give the log that Windows keeps beside the hive, as FILE.LOG, FILE.LOG1 or FILE.LOG2"}' \
+    'once more' hive repair --json file file
+rm -f hard
+for kind in log new-log; do
+    cp $kind swapped
+    try "repair: exchanged, $kind" 2 '' 'swapped: this is a log, and what is given as LOG is a hive: exchange the two' hive repair swapped file
+    same "repair: exchanged, $kind is as it was" swapped $kind
+done
+try 'repair: exchanged, with two logs' 2 '' 'new-log1: this is a log, and what is given as LOG is a hive' hive repair new-log1 new-log2 file
+try 'repair: two empty files' 1 'refused 1 at 0' 'empty: the hive has fewer than 4096 bytes' hive repair empty empty
+same 'repair: exchanged, the hive is as it was' file spoilt
+
+# A pipe is not waited for: neither at its other end, nor for what comes out of it.
+mkfifo fifo
+soon() { timeout 10 ${emulator:-} $loader "$out/hive" "$@"; }
+try 'repair: a pipe by its name' 2 '' 'fifo: it is a pipe or a terminal; repair wants files that stay' soon repair fifo log
+try 'repair: a pipe by its name, dry run' 2 '' 'fifo: it is a pipe or a terminal; repair wants files that stay' soon repair --dry-run fifo log
+try 'repair: a pipe for a log' 2 '' 'fifo: it is a pipe or a terminal; repair wants files that stay' soon repair file fifo
+try 'repair: a pipe for a log, dry run' 2 '' 'fifo: it is a pipe or a terminal; repair wants files that stay' soon repair --dry-run file fifo
+try 'repair: a pipe for the second log' 2 '' 'fifo: it is a pipe or a terminal; repair wants files that stay' soon repair file new-log1 fifo
+try 'repair: a pipe for a backup' 2 '' 'fifo: a file of this name is there already' soon repair --backup fifo file log
 try 'repair: a backup to standard output' 2 '' '--backup wants the name of a new file, and - is none' hive repair --backup - file log
 right 'repair: no file is called -' [ ! -e ./- ]
 same 'repair: and nothing was changed' file spoilt
