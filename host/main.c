@@ -1,4 +1,6 @@
 /* hive: checks, reads, repairs and builds a registry hive. */
+#define _GNU_SOURCE /* O_PATH */
+#include <fcntl.h>
 #include <string.h>
 
 #include "host.h"
@@ -113,8 +115,22 @@ static int answer(int count, char **words)
     return verb(&o);
 }
 
+/* A file that is opened gets the lowest descriptor that is free: were that one of the standard three, the tool would write its own words into the file. So each of
+ * them that is closed is taken first, by a mere place in the file system: to read or to write it fails, as if it were closed still. */
+static bool take_standard(void)
+{
+    for (int fd = 0; fd < 3; fd++)
+        if (fcntl(fd, F_GETFD) < 0 && open("/", O_PATH | O_DIRECTORY) != fd)
+            return false;
+    return true;
+}
+
 int main(int count, char **words)
 {
+    if (!take_standard()) {
+        note(NULL, "standard input, output or error is closed, and nothing could be put in its place: direct it to a file. Nothing was opened");
+        return TROUBLE;
+    }
     int status = answer(count - 1, words + 1);
     if (fflush(stdout) != 0 || ferror(stdout)) {
         note(NULL, "cannot write the answer");

@@ -12,5 +12,6 @@
 #define O_CLOEXEC 02000000
 #define O_PATH 010000000
 #define AT_FDCWD (-100)
-int open(const char *, int, ...);
+#define F_GETFD 1
+int open(const char *, int, ...), fcntl(int, int, ...);
 #endif

@@ -2,13 +2,14 @@
  * HIVE_CUT=k: the process ends after k of the pwrite, ftruncate and fsync calls, as if it had been killed.
  * HIVE_LOSE=k: the k-th pwrite is lost, and the process ends at the next fsync: as if the power had failed with that page not on the disk yet.
  * HIVE_FAIL=k: the k-th of the pwrite, ftruncate and fsync calls fails. HIVE_INTERRUPT: each second fsync, from the first on, is interrupted.
- * HIVE_SLOW: each fsync takes two seconds. HIVE_TERMINAL: the outputs are taken for a terminal. */
+ * HIVE_SLOW: each fsync takes two seconds. HIVE_TERMINAL: the outputs are taken for a terminal. HIVE_NOWHERE: the root folder cannot be opened. */
 #include <errno.h>
 #include <fcntl.h>
 #include <stdarg.h>
 #include <stdbool.h>
 #include <stdio.h>
 #include <stdlib.h>
+#include <string.h>
 #include <unistd.h>
 
 int open64(const char *, int, ...);
@@ -54,7 +55,7 @@ int open(const char *path, int flags, ...)
     int mode = __builtin_va_arg(list, int);
     va_end(list);
     trace("open", flags & 3, flags, path);
-    return open64(path, flags, mode);
+    return getenv("HIVE_NOWHERE") != NULL && strcmp(path, "/") == 0 ? -1 : open64(path, flags, mode);
 }
 
 ssize_t pwrite(int fd, const void *from, size_t length, off_t at)

@@ -26,6 +26,16 @@ try 'script: no file behind a prefix' 2 '' 'hive: nothing: No such file' unprove
 try 'script: no frames behind a descriptor' 2 '' 'hive: nothing: No such file' unproved build --descriptor log nothing out
 try 'script: no verb' 2 '' '"chekc" is none of check' unproved chekc minimal
 try 'script: --version' 0 "hive $(cat "$top/VERSION")" '' unproved --version
+shut_script() { (exec >stdout 2>stderr; case $1 in *1*) exec >&- ;; esac; case $1 in *2*) exec 2>&- ;; esac; shift; PATH=$PWD/prover:$PATH exec sh tree/hive "$@"); }
+for which in 1 2 12; do
+    case $which in *1*) want=2 ;; *) want=0 ;; esac
+    for words in --help --version 'check nothing' chekc ''; do
+        case $words in -*) ;; *) want=2 ;; esac
+        status=0
+        shut_script $which $words || status=$?
+        right "script: ${words:-nothing}, $which closed" [ "$status" = "$want" ]
+    done
+done
 right 'script: nothing was proved for that' [ ! -e prover/called ]
 try 'script: no verb, json: the tool tells' 2 '' 'error: something else' unproved chekc --json minimal
 try 'script: --help without the kit' 0 "$(cat "$top/host/help.txt")" '' bare --help
