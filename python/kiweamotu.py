@@ -963,12 +963,20 @@ def _write_out(fd: int, start: _Start) -> None:
     os.fsync(fd)
 
 
+def _clean(fd: int, start: _Start, dry_run: bool, anyway: bool) -> Repair:
+    """Nothing is to be done; but the run before may have been cut before its last sync."""
+    if not dry_run:
+        _store(fd, start.hive[:SECTOR], 0)
+        os.fsync(fd)
+    report, refused = _checked(start.hive)
+    if refused is not None and not anyway:
+        raise refused
+    return Repair(True, 0, False, report, refused, None, ())
+
+
 def _run(fd: int, start: _Start, backup: Optional[str], dry_run: bool, anyway: bool) -> Repair:
     if start.started.state == CLEAN:
-        if not dry_run:  # the run before may have been cut before its last sync
-            _store(fd, start.hive[:SECTOR], 0)
-            os.fsync(fd)
-        return Repair(True, 0, False, Hive(start.hive).check(), None, None, ())
+        return _clean(fd, start, dry_run, anyway)
     report, refused = _rehearse(start)
     if refused is not None and (dry_run or not anyway):
         raise Unsound(*refused.args)

@@ -625,6 +625,9 @@ def unsound():
     done = repair("python-file", "bad-log", anyway=True)
     expect((done.written, done.report, done.refused.number), (True, None, 9))
     expect(refusal(repair, "python-file", "bad-log"), (9, 0, None))
+    for dry in (False, True):
+        again = repair("python-file", "bad-log", anyway=True, dry_run=dry)
+        expect((again.clean, again.pages, again.written, again.report, again.refused.number), (True, 0, False, None, 9))
 
 
 @test
