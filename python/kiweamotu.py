@@ -8,20 +8,24 @@
 >>> hive.value(r"ControlSet001\\Services\\EventLog\\Application\\Print", "TypesSupported").decoded
 7
 
-What the library refuses raises Refused, with its number, place, key and words; what the system refuses raises OSError.
+What the library refuses raises Refused, with its number, place, key and words; what the system refuses, and what is longer than this file takes
+(errno.EFBIG), raises OSError.
 
 A name is a str: each of its characters is one of the hive's, and half of a pair stands alone as itself. So every name of every
 hive can be given back. A path is names joined by backslashes, and "" is the root. No key's name holds a backslash.
 
-The hive lies in memory: a file is read whole, and bytes, a bytearray, a memoryview or an mmap are lent as they are, without a copy.
-Nobody may change that memory while a call runs. This file needs CPython 3.8 or later on x86-64 Linux, its standard library alone,
-and libkiweamotu.so.N, which is looked for in $KIWEAMOTU_LIBRARY (the file itself), beside this file, in ../lib, and by the system.
+The hive lies in memory: a file of up to 4 GiB is read whole, but for its holes, which take none, and bytes, a bytearray, a memoryview or an mmap are lent as
+they are, without a copy. Nobody may change that memory while a call runs.
+
+This file needs CPython 3.8 or later on x86-64 Linux, its standard library alone, and libkiweamotu.so.N, which is looked for in $KIWEAMOTU_LIBRARY (the file
+itself), beside this file, in ../lib, and by the system.
 """
 from __future__ import annotations
 
 import contextlib
 import ctypes
 import datetime
+import errno
 import fcntl
 import mmap
 import os
@@ -43,6 +47,8 @@ WORDS_OF_A_WALK = 3 * (LEVELS + 1)  # three for each key that is open at once
 OLD_KEY, OLD_VALUE = 1, 2
 ROWS = 4096  # so many deleted records a call, each of four words
 ROOM = 1 << 21  # for the frames of one run; no frame is longer than 1,081,356 bytes
+PIECE = 1 << 20  # so many bytes are read or stored at once, so that a signal is answered between two
+LONGEST = 1 << 32  # a longer file is not read. The longest hive has 2^31 bytes and may be padded, and the log of all its pages is longer still
 
 # What a refusal's number means. PLACED are those whose place is an offset.
 WORDS = {
@@ -106,6 +112,7 @@ SZ, EXPAND_SZ, DWORD, DWORD_BIG_ENDIAN, LINK, MULTI_SZ, QWORD = 1, 2, 4, 5, 6, 7
 Source = Union[str, "os.PathLike[str]", bytes, bytearray, memoryview, Any]
 Sources = Union[Source, Sequence[Source]]
 Decoded = Union[str, int, List[str], bytes]
+Owned = Union[bytearray, mmap.mmap]
 Done = TypeVar("Done")
 
 
@@ -258,6 +265,11 @@ class _Lent:
             give_back(byref(self._view))
 
 
+def _zeros(length: int) -> Owned:
+    """Many of them take no memory until they are written; a few are there sooner otherwise."""
+    return bytearray(length) if length < PIECE else mmap.mmap(-1, length, flags=mmap.MAP_PRIVATE | mmap.MAP_ANONYMOUS)
+
+
 def _units(text: str) -> Tuple[Any, int]:
     """A name or a path as UTF-16 units; half of a pair stands for itself."""
     data = text.encode("utf-16-le", "surrogatepass")
@@ -268,23 +280,69 @@ def _text(data: bytes) -> str:
     return data.decode("utf-16-le", "surrogatepass")
 
 
-def _read(fd: int) -> bytearray:
-    """All that an open file or pipe holds."""
-    data = bytearray()
-    with os.fdopen(os.dup(fd), "rb", buffering=0) as file:
-        if stat.S_ISREG(os.fstat(fd).st_mode):
-            file.seek(0)
-            data = bytearray(os.fstat(fd).st_size)
-            done = 0
-            while done < len(data):
-                with memoryview(data) as room:
-                    n = file.readinto(room[done:])
-                if not n:
-                    raise OSError("the file became shorter while it was read")
-                done += n
-        if not data:
-            data = bytearray(file.readall())
+# ---- files
+
+def _data_from(fd: int, at: int, length: int) -> int:
+    """Where the next bytes of a file start that are no hole; here, where that is not known."""
+    try:
+        return min(os.lseek(fd, at, os.SEEK_DATA), length)
+    except OSError as error:
+        return length if error.errno == errno.ENXIO else at  # ENXIO: a hole to the end
+
+
+def _data_to(fd: int, at: int, length: int) -> int:
+    try:
+        to = os.lseek(fd, at, os.SEEK_HOLE)
+    except OSError:
+        return length
+    return to if at < to < length else length
+
+
+def _read_part(fd: int, room: memoryview, at: int, end: int) -> None:
+    while at < end:
+        n = os.preadv(fd, [room[at:min(end, at + PIECE)]], at)
+        if n == 0:
+            raise OSError("the file became shorter while it was read")
+        at += n
+
+
+def _read_known(fd: int, length: int) -> Owned:
+    """So much and no more. A hole is not read. The file is not mapped: what is lent to the library must be bytes that nobody changes."""
+    data, at = _zeros(length), 0
+    with memoryview(data) as room:
+        while at < length:
+            start = _data_from(fd, at, length)
+            at = _data_to(fd, start, length)
+            _read_part(fd, room, start, at)
+    if os.lseek(fd, 0, os.SEEK_END) < length:
+        raise OSError("the file became shorter while it was read")
     return data
+
+
+def _too_long(name: str) -> OSError:
+    return OSError(errno.EFBIG, "it has more than %d bytes, and no hive, log or stream is so long" % LONGEST, name)
+
+
+def _read_stream(fd: int, name: str) -> bytearray:
+    data = bytearray()
+    while len(data) <= LONGEST:
+        more = os.read(fd, PIECE)
+        if not more:
+            return data
+        data += more
+    raise _too_long(name)
+
+
+def _read(fd: int, name: str) -> Owned:
+    """All that an open file or pipe holds. What has no length, or says 0, is read to its end: pipes, and files that are made when they are read."""
+    os.read(fd, 0)  # a directory may have a length, and is not read
+    try:
+        length = os.lseek(fd, 0, os.SEEK_END)
+    except OSError:
+        length = 0
+    if length > LONGEST:
+        raise _too_long(name)
+    return _read_known(fd, length) if length > 0 else _read_stream(fd, name)
 
 
 def _contents(source: Source) -> Any:
@@ -293,7 +351,7 @@ def _contents(source: Source) -> Any:
         return source
     fd = os.open(source, os.O_RDONLY | os.O_CLOEXEC)
     try:
-        return _read(fd)
+        return _read(fd, os.fsdecode(source))
     finally:
         os.close(fd)
 
@@ -792,7 +850,7 @@ def log_facts(log: Source) -> Log:
 class _Start:
     """A hive and the log that it is to be repaired with; which of the given logs that is; whether the hive was lengthened; what the library's start says."""
 
-    def __init__(self, hive: bytearray, log: Any, logs: Tuple[int, ...], grown: bool) -> None:
+    def __init__(self, hive: Owned, log: Any, logs: Tuple[int, ...], grown: bool) -> None:
         self.hive, self.log, self.logs, self.grown = hive, log, logs, grown
         self._own, self._lent = _Lent(hive, writable=True), _Lent(log)
         self.both = self._own.memory + self._lent.memory
@@ -826,12 +884,15 @@ def _tries(logs: List[Any]) -> Iterator[Tuple[Any, Tuple[int, ...]]]:
 
 def _lengthened(start: _Start) -> _Start:
     """Of a start that is refused for the hive's length: that of a copy with zeros behind it, which take no memory until they are written."""
-    longer: Any = mmap.mmap(-1, 4096 + log_facts(start.log).bins)
-    longer[:len(start.hive)] = start.hive
+    longer = _zeros(4096 + log_facts(start.log).bins)
+    for at in range(0, len(start.hive), PIECE):
+        piece = start.hive[at:at + PIECE]
+        if piece != bytes(len(piece)):
+            longer[at:at + len(piece)] = piece
     return _Start(longer, start.log, start.logs, True)
 
 
-def _choose(hive: bytearray, log: Sources, grow: bool) -> _Start:
+def _choose(hive: Owned, log: Sources, grow: bool) -> _Start:
     """The first log that the library's start accepts; with `grow` also on a hive that is lengthened with zeros. Where none is, Refused, for the first."""
     first: Optional[_Answer] = None
     for data, logs in _tries([_contents(one) for one in (log if isinstance(log, (list, tuple)) else [log])]):
@@ -848,7 +909,7 @@ def _choose(hive: bytearray, log: Sources, grow: bool) -> _Start:
     raise _refusal(first.number, first.place, first.key) if first is not None else ValueError("no log")
 
 
-def _recover(start: _Start) -> bytearray:
+def _recover(start: _Start) -> Owned:
     """All of the repair, in memory alone: the hive, lengthened where that was asked for."""
     if start.started.state == DONE:
         _allow(_library.hive_recover_all(*start.both).answer)
@@ -875,7 +936,7 @@ def _settle_folder(path: str) -> None:
 def _copy_all(fd: int, to: int) -> None:
     at = 0
     while True:
-        data = os.pread(fd, 1 << 20, at)
+        data = os.pread(fd, PIECE, at)
         if not data:
             return
         _store(to, data, at)
@@ -923,7 +984,7 @@ def _put_runs(runs: Iterator[Tuple[int, memoryview]], write: Callable[[memoryvie
     return Exported(frames, length)
 
 
-def _checked(hive: bytearray) -> Tuple[Optional[Report], Optional[Refused]]:
+def _checked(hive: Owned) -> Tuple[Optional[Report], Optional[Refused]]:
     try:
         return Hive(hive).check(), None
     except Refused as refused:
@@ -1004,6 +1065,6 @@ def repair(path: Union[str, "os.PathLike[str]"], log: Sources, *, backup: Option
             fcntl.flock(fd, fcntl.LOCK_EX | fcntl.LOCK_NB)
         if not stat.S_ISREG(os.fstat(fd).st_mode) and not stat.S_ISBLK(os.fstat(fd).st_mode):
             raise OSError("%s is a pipe or a terminal; repair wants a file" % name)
-        return _run(fd, _choose(_read(fd), log, grow), None if backup is None else os.fspath(backup), dry_run, anyway)
+        return _run(fd, _choose(_read(fd, name), log, grow), None if backup is None else os.fsdecode(backup), dry_run, anyway)
     finally:
         os.close(fd)

@@ -4,6 +4,7 @@ RELEASE is a release's folder, from which the binding is imported, and TOOL the 
 import contextlib
 import ctypes
 import doctest
+import errno
 import fcntl
 import io
 import json
@@ -69,6 +70,34 @@ def told(call, *args):
 def bytes_of(path):
     with open(path, "rb") as file:
         return file.read()
+
+
+def trouble(call, *args, **named):
+    """The words of what a call raises that is no refusal, with its kind."""
+    try:
+        call(*args, **named)
+    except (OSError, TypeError, ValueError) as error:
+        return type(error), error.strerror if isinstance(error, OSError) and error.strerror else str(error)
+    raise AssertionError("nothing raised")
+
+
+def remove(*names):
+    for name in names:
+        with contextlib.suppress(FileNotFoundError):
+            os.remove(name)
+
+
+def child(code):
+    """A Python of its own that runs the code with the binding."""
+    start = "import os, sys, threading\nsys.dont_write_bytecode = True\nsys.path.insert(0, %r)\nimport kiweamotu\nfrom kiweamotu import Hive, build, repair\n"
+    return subprocess.Popen([sys.executable, "-c", start % os.path.join(release, "python") + code], stdout=subprocess.PIPE)
+
+
+def printed(code):
+    """What such a Python prints, and its status."""
+    process = child(code)
+    out, _ = process.communicate()
+    return out.decode(), process.returncode
 
 
 def asked(*words):
@@ -361,6 +390,91 @@ def every_key():
     expect(refusal(lambda: list(Hive("bad-key").keys()))[:2], (12, 120))
     expect(refusal(lambda: list(Hive("sample").keys("nobody")))[0], 17)
     expect(refusal(lambda: list(Hive("chain").keys()))[0], 15)
+
+
+def sparse(path, hive, length):
+    """A file of that length and nearly all a hole: the hive, whose one bin and last free cell, which starts so, go on to its end."""
+    made = bytearray(hive)
+    (cell, _end), = hives.free_cells(made[4096:])
+    for place, number in ((40, length - 4096), (4096 + 8, length - 4096), (4096 + cell, length - 4096 - cell)):
+        struct.pack_into("<I", made, place, number)
+    hives.seal(made)
+    with open(path, "wb") as file:
+        file.write(made)
+        file.truncate(length)
+    return made
+
+
+PEAK = "print([line.split()[1] for line in open('/proc/self/status') if line.startswith('VmHWM')][0])"
+
+
+@test
+def holes():
+    """a hole of a file takes no memory: 2 GiB checked, read by its log, lengthened and repaired in less than 200 MiB"""
+    made = sparse("python-longest", hives.Builder(hives.Key("root")).hive, 2**31)
+    with open("python-log", "wb") as file:
+        file.write(hives.old_log(made, {0: bytes(made[4096:4608])}))
+    with open("python-log-grown", "wb") as file:
+        file.write(hives.new_log(made, [hives.entry(1, 2**31 - 4096, [(0, bytes(made[4096:4608]))])], 1))
+    for path, length in (("python-torn", 2**31), ("python-short", 2**31 - 4096)):
+        with open(path, "wb") as file:
+            file.write(hives.torn(made))
+            file.truncate(length)
+    wanted = "Report(bins=1, keys=1, values=0, used=112, free=2147479408)"
+    for call in ("Hive('python-longest').check()", "Hive('python-torn', 'python-log').check()", "Hive('python-short', 'python-log-grown', grow=True).check()",
+                 "repair('python-torn', 'python-log').report", "repair('python-short', 'python-log-grown', grow=True).report"):
+        found, status = printed("print(%s)\n" % call + PEAK)
+        expect((found.splitlines()[:1], status), ([wanted], 0))
+        expect((call, int(found.split()[-1]) < 200 * 1024), (call, True))
+    expect([os.stat(path).st_blocks * 512 < 2**20 for path in ("python-torn", "python-short")], [True, True])
+    remove("python-longest", "python-log", "python-log-grown", "python-torn", "python-short")
+
+
+@test
+def reading():
+    """a file is read as it is, with holes anywhere, and where its file system does not tell of them; a directory is none"""
+    dice, data = random.Random(1), bytearray(3 * 2**20 + 5)
+    with open("python-holes", "wb") as file:
+        file.truncate(len(data))
+        for at in [0] + [dice.randrange(len(data) // 4096) * 4096 for _ in range(20)]:
+            piece = bytes(dice.randrange(1, 256) for _ in range(dice.choice((1, 4096, 9000))))[:len(data) - at]
+            data[at:at + len(piece)] = piece
+            file.seek(at)
+            file.write(piece)
+    lseek = os.lseek
+
+    def silent(fd, at, how):
+        if how in (os.SEEK_DATA, os.SEEK_HOLE):
+            raise OSError(errno.EINVAL, "not known")
+        return lseek(fd, at, how)
+
+    for seek in (lseek, silent):
+        with mock.patch("os.lseek", seek):
+            expect(bytes(Hive("python-holes")._view) == data, True)
+    with open("python-holes", "ab") as file:
+        file.truncate(2**22)
+    expect(bytes(Hive("python-holes")._view) == data.ljust(2**22, b"\0"), True)
+    remove("python-holes")
+    expect(trouble(Hive, ".")[0], IsADirectoryError)
+    expect(len(Hive("/proc/self/status")._view) > 100, True)
+    os.mkfifo("python-pipe")
+    with subprocess.Popen(["sh", "-c", "cat sample >python-pipe"]):
+        expect(bytes(Hive("python-pipe")._view), bytes_of("sample"))
+    remove("python-pipe")
+
+
+@test
+def too_long():
+    """a file that is longer than any hive or log is not read"""
+    with open("python-long", "wb") as file:
+        file.truncate(2**32 + 1)
+    words = "it has more than %d bytes, and no hive, log or stream is so long"
+    for call in (lambda: Hive("python-long"), lambda: Hive("spoilt", "python-long"), lambda: build("python-long"), lambda: repair("python-long", "log"),
+                 lambda: kiweamotu.log_facts("python-long")):
+        expect(trouble(call), (OSError, words % 2**32))
+    remove("python-long")
+    with mock.patch.object(kiweamotu, "LONGEST", 2**21):
+        expect(trouble(Hive, "/dev/zero"), (OSError, words % 2**21))
 
 
 class Narrow(io.RawIOBase):
