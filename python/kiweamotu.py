@@ -282,6 +282,17 @@ def _text(data: bytes) -> str:
 
 # ---- files
 
+def _open(path: Union[str, "os.PathLike[str]"], flags: int) -> int:
+    """A descriptor from 3 on: what a program prints that has closed one of the first three must not land in a hive."""
+    fd = os.open(path, flags | os.O_CLOEXEC, 0o600)
+    if fd > 2:
+        return fd
+    try:
+        return fcntl.fcntl(fd, fcntl.F_DUPFD_CLOEXEC, 3)
+    finally:
+        os.close(fd)
+
+
 def _data_from(fd: int, at: int, length: int) -> int:
     """Where the next bytes of a file start that are no hole; here, where that is not known."""
     try:
@@ -349,7 +360,7 @@ def _contents(source: Source) -> Any:
     """The bytes of a file, or the memory that was given."""
     if not isinstance(source, (str, os.PathLike)):
         return source
-    fd = os.open(source, os.O_RDONLY | os.O_CLOEXEC)
+    fd = _open(source, os.O_RDONLY)
     try:
         return _read(fd, os.fsdecode(source))
     finally:
@@ -926,7 +937,7 @@ def _store(fd: int, data: Any, at: int) -> None:
 
 def _settle_folder(path: str) -> None:
     """The entry of a new file lies in its folder, which is synced too."""
-    fd = os.open(os.path.dirname(path) or ".", os.O_RDONLY | os.O_DIRECTORY | os.O_CLOEXEC)
+    fd = _open(os.path.dirname(path) or ".", os.O_RDONLY | os.O_DIRECTORY)
     try:
         os.fsync(fd)
     finally:
@@ -958,7 +969,7 @@ def _new_file(path: str, fill: Callable[[int], Done]) -> Done:
     if os.path.lexists(path):
         raise FileExistsError("%s is there already and is not overwritten" % path)
     part = "%s.part%d" % (path, os.getpid())
-    to = os.open(part, os.O_WRONLY | os.O_CREAT | os.O_EXCL | os.O_CLOEXEC, 0o600)
+    to = _open(part, os.O_WRONLY | os.O_CREAT | os.O_EXCL)
     try:
         done = fill(to)
         os.fsync(to)
@@ -1058,8 +1069,8 @@ def repair(path: Union[str, "os.PathLike[str]"], log: Sources, *, backup: Option
     >>> repair("spoilt", "log", dry_run=True).pages
     8
     """
-    name = os.fspath(path)
-    fd = os.open(name, (os.O_RDONLY if dry_run else os.O_RDWR) | os.O_CLOEXEC)
+    name = os.fsdecode(path)
+    fd = _open(name, os.O_RDONLY if dry_run else os.O_RDWR)
     try:
         if not dry_run:
             fcntl.flock(fd, fcntl.LOCK_EX | fcntl.LOCK_NB)

@@ -813,6 +813,36 @@ def grow():
         expect(bytes_of("python-file"), bytes_of("sample-8"))
 
 
+LOW = """
+for fd in (0, 1, 2):
+    os.close(fd)
+used = set()
+def noted(call):
+    def do(fd, *more):
+        used.add(fd)
+        return call(fd, *more)
+    return do
+for name in ("pwrite", "write", "read", "pread", "preadv", "fsync", "lseek"):
+    setattr(os, name, noted(getattr(os, name)))
+before = os.listdir("/proc/self/fd")
+%s
+after = os.listdir("/proc/self/fd")
+with open("python-told", "w") as to:
+    to.write(str([after == before, to.fileno(), min(used) > 2]))
+"""
+
+
+@test
+def descriptors():
+    """no file that it opens has a descriptor of the standard ones, also where they are closed, and none stays open"""
+    for call in ("repair('python-file', 'log', backup='python-kept')", "Hive('sample').export('python-kept')", "build('python-frames', 'python-kept')", "Hive('spoilt', 'log')"):
+        remove("python-kept", "python-frames")
+        shutil.copy("spoilt", "python-file")
+        Hive("sample").export("python-frames")
+        expect((call, printed(LOW % call)[1], bytes_of("python-told")), (call, 0, b"[True, 0, True]"))
+    remove("python-told", "python-kept", "python-frames")
+
+
 os.remove("python-file")
 print("%d passed, %d failed" % (passed, failed))
 sys.exit(failed != 0)
