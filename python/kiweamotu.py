@@ -28,6 +28,7 @@ import datetime
 import errno
 import fcntl
 import mmap
+import operator
 import os
 import stat
 from ctypes import c_size_t, c_uint32, c_uint64, c_void_p
@@ -270,9 +271,22 @@ def _zeros(length: int) -> Owned:
     return bytearray(length) if length < PIECE else mmap.mmap(-1, length, flags=mmap.MAP_PRIVATE | mmap.MAP_ANONYMOUS)
 
 
+def _named(text: str) -> str:
+    if not isinstance(text, str):
+        raise TypeError("a name or a path is a str, not %s" % type(text).__name__)
+    return text
+
+
+def _offset(at: int) -> int:
+    """ctypes would take the last 32 bits of any number."""
+    if not 0 <= operator.index(at) <= 0xFFFFFFFF:
+        raise ValueError("an offset is a number from 0 to 4294967295, not %d" % at)
+    return at
+
+
 def _units(text: str) -> Tuple[Any, int]:
     """A name or a path as UTF-16 units; half of a pair stands for itself."""
-    data = text.encode("utf-16-le", "surrogatepass")
+    data = _named(text).encode("utf-16-le", "surrogatepass")
     return (ctypes.c_uint16 * (len(data) // 2)).from_buffer_copy(data), len(data) // 2
 
 
@@ -547,7 +561,7 @@ class Key:
     """
 
     def __init__(self, hive: "Hive", offset: int, path: str) -> None:
-        facts = _library.hive_key_at(*hive._memory, offset)
+        facts = _library.hive_key_at(*hive._memory, _offset(offset))
         _allow(facts.answer)
         self._hive = hive
         self.offset, self.path = offset, path
@@ -585,11 +599,11 @@ class Key:
             yield self._hive._value_at(member.answer.value, self._hive._name(member))
 
     def _below(self, name: str) -> str:
-        return self.path + "\\" + name if self.path else name
+        return self.path + "\\" + _named(name) if self.path else _named(name)
 
     def key(self, path: str, *, quick: bool = False) -> "Key":
         """A key below this one, by the rest of its path. `quick`: see Hive.key."""
-        return self._hive.key(self._below(path) if path else self.path, quick=quick)
+        return self._hive.key(self._below(path) if path != "" else self.path, quick=quick)
 
     def value(self, name: str = "", *, quick: bool = False) -> Value:
         """Its first value of that name. `quick`: see Hive.key."""
@@ -650,7 +664,7 @@ class Hive:
     def _members(self, nth: Callable[..., _Member], key: int) -> Iterator[_Member]:
         n = 0
         while True:
-            member = nth(*self._memory, key, n)
+            member = nth(*self._memory, _offset(key), n)
             _allow(member.answer)
             if member.state != THERE:
                 return
@@ -658,7 +672,7 @@ class Hive:
             n += 1
 
     def _value_at(self, offset: int, name: str) -> Value:
-        found = _library.hive_value_at(*self._memory, offset)
+        found = _library.hive_value_at(*self._memory, _offset(offset))
         _allow(found.answer)
         return Value(self, name, found, lambda: _Answer(SEGMENTED, offset, NO_KEY, 0),
                      lambda out: _library.hive_copy_at(*self._memory, offset, *out))
@@ -757,11 +771,13 @@ class Hive:
         >>> Hive("minimal").export().hex(" ", 2)
         '0a00 0000 1000 0000 0000 0000 0000 5200 0000 0000 1200'
         """
+        if not (out is None or isinstance(out, (str, os.PathLike)) or hasattr(out, "write")):
+            raise TypeError("out is the name of a new file, or a file that takes bytes, not %s" % type(out).__name__)
         runs = self._export_runs()
         if out is None:
             return b"".join(bytes(data) for _, data in runs)
         if isinstance(out, (str, os.PathLike)):
-            return _new_file(os.fspath(out), lambda to: _put_runs(runs, lambda data: os.write(to, data)))
+            return _new_file(os.fsdecode(out), lambda to: _put_runs(runs, lambda data: os.write(to, data)))
         return _put_runs(runs, out.write)
 
     def _export_runs(self) -> Iterator[Tuple[int, memoryview]]:
@@ -833,6 +849,7 @@ def build(frames: Source, out: Any = None, *, descriptor: Optional[Source] = Non
     >>> Hive(build(frames)).export() == frames
     True
     """
+    path = None if out is None else os.fsdecode(out)
     stream, security = _Lent(_contents(frames)), _Lent(DESCRIPTOR if descriptor is None else _contents(descriptor))
     hive = bytearray(_buildable(_library.hive_build_size(*stream.memory, security.memory[1])))
     room = _Lent(hive, writable=True)
@@ -840,7 +857,7 @@ def build(frames: Source, out: Any = None, *, descriptor: Optional[Source] = Non
     if out is None:
         return bytes(hive)
     report = Hive(hive).check()
-    _new_file(os.fspath(out), lambda to: _store(to, hive, 0))
+    _new_file(path, lambda to: _store(to, hive, 0))
     return report
 
 
@@ -932,7 +949,10 @@ def _store(fd: int, data: Any, at: int) -> None:
     with memoryview(data) as rest:
         done = 0
         while done < len(rest):
-            done += os.pwrite(fd, rest[done:], at + done)
+            n = os.pwrite(fd, rest[done:done + PIECE], at + done)
+            if n <= 0:
+                raise OSError("cannot write at byte %d: no room" % (at + done))
+            done += n
 
 
 def _settle_folder(path: str) -> None:
@@ -982,16 +1002,22 @@ def _new_file(path: str, fill: Callable[[int], Done]) -> Done:
     return done
 
 
+def _put_all(data: memoryview, write: Callable[[memoryview], Optional[int]]) -> None:
+    """Every byte: a file without a buffer may take a part of them."""
+    while len(data) > 0:
+        n = write(data)
+        if n is None:
+            raise BlockingIOError("the file takes no bytes now")
+        if n <= 0:
+            raise OSError("the file takes no more bytes: its write answers %d" % n)
+        data = data[n:]
+
+
 def _put_runs(runs: Iterator[Tuple[int, memoryview]], write: Callable[[memoryview], Optional[int]]) -> Exported:
-    """Every byte of each run: a file without a buffer may take a part of them."""
     frames = length = 0
     for count, data in runs:
         frames, length = frames + count, length + len(data)
-        while len(data) > 0:
-            n = write(data)
-            if n is None:
-                raise BlockingIOError("the file takes no bytes now")
-            data = data[n:]
+        _put_all(data, write)
     return Exported(frames, length)
 
 

@@ -26,7 +26,7 @@ sys.dont_write_bytecode = True
 import build as plain  # noqa: E402
 import hives  # noqa: E402
 import kiweamotu  # noqa: E402
-from kiweamotu import Hive, Refused, Unbuilt, Unsound, build, repair  # noqa: E402
+from kiweamotu import Hive, Key, Refused, Unbuilt, Unsound, build, repair  # noqa: E402
 
 PRINT = r"ControlSet001\Services\EventLog\Application\Print"
 passed = failed = 0
@@ -392,6 +392,27 @@ def every_key():
     expect(refusal(lambda: list(Hive("chain").keys()))[0], 15)
 
 
+@test
+def words_that_are_none():
+    """a name that is no str and an offset that is none are told as such"""
+    hive = Hive("sample")
+    words = "a name or a path is a str, not %s"
+    for name in (None, b"", b"a", 0, 7, ["a"]):
+        for call in (hive.key, hive.value, hive.root.key, hive.key("a").key, hive.root.value, lambda n: hive.value("a", n), lambda n: list(hive.keys(n)),
+                     lambda n: hive.key(n, quick=True)):
+            expect(trouble(call, name), (TypeError, words % type(name).__name__))
+    at = hive.key("a").offset
+    for offset in (-1, at - 2**32, at + 2**32, 2**32, 2**64 + at):
+        expect(trouble(Key, hive, offset, ""), (ValueError, "an offset is a number from 0 to 4294967295, not %d" % offset))
+    for offset in ("32", None, 32.0):
+        expect(trouble(Key, hive, offset, "")[0], TypeError)
+    expect((Key(hive, at, "").name, refusal(Key, hive, 2**32 - 1, "")[0]), ("a", 11))
+    for out in (5, b"python-frames", ["python-frames"]):
+        expect(trouble(hive.export, out)[0], TypeError)
+    for call in (lambda: build(hive.export(), 5), lambda: build(5), lambda: Hive(5), lambda: repair(5, "log"), lambda: Hive("sample", log=5)):
+        expect(trouble(call)[0], TypeError)
+
+
 def sparse(path, hive, length):
     """A file of that length and nearly all a hole: the hive, whose one bin and last free cell, which starts so, go on to its end."""
     made = bytearray(hive)
@@ -546,6 +567,37 @@ def not_exported():
         raise AssertionError("not refused")
     expect(bytes_of("sample"), before)
     expect([name for name in os.listdir(".") if name.startswith(("python-frames", "sample.part"))], [])
+
+
+class Full:
+    """A file that takes no byte, which the third question would not change."""
+
+    def __init__(self, answer):
+        self.answer, self.asked = answer, 0
+
+    def write(self, *_):
+        self.asked += 1
+        if self.asked > 2:
+            raise AssertionError("it was asked again and again")
+        return self.answer
+
+
+@test
+def no_room():
+    """a write that takes nothing is an error with words, and leaves no file"""
+    hive = Hive("sample")
+    for answer in (0, -1):
+        expect(trouble(hive.export, Full(answer)), (OSError, "the file takes no more bytes: its write answers %d" % answer))
+    with mock.patch("os.write", Full(0).write):
+        expect(trouble(hive.export, "python-frames"), (OSError, "the file takes no more bytes: its write answers 0"))
+    with mock.patch("os.pwrite", Full(0).write):
+        expect(trouble(build, hive.export(), "python-built"), (OSError, "cannot write at byte 0: no room"))
+    shutil.copy("spoilt", "python-file")
+    with mock.patch("os.pwrite", Full(0).write):
+        expect(trouble(repair, "python-file", "log", backup="python-kept"), (OSError, "cannot write at byte 0: no room"))
+    with mock.patch("os.pwrite", Full(0).write):
+        expect(trouble(repair, "python-file", "log"), (OSError, "cannot write at byte 4096: no room"))
+    expect([name for name in os.listdir(".") if name.startswith(("python-frames", "python-built", "python-kept"))], [])
 
 
 def unbuilt(call, *args, **named):
