@@ -31,6 +31,7 @@ import mmap
 import operator
 import os
 import stat
+import sys
 from ctypes import c_size_t, c_uint32, c_uint64, c_void_p
 from typing import Any, BinaryIO, Callable, Iterator, List, NamedTuple, Optional, Sequence, Tuple, TypeVar, Union, overload
 
@@ -50,6 +51,7 @@ ROWS = 4096  # so many deleted records a call, each of four words
 ROOM = 1 << 21  # for the frames of one run; no frame is longer than 1,081,356 bytes
 PIECE = 1 << 20  # so many bytes are read or stored at once, so that a signal is answered between two
 LONGEST = 1 << 32  # a longer file is not read. The longest hive has 2^31 bytes and may be padded, and the log of all its pages is longer still
+MANY, ENOUGH = 100, 1 << 30  # an export stops past so many times the hive's length, or so many bytes if that is more
 
 # What a refusal's number means. PLACED are those whose place is an offset.
 WORDS = {
@@ -758,22 +760,25 @@ class Hive:
                 way.pop()
 
     @overload
-    def export(self) -> bytes: ...
+    def export(self, *, any_length: bool = False) -> bytes: ...
 
     @overload
-    def export(self, out: Union[str, "os.PathLike[str]", BinaryIO]) -> Exported: ...
+    def export(self, out: Union[str, "os.PathLike[str]", BinaryIO], *, any_length: bool = False) -> Exported: ...
 
-    def export(self, out: Any = None) -> Union[bytes, Exported]:
+    def export(self, out: Any = None, *, any_length: bool = False) -> Union[bytes, Exported]:
         """All keys with their stamps, values, types and data, as one stream of frames (docs/FRAMES.md); security, class names, flags and layout are not
         in it. `out` names a new file, or is a file that takes bytes; without it the stream is given back. The hive is checked first, and Refused where
         the check refuses it: then nothing is written. That the stream is the tree's, whole and in order, is proved.
+
+        Keys may share lists and values their data, so a small hive may have a stream of any length. Past 1 GiB, or a hundred times the hive's length if
+        that is more, it is an OSError (EFBIG), and no new file is left; what an open file has taken stays there. `any_length` goes on.
 
         >>> Hive("minimal").export().hex(" ", 2)
         '0a00 0000 1000 0000 0000 0000 0000 5200 0000 0000 1200'
         """
         if not (out is None or isinstance(out, (str, os.PathLike)) or hasattr(out, "write")):
             raise TypeError("out is the name of a new file, or a file that takes bytes, not %s" % type(out).__name__)
-        runs = self._export_runs()
+        runs = _up_to(sys.maxsize if any_length else max(MANY * self._memory[1], ENOUGH), self._export_runs())
         if out is None:
             return b"".join(bytes(data) for _, data in runs)
         if isinstance(out, (str, os.PathLike)):
@@ -1000,6 +1005,16 @@ def _new_file(path: str, fill: Callable[[int], Done]) -> Done:
             os.unlink(part)
     _settle_folder(path)
     return done
+
+
+def _up_to(most: int, runs: Iterator[Tuple[int, memoryview]]) -> Iterator[Tuple[int, memoryview]]:
+    """The runs, none of them past so many bytes in all."""
+    length = 0
+    for frames, data in runs:
+        length += len(data)
+        if length > most:
+            raise OSError(errno.EFBIG, "the stream has more than %d bytes, far more than its hive; any_length=True writes them all the same" % most)
+        yield frames, data
 
 
 def _put_all(data: memoryview, write: Callable[[memoryview], Optional[int]]) -> None:

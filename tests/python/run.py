@@ -600,6 +600,25 @@ def no_room():
     expect([name for name in os.listdir(".") if name.startswith(("python-frames", "python-built", "python-kept"))], [])
 
 
+@test
+def too_much():
+    """an export that is far longer than its hive stops, leaves no file, and goes on where that is asked for"""
+    expect((kiweamotu.MANY, kiweamotu.ENOUGH), (100, 2**30))
+    hive, longest = Hive("sample"), max(len(data) for _, data in hives.tree_frames(bytes_of("sample")))
+    wanted, taken = hive.export(), io.BytesIO()
+    most = len(wanted) - 1
+    with mock.patch.multiple(kiweamotu, MANY=0, ENOUGH=most, ROOM=longest):  # ROOM: in many runs
+        for out in ((), ("python-frames",), (taken,)):
+            expect(trouble(hive.export, *out), (OSError, "the stream has more than %d bytes, far more than its hive; any_length=True writes them all the same" % most))
+        expect([name for name in os.listdir(".") if name.startswith("python-frames")], [])
+        expect((wanted.startswith(taken.getvalue()), 0 < len(taken.getvalue()) <= most), (True, True))
+        expect((hive.export(any_length=True), hive.export("python-frames", any_length=True).bytes, bytes_of("python-frames")), (wanted, len(wanted), wanted))
+    remove("python-frames")
+    for many, enough in ((0, len(wanted)), (1, 0)):  # the larger of the two counts, and the hive is longer than its stream
+        with mock.patch.multiple(kiweamotu, MANY=many, ENOUGH=enough):
+            expect(hive.export(), wanted)
+
+
 def unbuilt(call, *args, **named):
     """What a call refuses to build, of the library or of the model: its number, and the byte or 0."""
     try:
