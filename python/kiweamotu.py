@@ -17,6 +17,12 @@ hive can be given back. A path is names joined by backslashes, and "" is the roo
 The hive lies in memory: a file of up to 4 GiB is read whole, but for its holes, which take none, and bytes, a bytearray, a memoryview or an mmap are lent as
 they are, without a copy. Nobody may change that memory while a call runs.
 
+Threads need no lock. Each that calls needs 1 MiB of free stack, for the library goes down a hive's levels, up to 513, by calling itself; a stack that is too
+short ends the process. Python's threads have 8 MiB, unless threading.stack_size or `ulimit -s` says less.
+
+Ctrl-C is answered at once. In the main thread check, keys, deleted, export, build, repair, log_facts and Hive with a log wait for a thread of their own, unless
+little memory is lent. After an interrupt that thread goes on until its call ends, or the process; what was lent to it must not change until then.
+
 This file needs CPython 3.8 or later on x86-64 Linux, its standard library alone, and libkiweamotu.so.N, which is looked for in $KIWEAMOTU_LIBRARY (the file
 itself), beside this file, in ../lib, and by the system.
 """
@@ -32,6 +38,7 @@ import operator
 import os
 import stat
 import sys
+import threading
 from ctypes import c_size_t, c_uint32, c_uint64, c_void_p
 from typing import Any, BinaryIO, Callable, Iterator, List, NamedTuple, Optional, Sequence, Tuple, TypeVar, Union, overload
 
@@ -52,6 +59,9 @@ ROOM = 1 << 21  # for the frames of one run; no frame is longer than 1,081,356 b
 PIECE = 1 << 20  # so many bytes are read or stored at once, so that a signal is answered between two
 LONGEST = 1 << 32  # a longer file is not read. The longest hive has 2^31 bytes and may be padded, and the log of all its pages is longer still
 MANY, ENOUGH = 100, 1 << 30  # an export stops past so many times the hive's length, or so many bytes if that is more
+LONG = 1 << 16  # a call that was lent so many bytes has a thread of its own; of fewer a hostile check makes a second
+STACK = 8 << 20  # of such a thread, as others have it: one that starts elsewhere at the same moment gets no less
+TURN = 0.1  # seconds
 
 # What a refusal's number means. PLACED are those whose place is an offset.
 WORDS = {
@@ -294,6 +304,55 @@ def _units(text: str) -> Tuple[Any, int]:
 
 def _text(data: bytes) -> str:
     return data.decode("utf-16-le", "surrogatepass")
+
+
+# ---- calls that may be long
+
+def _start_thread(thread: threading.Thread) -> None:
+    """With a stack that is long enough. The length is set for the whole program, and set back."""
+    before = threading.stack_size()
+    try:
+        threading.stack_size(max(before, STACK))
+        thread.start()
+    finally:
+        threading.stack_size(before)
+
+
+def _waited(call: Callable[[], Done]) -> Done:
+    """What the call answers, in a thread of its own. Meanwhile this one answers signals; where that raises, the call goes on to its end, which nobody hears."""
+    found: List[Any] = []
+    over = threading.Lock()
+
+    def work() -> None:
+        try:
+            found.append(call())
+        except BaseException as error:
+            found.append(error)
+        over.release()
+
+    over.acquire()
+    try:
+        _start_thread(threading.Thread(target=work, name="kiweamotu", daemon=True))
+    except RuntimeError:  # the system has no thread to give
+        return call()
+    while not over.acquire(timeout=TURN):  # a signal that another thread takes wakes nobody here
+        pass
+    if isinstance(found[0], BaseException):
+        raise found[0]
+    return found[0]
+
+
+def _signals_come() -> bool:
+    """Python answers signals in its main thread alone, and starts no thread when it ends."""
+    return threading.current_thread() is threading.main_thread() and not sys.is_finalizing()
+
+
+def _ask(call: Callable[..., Any], *parts: Any) -> Any:
+    """Asks the library. Memory that is lent goes in as a pointer and a length, and is held until the call has ended, whoever waits for it."""
+    words = [word for part in parts for word in (part.memory if isinstance(part, _Lent) else (part,))]
+    if sum(part.memory[1] for part in parts if isinstance(part, _Lent)) < LONG or not _signals_come():
+        return call(*words)
+    return _waited(lambda held=parts: call(*words))
 
 
 # ---- files
@@ -687,7 +746,7 @@ class Hive:
         """
         work = bytearray(self._memory[1] // 64)  # never too small: bins that end inside the file are shorter than it
         lent = _Lent(work, writable=True)
-        r = _library.hive_check(*self._memory, *lent.memory)
+        r = _ask(_library.hive_check, self._lent, lent)
         _allow(r.answer)
         return Report(r.bins, r.keys, r.values, r.used, r.free)
 
@@ -729,7 +788,7 @@ class Hive:
         """
         rows, start = (c_uint32 * (4 * ROWS))(), 0
         while True:
-            found = _library.hive_remnants(*self._memory, start, rows, 4 * ROWS)
+            found = _ask(_library.hive_remnants, self._lent, start, rows, 4 * ROWS)
             _allow(found.answer)
             for i in range(0, 4 * found.rows, 4):
                 offset, kind, length, narrow = rows[i:i + 4]
@@ -789,7 +848,7 @@ class Hive:
         """Checks, and gives the runs: how many frames, and their bytes, which stand until the next are asked for."""
         work, words = bytearray(self._memory[1] // 64), (c_uint32 * WORDS_OF_A_WALK)()
         lent = _Lent(work, writable=True)
-        begun = _library.hive_export_begin(*self._memory, *lent.memory, words, WORDS_OF_A_WALK)
+        begun = _ask(_library.hive_export_begin, self._lent, lent, words, WORDS_OF_A_WALK)
         _allow(begun.answer)
         return self._runs_from(begun, words)
 
@@ -856,10 +915,9 @@ def build(frames: Source, out: Any = None, *, descriptor: Optional[Source] = Non
     """
     path = None if out is None else os.fsdecode(out)
     stream, security = _Lent(_contents(frames)), _Lent(DESCRIPTOR if descriptor is None else _contents(descriptor))
-    hive = bytearray(_buildable(_library.hive_build_size(*stream.memory, security.memory[1])))
-    room = _Lent(hive, writable=True)
-    _buildable(_library.hive_build(*stream.memory, *security.memory, *room.memory))
-    if out is None:
+    hive = _zeros(_buildable(_ask(_library.hive_build_size, stream, security.memory[1])))
+    _buildable(_ask(_library.hive_build, stream, security, _Lent(hive, writable=True)))
+    if path is None:
         return bytes(hive)
     report = Hive(hive).check()
     _new_file(path, lambda to: _store(to, hive, 0))
@@ -875,7 +933,7 @@ def log_facts(log: Source) -> Log:
     (4, 7, 10)
     """
     lent = _Lent(_contents(log))
-    facts = _library.hive_recover_log(*lent.memory)
+    facts = _ask(_library.hive_recover_log, lent)
     _allow(facts.answer)
     return Log(facts.entries, facts.first, facts.last, facts.end, facts.bins)
 
@@ -885,9 +943,8 @@ class _Start:
 
     def __init__(self, hive: Owned, log: Any, logs: Tuple[int, ...], grown: bool) -> None:
         self.hive, self.log, self.logs, self.grown = hive, log, logs, grown
-        self._own, self._lent = _Lent(hive, writable=True), _Lent(log)
-        self.both = self._own.memory + self._lent.memory
-        self.started = _library.hive_recover_start(*self.both)
+        self.both = _Lent(hive, writable=True), _Lent(log)
+        self.started = _ask(_library.hive_recover_start, *self.both)
 
     def refused(self, number: Optional[int] = None) -> bool:
         return self.started.state == REFUSED and number in (None, self.started.answer.number)
@@ -945,8 +1002,8 @@ def _choose(hive: Owned, log: Sources, grow: bool) -> _Start:
 def _recover(start: _Start) -> Owned:
     """All of the repair, in memory alone: the hive, lengthened where that was asked for."""
     if start.started.state == DONE:
-        _allow(_library.hive_recover_all(*start.both).answer)
-        _allow(_library.hive_recover_close(*start.both).answer)
+        _allow(_ask(_library.hive_recover_all, *start.both).answer)
+        _allow(_ask(_library.hive_recover_close, *start.both).answer)
     return start.hive
 
 
@@ -1045,9 +1102,9 @@ def _checked(hive: Owned) -> Tuple[Optional[Report], Optional[Refused]]:
 
 def _rehearse(start: _Start) -> Tuple[Optional[Report], Optional[Refused]]:
     """What will come out, before the first write: all pages in, closed, checked; then open again, for no page is stored after a closing call."""
-    _allow(_library.hive_recover_all(*start.both).answer)
+    _allow(_ask(_library.hive_recover_all, *start.both).answer)
     first = bytes(start.hive[:SECTOR])
-    _allow(_library.hive_recover_close(*start.both).answer)
+    _allow(_ask(_library.hive_recover_close, *start.both).answer)
     answer = _checked(start.hive)
     start.hive[:SECTOR] = first
     return answer
@@ -1057,7 +1114,7 @@ def _marked(start: _Start) -> Iterator[int]:
     """The pages that the log holds, rising. No log that is accepted has more pages than the hive."""
     marks = bytearray(len(start.hive) // 4096)
     lent = _Lent(marks, writable=True)
-    _allow(_library.hive_recover_mark_pages(*start.both[2:], *lent.memory).answer)
+    _allow(_ask(_library.hive_recover_mark_pages, start.both[1], lent).answer)
     return (8 * at + bit for at, byte in enumerate(marks) if byte for bit in range(8) if byte >> bit & 1)
 
 
@@ -1071,7 +1128,7 @@ def _write_out(fd: int, start: _Start) -> None:
         at = 4096 + SECTOR * page
         _store(fd, start.hive[at:at + SECTOR], at)
     os.fsync(fd)
-    _allow(_library.hive_recover_close(*start.both).answer)
+    _allow(_ask(_library.hive_recover_close, *start.both).answer)
     _store(fd, start.hive[:SECTOR], 0)
     os.fsync(fd)
 
@@ -1104,8 +1161,9 @@ def repair(path: Union[str, "os.PathLike[str]"], log: Sources, *, backup: Option
            anyway: bool = False, grow: bool = False) -> Repair:
     """Repairs the hive in place with its log, of either format, or with its two logs in a list, as `hive repair` does: the whole repair in memory first;
     then, under a lock, the pages are stored and synced, and the first sector is stored and synced. A power failure at any moment leaves a file that the
-    same call repairs: after an OSError, or in doubt, keep the log and call again. `backup` names a new file that the hive is copied to first. What the check
-    would refuse afterwards raises Unsound, and nothing is written, unless `anyway`. `grow`: where the log wants a longer file, it is lengthened with zeros.
+    same call repairs, and so does an interrupt: after an OSError, after Ctrl-C, or in doubt, keep the log and call again. `backup` names a new file that the
+    hive is copied to first. What the check would refuse afterwards raises Unsound, and nothing is written, unless `anyway`; what is clean and refused raises
+    Refused, unless `anyway`. `grow`: where the log wants a longer file, it is lengthened with zeros.
 
     >>> repair("spoilt", "log", dry_run=True).pages
     8

@@ -14,9 +14,12 @@ import pickle
 import random
 import re
 import shutil
+import signal
 import struct
 import subprocess
 import sys
+import threading
+import time
 from unittest import mock
 
 release, tool = os.path.abspath(sys.argv[1]), sys.argv[2:]
@@ -714,13 +717,13 @@ class Cut(Exception):
 
 
 @contextlib.contextmanager
-def traced(steps, cut=None):
-    """Notes every store and sync, and raises Cut in place of the one of that number."""
+def traced(steps, cut=None, kind=Cut):
+    """Notes every store and sync, and raises Cut, or another, in place of the one of that number."""
     pwrite, fsync, ftruncate = os.pwrite, os.fsync, os.ftruncate
 
     def note(step):
         if len(steps) == cut:
-            raise Cut
+            raise kind
         steps.append(step)
 
     def stored(fd, data, at):
@@ -912,6 +915,175 @@ def descriptors():
         Hive("sample").export("python-frames")
         expect((call, printed(LOW % call)[1], bytes_of("python-told")), (call, 0, b"[True, 0, True]"))
     remove("python-told", "python-kept", "python-frames")
+
+
+@contextlib.contextmanager
+def beside():
+    """Every call that may be long runs beside this thread, however little it was lent."""
+    with mock.patch.object(kiweamotu, "LONG", 0):
+        yield
+
+
+@test
+def the_same_beside():
+    """what runs in a thread of its own answers the same, refusals too, and the program's stack size stays"""
+    def answers():
+        frames = Hive("sample").export()
+        yield Hive("sample").check(), frames, build(frames), build(bytearray(frames)), list(Hive("left").deleted()), len(list(Hive("sample").keys()))
+        yield refusal(Hive("no-root").check), refusal(Hive("spoilt").export), unbuilt(build, frames[:-1]), refusal(Hive, "spoilt", "short-log")
+        for log in ("log", "new-log", ["new-log1", "new-log2"]):
+            shutil.copy("spoilt", "python-file")
+            yield repair("python-file", log), bytes_of("python-file"), kiweamotu.log_facts("new-log")
+    wanted, waits = list(answers()), []
+    waited = kiweamotu._waited
+    with beside(), mock.patch.object(kiweamotu, "_waited", lambda call: waits.append(1) or waited(call)):
+        expect(list(answers()), wanted)
+        expect(len(waits) > 20, True)
+        with contextlib.suppress(ctypes.ArgumentError):
+            kiweamotu._ask(kiweamotu._library.hive_key_at, Hive("sample")._lent, "no offset")
+            raise AssertionError("not raised")
+    before = threading.stack_size()
+    expect(before, 0)
+    with beside(), mock.patch.object(threading.Thread, "start", side_effect=RuntimeError("can't start new thread")):
+        expect((Hive("sample").check(), threading.stack_size()), (wanted[0][0], before))
+    in_thread = []
+    with beside(), mock.patch.object(kiweamotu, "_waited", None):
+        thread = threading.Thread(target=lambda: in_thread.append(Hive("sample").check()))
+        thread.start()
+        thread.join()
+    expect(in_thread, [wanted[0][0]])
+
+
+@test
+def interrupted_anywhere():
+    """repair: interrupted in each long call and before each store and sync, then done again"""
+    waited = kiweamotu._waited
+    for last in range(30):
+        shutil.copy("spoilt", "python-file")
+        calls = []
+
+        def some(call):
+            calls.append(1)
+            if len(calls) > last:
+                raise KeyboardInterrupt
+            return waited(call)
+
+        try:
+            with beside(), mock.patch.object(kiweamotu, "_waited", some):
+                repair("python-file", "log")
+            break
+        except KeyboardInterrupt:
+            pass
+        expect(repair("python-file", "log").report, Hive("sample").check())
+        expect(bytes_of("python-file"), bytes_of("sample"))
+    expect(last >= 6, True)
+    for cut in range(len(PAGES) + 3):
+        shutil.copy("spoilt", "python-file")
+        with contextlib.suppress(KeyboardInterrupt), traced([], cut, KeyboardInterrupt):
+            repair("python-file", "log")
+            raise AssertionError("not cut")
+        expect(repair("python-file", "log").report, Hive("sample").check())
+        expect(bytes_of("python-file"), bytes_of("sample"))
+
+
+def one_hash(count):
+    """Names of one hash: two characters for each bit, the first one more and the second 37 less, or not."""
+    return ["".join("\u3002\u30db" if n >> bit & 1 else "\u3001\u3100" for bit in range(17)) for n in range(count)]
+
+
+def value_frames(names):
+    return b"".join(hives.framed(17, struct.pack("<II", 3, 2 * len(name)) + name.encode("utf-16-le")) for name in names)
+
+
+def open_frame(name):
+    return hives.framed(16, bytes(8) + name.encode("utf-16-le"))
+
+
+def slow_to_check():
+    """A hive whose many keys share a list of values, each pair of which is compared for each key."""
+    keys = ["k%04d" % n for n in range(2000)]
+    below = [open_frame(key) + value_frames(one_hash(4096) if key == keys[0] else []) + hives.framed(18) for key in keys]
+    hive = bytearray(build(open_frame("root") + b"".join(below) + hives.framed(18)))
+    places = [4096 + key.offset + 4 + 36 for key in Hive(hive).subkeys]
+    for place in places:
+        hive[place:place + 8] = hive[places[0]:places[0] + 8]
+    return hive
+
+
+INTERRUPTED = """
+import signal
+signal.signal(signal.SIGINT, signal.default_int_handler)
+try:
+    print("starts", flush=True)
+    %s
+    print("ended", flush=True)
+except KeyboardInterrupt:
+    print("interrupted", flush=True)
+"""
+
+
+@test
+def interrupted():
+    """Ctrl-C is answered at once during a check, an export, a build and a repair that would take minutes, and the program ends"""
+    slow = slow_to_check()
+    for path, data in (("python-slow", slow), ("python-torn", hives.torn(slow)), ("python-log", hives.old_log(slow, {0: bytes(slow[4096:4608])})),
+                       ("python-frames", open_frame("root") + value_frames(one_hash(2**17)) + hives.framed(18))):
+        with open(path, "wb") as file:
+            file.write(data)
+    before = bytes_of("python-torn")
+    for call in ("Hive('python-slow').check()", "Hive('python-slow').export('python-out')", "build('python-frames', 'python-out')", "repair('python-torn', 'python-log')"):
+        process = child(INTERRUPTED % call)
+        try:
+            expect(process.stdout.readline(), b"starts\n")
+            time.sleep(0.5)
+            expect((call, process.poll()), (call, None))
+            process.send_signal(signal.SIGINT)
+            expect((call, process.communicate(timeout=15)[0], process.returncode), (call, b"interrupted\n", 0))
+        finally:
+            process.kill()
+            process.communicate()
+        expect([name for name in os.listdir(".") if name.startswith("python-out")], [])
+    expect(bytes_of("python-torn") == before, True)
+    remove("python-slow", "python-torn", "python-log", "python-frames")
+
+
+@test
+def signals():
+    """a signal that another thread takes is answered too"""
+    before, ends = signal.signal(signal.SIGINT, signal.default_int_handler), threading.Event()
+
+    def work():
+        signal.pthread_kill(threading.get_ident(), signal.SIGINT)
+        ends.wait(30)
+
+    started = time.monotonic()
+    try:
+        kiweamotu._waited(work)
+        raise AssertionError("not interrupted")
+    except KeyboardInterrupt:
+        expect(time.monotonic() - started < 20, True)
+    finally:
+        ends.set()
+        signal.signal(signal.SIGINT, before)
+
+
+DEEP = """
+import struct
+def framed(kind, payload=b""): return struct.pack("<IH", len(payload), kind) + payload
+def value(n): return framed(17, struct.pack("<II", 3, 8) + ("%04x" % n).encode("utf-16-le"))
+def deep(level): return framed(16, bytes(8) + "x".encode("utf-16-le")) + b"".join(map(value, range(4097 if level == 512 else 17)))
+frames = b"".join(map(deep, range(513))) + framed(18) * 513
+def run():
+    print(Hive(build(frames)).check().keys, Hive(build(frames)).export() == frames)
+"""
+
+
+@test
+def stacks():
+    """the deepest hive in a thread with little more than the 1 MiB of stack that is told, and from the main thread whatever a thread has; it is told"""
+    for run in ("threading.stack_size(9 << 17)\nt = threading.Thread(target=run)\nt.start()\nt.join()", "threading.stack_size(1 << 15)\nkiweamotu.LONG = 0\nrun()"):
+        expect(printed(DEEP + run), ("513 True\n", 0))
+    expect("1 MiB of free stack" in kiweamotu.__doc__ and "threading.stack_size" in kiweamotu.__doc__, True)
 
 
 os.remove("python-file")
