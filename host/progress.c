@@ -5,8 +5,9 @@
 
 #include "host.h"
 
+/* what: NULL where nothing is under way. It is set last and cleared first, so a signal between finds either all of it or nothing. */
 static struct {
-    const char *what;
+    const char *volatile what;
     volatile uint64_t done, of;
     volatile uint64_t seconds;
 } work;
@@ -29,14 +30,17 @@ static size_t add_number(char *line, size_t n, uint64_t x)
     return add(line, n, digits + k);
 }
 
-/* In a signal's handler: only what may be called there. */
+/* In a signal's handler: only what may be called there. A signal that comes when the work has ended shows nothing and is the last. */
 static void tick(int number)
 {
     (void)number;
     char line[120];
     int kept = errno;
+    const char *what = work.what;
+    if (what == NULL)
+        return;
     work.seconds++;
-    size_t n = add(line, add(line, 0, "\r"), work.what);
+    size_t n = add(line, add(line, 0, "\r"), what);
     if (work.done > 0)
         n = add_number(line, add(line, n, " "), work.done);
     if (work.done > 0 && work.of > 0)
@@ -52,10 +56,10 @@ void work_starts(const char *what, uint64_t of)
     work_ends();
     if (!isatty(2))
         return;
-    work.what = what;
     work.done = 0;
     work.of = of;
     signal(SIGALRM, tick);
+    work.what = what;
     alarm(1);
 }
 
@@ -68,9 +72,10 @@ void work_ends(void)
 {
     if (work.what == NULL)
         return;
-    alarm(0);
-    if (work.seconds > 0 && write(2, "\r\033[K", 4) < 0)
-        return;
-    work.seconds = 0;
     work.what = NULL;
+    alarm(0);
+    bool shown = work.seconds > 0;
+    work.seconds = 0;
+    if (shown && write(2, "\r\033[K", 4) < 0)
+        return; /* there is nobody to tell */
 }

@@ -41,7 +41,7 @@ static bool in(HiveAnswer a, uint32_t number, uint32_t place, uint32_t key)
     return a.number == number && a.place == place && a.key == key && a.value == 0;
 }
 
-static bool is(HiveAnswer a, uint32_t number, uint32_t place)
+__attribute__((unused)) static bool is(HiveAnswer a, uint32_t number, uint32_t place)
 {
     return in(a, number, place, NO_KEY);
 }
