@@ -102,13 +102,11 @@ static void say_where(const char *label, bool there, uint64_t at)
 /* A line on standard output, and its words on standard error; or both in one object. */
 int refusal(const Hive *h, HiveAnswer a, const Path *path)
 {
-    char *words = NULL;
-    size_t length;
-    FILE *to = open_memstream(&words, &length);
+    FILE *to = words_begin();
     if (to == NULL)
         return trouble(h->file, "no memory");
     put_words(to, h, a, path);
-    fclose(to);
+    const char *words = words_end(to);
     say(h->file, "refused");
     say_bare("number", a.number);
     if (say_json()) {
@@ -120,7 +118,6 @@ int refusal(const Hive *h, HiveAnswer a, const Path *path)
     say_end();
     if (!say_json())
         note(reason_of(a.number)->of_log ? h->log : h->file, words);
-    free(words);
     return REFUSED;
 }
 
@@ -139,14 +136,12 @@ static void put_spot(FILE *to, Bytes frames, HiveBuilt b, bool spotted)
 /* As a refusal is told. A byte of a stream is neither an offset nor a byte of a hive, so an object has it under a name of its own. */
 int unbuilt(const char *file, Bytes frames, HiveBuilt b)
 {
-    char *words = NULL;
-    size_t length;
-    FILE *to = open_memstream(&words, &length);
+    FILE *to = words_begin();
     bool spotted = of_frame(b.answer.number);
     if (to == NULL)
         return trouble(file, "no memory");
     put_spot(to, frames, b, spotted);
-    fclose(to);
+    const char *words = words_end(to);
     say(file, "refused");
     say_bare("number", b.answer.number);
     if (say_json()) {
@@ -159,7 +154,6 @@ int unbuilt(const char *file, Bytes frames, HiveBuilt b)
     say_end();
     if (!say_json())
         note(file, words);
-    free(words);
     return REFUSED;
 }
 

@@ -88,6 +88,9 @@ uint32_t unit_at(Name name, size_t i);
 long decode(const char **text);
 void put_utf8(FILE *to, uint32_t code);
 void put_escape(FILE *to, uint32_t code);
+typedef void Put(FILE *to, uint32_t code);
+void spell_name(FILE *to, Name name, enum Style style, Put *put);
+void spell_path(FILE *to, const Name *way, size_t count, Put *put);
 void put_name(FILE *to, Name name, enum Style style);
 void put_path(FILE *to, const Name *way, size_t count);
 void put_argument(FILE *to, const char *text);
@@ -102,6 +105,10 @@ const char *kind_name(uint32_t kind, char *room);
 /* stamp.c */
 enum { STAMP_ROOM = 40 };
 const char *stamp_text(uint64_t stamp, char *room);
+
+/* words.c */
+FILE *words_begin(void);
+const char *words_end(FILE *to);
 
 /* explain.c. path is what was asked for, or NULL. */
 int refusal(const Hive *h, HiveAnswer a, const Path *path);

@@ -53,24 +53,53 @@ void put_escape(FILE *to, uint32_t c)
     fprintf(to, c < 0x100 ? "\\x%02x" : "\\u%04x", c);
 }
 
-void put_name(FILE *to, Name name, enum Style style)
+static void spell_escape(FILE *to, uint32_t c, Put *put)
+{
+    char text[8];
+    snprintf(text, sizeof text, c < 0x100 ? "\\x%02x" : "\\u%04x", c);
+    for (const char *at = text; *at != 0; at++)
+        put(to, (uint8_t)*at);
+}
+
+/* Code by code: `put` writes each, as UTF-8 or as JSON has it. */
+void spell_name(FILE *to, Name name, enum Style style, Put *put)
 {
     size_t count = unit_count(name);
     if (style == VALUE_NAME && count == 0)
-        fputc('@', to);
+        put(to, '@');
     if (style == VALUE_NAME && count == 1 && unit_at(name, 0) == '@') {
-        put_escape(to, '@');
+        spell_escape(to, '@', put);
         return;
     }
     for (size_t i = 0; i < count;) {
         uint32_t c = next_code(name, &i);
         if ((style == KEY_NAME && is_hidden(c)) || (style == VALUE_NAME && c == '\\'))
-            fputc('\\', to);
+            put(to, '\\');
         if (is_hidden(c))
-            put_escape(to, c);
+            spell_escape(to, c, put);
         else
-            put_utf8(to, c);
+            put(to, c);
     }
+}
+
+/* The names of keys on the way down from the root, whose own is left out. */
+void spell_path(FILE *to, const Name *way, size_t count, Put *put)
+{
+    for (size_t i = 0; i < count; i++) {
+        if (i > 0)
+            put(to, '\\');
+        spell_name(to, way[i], KEY_NAME, put);
+    }
+}
+
+void put_name(FILE *to, Name name, enum Style style)
+{
+    spell_name(to, name, style, put_utf8);
+}
+
+void put_path(FILE *to, const Name *way, size_t count)
+{
+    spell_path(to, way, count, put_utf8);
 }
 
 /* One character of UTF-8 at *text, which moves past it; -1, and no move, where it is none. */
@@ -91,15 +120,6 @@ long decode(const char **text)
         return -1;
     *text += more + 1;
     return c;
-}
-
-/* The names of keys on the way down from the root, whose own is left out. */
-void put_path(FILE *to, const Name *way, size_t count)
-{
-    for (size_t i = 0; i < count; i++) {
-        fputs(i == 0 ? "" : "\\", to);
-        put_name(to, way[i], KEY_NAME);
-    }
 }
 
 /* A word of the command line, or the name of a file, in a message. */

@@ -1,5 +1,4 @@
 /* The tree as the text that Windows Registry Editor 5.00 writes, made of the frames of an export. */
-#include <stdlib.h>
 #include <unistd.h>
 
 #include "host.h"
@@ -18,7 +17,7 @@ static struct {
     Name prefix;
     enum Form form;
     size_t column;
-    bool in_key, left_out, replaced;
+    bool in_key, left_out, untold, replaced;
 } text;
 
 /* The keys that are open, by their names in UTF-16LE, the root's left out. level: how many they are, with the root. unsaid: the level of the
@@ -169,12 +168,12 @@ static void end_key(void)
 /* The open key, or a value of it, is told by its path on standard error. */
 static void leave_out(const Name *value)
 {
-    char *words = NULL;
-    size_t length;
-    FILE *to = open_memstream(&words, &length);
+    FILE *to = words_begin();
     text.left_out = true;
-    if (to == NULL)
+    if (to == NULL) {
+        text.untold = trouble(text.file, "no memory to say what is left out") == TROUBLE;
         return;
+    }
     if (value != NULL) {
         fputs("the value ", to);
         put_name(to, *value, VALUE_NAME);
@@ -183,9 +182,7 @@ static void leave_out(const Name *value)
     fputs("the key \\", to);
     put_path(to, way.names, way.level - 1);
     fputs(value != NULL ? " is left out: no line can hold its name" : " is left out, with all below it: no line can hold its name", to);
-    fclose(to);
-    note(text.file, words);
-    free(words);
+    note(text.file, words_end(to));
 }
 
 /* A key opens. The first that does is the root, whose own name is not shown. */
@@ -277,6 +274,8 @@ static int put_all(Export *x)
     work_ends();
     if (status == GOOD && text.replaced)
         note(text.file, "halves of pairs, which UTF-8 cannot hold, are written as U+FFFD");
+    if (status == GOOD && text.untold)
+        return TROUBLE;
     return status == GOOD && (text.left_out || text.replaced) ? UNSAID : status;
 }
 

@@ -1,6 +1,5 @@
 /* Answers on standard output, each one line: words, or a JSON object. Messages on standard error. */
 #include <stdarg.h>
-#include <stdlib.h>
 #include <string.h>
 
 #include "host.h"
@@ -111,18 +110,12 @@ void say_word(const char *label, const char *word)
 /* A name, or a key's path, as the tool reads it, which loses nothing. */
 static void say_notation(const Name *way, size_t count, enum Style style)
 {
-    char *text = NULL;
-    size_t length;
-    FILE *to = open_memstream(&text, &length);
-    if (to == NULL)
-        return;
+    fputs(",\"notation\":\"", stdout);
     if (style == KEY_NAME)
-        put_path(to, way, count);
+        spell_path(stdout, way, count, put_json_code);
     else
-        put_name(to, way[0], style);
-    fclose(to);
-    say_word("notation", text);
-    free(text);
+        spell_name(stdout, way[0], style, put_json_code);
+    fputc('"', stdout);
 }
 
 void say_name(Name name, enum Style style)

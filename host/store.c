@@ -75,21 +75,17 @@ int lengthen(int fd, const char *path, uint64_t length)
     return settle(fd, path);
 }
 
-/* The entry of a new file lies in its folder, which is synced too. */
-static int settle_folder(const char *path)
+/* The entry of a new file lies in its folder, which is synced too. In `folder` there is room for its name: nothing that is written is lost for want of memory. */
+static int settle_folder(const char *path, char *folder)
 {
     const char *slash = strrchr(path, '/');
     size_t n = slash == NULL ? 0 : (size_t)(slash - path) + 1;
-    char *folder = malloc(n + 2);
-    if (folder == NULL)
-        return trouble(path, "no memory");
     memcpy(folder, path, n);
     memcpy(folder + n, ".", 2);
     int fd = open(folder, O_RDONLY | O_DIRECTORY | O_CLOEXEC);
     int status = fd < 0 ? trouble(folder, "%s", strerror(errno)) : settle(fd, folder);
     if (fd >= 0)
         close(fd);
-    free(folder);
     return status;
 }
 
@@ -152,8 +148,10 @@ static int new_end(New *n, int status)
         status = new_name(n);
     if (status != GOOD && n->fd >= 0)
         unlink(n->part);
+    if (status == GOOD)
+        status = settle_folder(n->path, n->part);
     free(n->part);
-    return status == GOOD ? settle_folder(n->path) : status;
+    return status;
 }
 
 int write_new(const char *path, Bytes bytes)
