@@ -86,7 +86,7 @@ static void put_words(FILE *to, const Hive *h, HiveAnswer a, const Path *path)
     if (a.key != HIVE_NO_KEY && !say_json())
         put_key(to, h, a.key);
     if (path != NULL)
-        put_hints(to, h, path, a.number);
+        put_hints(to, h, path, a);
     if (!say_json())
         fprintf(to, " (see: hive explain %u)", a.number);
 }

@@ -15,23 +15,58 @@ static size_t part_end(Units u, size_t from)
     return from;
 }
 
-/* The parts are asked for one after the other; the first that is not there is named, and the key that lacks it. */
-static void put_missing(FILE *to, const Hive *h, Units u)
+/* How many parts have that name. */
+static size_t called_so(Units u, Name name)
 {
-    for (size_t from = 0, end;; from = end + 1) {
+    size_t n = 0;
+    for (size_t from = 0, end; from <= u.length; from = end + 1) {
         end = part_end(u, from);
-        if (end < u.length && hive_find_key(h->bytes.at, h->bytes.length, u.at, end).number == 0)
-            continue;
-        fputs(from == 0 ? ": the root" : ": ", to);
-        for (size_t i = 0, stop; i + 1 < from; i = stop + 1) {
-            stop = part_end(u, i);
-            fputs(i == 0 ? "" : "\\", to);
-            put_name(to, part(u, i, stop), KEY_NAME);
-        }
-        fputs(" has no subkey ", to);
-        put_name(to, part(u, from, end), KEY_NAME);
-        return;
+        n += is_called(name, (Units){u.at + from, end - from});
     }
+    return n;
+}
+
+/* The part from `from` on is the first that is not there, if the deepest key that was found is the one before it. That is certain where no other part has this
+ * key's name. Else the lookup that halves is asked, which reads few keys whatever the file holds. */
+static bool is_certain(const Hive *h, uint32_t deepest, Units u, size_t from)
+{
+    HiveKey k = hive_key_at(h->bytes.at, h->bytes.length, deepest);
+    if (k.answer.number == 0 && called_so(u, (Name){h->bytes.at + k.name, k.length, k.narrow == 1}) == (from > 0))
+        return true;
+    HiveAnswer a = hive_quick_key(h->bytes.at, h->bytes.length, u.at, part_end(u, from));
+    return a.number == HIVE_FAULT_NO_KEY && a.key == deepest;
+}
+
+/* Where the part starts that is not there: behind those that have the names on the way up from the deepest key that was found. Answers false where they do not
+ * agree: in a hive that was not checked a parent field may lead anywhere. The path is not searched again, which may take long. */
+static bool find_missing(const Hive *h, uint32_t deepest, Units u, size_t *from)
+{
+    Name names[LEVELS];
+    int level = climb(h, deepest, names);
+    *from = 0;
+    for (int i = level; i > 0; i--) {
+        size_t end = part_end(u, *from);
+        if (end == u.length || !is_called(names[i - 1], (Units){u.at + *from, end - *from}))
+            return false;
+        *from = end + 1;
+    }
+    return level >= 0 && is_certain(h, deepest, u, *from);
+}
+
+/* The first part that is not there, and the key that lacks it. */
+static void put_missing(FILE *to, const Hive *h, uint32_t deepest, Units u)
+{
+    size_t from;
+    if (!find_missing(h, deepest, u, &from))
+        return;
+    fputs(from == 0 ? ": the root" : ": ", to);
+    for (size_t i = 0, stop; i + 1 < from; i = stop + 1) {
+        stop = part_end(u, i);
+        fputs(i == 0 ? "" : "\\", to);
+        put_name(to, part(u, i, stop), KEY_NAME);
+    }
+    fputs(" has no subkey ", to);
+    put_name(to, part(u, from, part_end(u, from)), KEY_NAME);
 }
 
 static bool starts(const char *text, const char *with)
@@ -52,11 +87,11 @@ static bool names_a_machine(const char *text)
     return false;
 }
 
-void put_hints(FILE *to, const Hive *h, const Path *path, uint32_t number)
+void put_hints(FILE *to, const Hive *h, const Path *path, HiveAnswer a)
 {
-    if (number == HIVE_FAULT_NO_KEY)
-        put_missing(to, h, path->units);
-    if (number != HIVE_FAULT_NO_KEY && number != HIVE_FAULT_PATH_PARTS)
+    if (a.number == HIVE_FAULT_NO_KEY)
+        put_missing(to, h, a.key, path->units);
+    if (a.number != HIVE_FAULT_NO_KEY && a.number != HIVE_FAULT_PATH_PARTS)
         return;
     size_t n = strlen(path->text);
     if (names_a_machine(path->text))

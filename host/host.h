@@ -38,7 +38,7 @@ typedef struct {
     const char *logs[2], *backup, *prefix, *descriptor;
     int log_count;
     size_t nth; /* 0: none was given */
-    bool json, wide, dry, anyway, grow, utf8;
+    bool json, wide, dry, anyway, grow, utf8, any_length;
 } Order;
 
 /* A hive in memory, and the log that it is read or repaired with; log is its name, NULL where none was given, and started what hive_recover_start says of the two.
@@ -75,6 +75,7 @@ void say_word(const char *label, const char *word);
 void say_name(Name name, enum Style style);
 void say_path(const Name *way, size_t count);
 void say_end(void);
+uint64_t said_bytes(void);
 void put_json_name(FILE *to, Name name);
 int trouble(const char *file, const char *format, ...) __attribute__((format(printf, 2, 3)));
 int misused(const char *format, ...) __attribute__((format(printf, 1, 2)));
@@ -85,6 +86,7 @@ bool is_hidden(uint32_t code);
 uint32_t next_code(Name name, size_t *i);
 size_t unit_count(Name name);
 uint32_t unit_at(Name name, size_t i);
+bool is_called(Name stored, Units name);
 long decode(const char **text);
 void put_utf8(FILE *to, uint32_t code);
 void put_escape(FILE *to, uint32_t code);
@@ -122,17 +124,21 @@ int climb(const Hive *h, uint32_t key, Name *names);
 void put_key(FILE *to, const Hive *h, uint32_t key);
 
 /* hints.c */
-void put_hints(FILE *to, const Hive *h, const Path *path, uint32_t number);
+void put_hints(FILE *to, const Hive *h, const Path *path, HiveAnswer a);
 
 /* export.c: the frames in runs, from the root on or, after export_below, of a key and what is below it. The hive is checked first. */
 typedef struct {
     const Hive *h;
     HiveExport e;
-    uint64_t frames, bytes;
+    uint64_t frames, bytes, bound;
 } Export;
 int export_begin(const Hive *h, Export *out);
 void export_below(Export *x, uint32_t key);
 int export_next(void *of, Bytes *piece);
+
+/* bound.c: how many bytes may be written of a hive; and what is said where they are more, which answers TROUBLE. */
+uint64_t bound_of(const Order *o, const Hive *h);
+int past_bound(const Hive *h, uint64_t bound);
 
 /* Standard output for one kind of bytes alone: whatever else there is to say goes to standard error from here on. NULL where it cannot be had. */
 FILE *own_output(void);

@@ -40,26 +40,6 @@ static int first(const Order *o, const Hive *h, const Path *path, Units name)
     return c.answer.number != 0 ? refusal(h, c.answer, path) : show(o, v.kind, data);
 }
 
-/* The library's capitals: a to z and 0xE0 to 0xFE except 0xF7 go 32 down, 0xFF to 0x0178. */
-static uint32_t capital(uint32_t c)
-{
-    if (c == 0xff)
-        return 0x178;
-    return (c >= 'a' && c <= 'z') || (c >= 0xe0 && c <= 0xfe && c != 0xf7) ? c - 32 : c;
-}
-
-/* As the library compares: code by code, as capitals. */
-static bool is_called(Name stored, Units name)
-{
-    size_t i = 0;
-    while (i < name.length && i < unit_count(stored)) {
-        if (capital(unit_at(stored, i)) != capital(name.at[i]))
-            return false;
-        i++;
-    }
-    return i == name.length && i == unit_count(stored);
-}
-
 /* Among the values of a key those of one name are counted, from 1 on. */
 static HiveMember search(const Order *o, const Hive *h, uint32_t key, Units name)
 {

@@ -162,6 +162,20 @@ static void write_hint(void)
     write_file("wrong-hint", m.file, made_length(&m));
 }
 
+/* Three keys of one name, each below the other, of which the last says that the root is its parent. */
+static void write_liar(void)
+{
+    Made m = made(4096, 5);
+    uint32_t key = m.root = new_key(&m, "R", 0);
+    for (int i = 0; i < 3; i++) {
+        uint32_t child = new_key(&m, "n", i < 2 ? key : m.root);
+        hang_keys(&m, key, new_leaf(&m, "lh", &child, 1), 1);
+        key = child;
+    }
+    finish(&m);
+    write_file("liar", m.file, made_length(&m));
+}
+
 /* A chain of so many levels, with the longest name at its end: as deep as it may be, and a level too deep. */
 static void write_chain(const char *name, int levels)
 {
@@ -477,6 +491,7 @@ static void write_wide(void)
 static void write_trees(void)
 {
     write_hint();
+    write_liar();
     write_chain("deep", 512);
     write_chain("chain", 513);
     write_reg();

@@ -16,6 +16,10 @@ try 'key: a capital past the byte' 0 'key at 384' '' hive key letters "$(printf 
 try 'key: none' 1 'refused 17 at 0' 'there is no such key, in key \a (at 120): a has no subkey k9 (see' hive key sample 'a\k9'
 try 'key: none at the root' 1 'refused 17 at 0' 'the root has no subkey c' hive key sample 'c\k9\x'
 try 'key: none further down' 1 'refused 17 at 0' 'ControlSet001\Services has no subkey Event' hive key sample 'ControlSet001\Services\Event\Application'
+# The key that is named is counted up to the root; where its parent fields do not agree with the path less is said, and nothing is searched again.
+try 'key: none below keys of one name' 1 'refused 17 at 0' ': n\n\n has no subkey x (see' hive key deep 'n\n\n\x\y'
+try 'key: none, and no way up' 1 'refused 17 at 0' 'there is no such key, in key (at 912) (see' hive key own-parent "$application\\$(printf '\303\251')\x"
+try 'key: none, and a way up that is not the way down' 1 'refused 17 at 0' 'there is no such key, in key \n (at 328) (see' hive key liar 'n\n\n\x'
 try 'key: a path of a machine' 1 'refused 17 at 0' "a path starts below the hive's own root" hive key sample 'HKLM\SYSTEM\ControlSet001'
 try 'key: a long path of a machine' 1 'refused 17 at 0' "a path starts below the hive's own root" hive key sample '\hkey_local_machine\SYSTEM'
 try 'key: slashes' 1 'refused 17 at 0' 'parts are separated by backslashes' hive key sample ControlSet001/Services
