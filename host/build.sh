@@ -8,9 +8,9 @@ out=$top/target/host
 library=$top/target/staticlib/libhive_c.a
 tool_parts=$(cd "$top/host" && for part in *.c; do echo "${part%.c}.o"; done)
 
-# compile SOURCE OBJECT
+# compile SOURCE OBJECT [FLAG]
 compile() {
-    "$tools/bin/clang" --target=x86_64-unknown-linux-gnu -isystem "$top/host/kit" -I "$top/include" -I "$out" -std=c11 -O2 -Wall -Wextra -Werror -fPIE -c "$1" -o "$2"
+    "$tools/bin/clang" --target=x86_64-unknown-linux-gnu -isystem "$top/host/kit" -I "$top/include" -I "$out" -std=c11 -O2 -Wall -Wextra -Werror -fPIE ${3:+"$3"} -c "$1" -o "$2"
 }
 
 # link PROGRAM OBJECT.., all of them in $out

@@ -47,10 +47,18 @@ int export_next(void *of, Bytes *piece)
     return GOOD;
 }
 
+/* The same, as long as all of them are not past the bound. */
+static int bounded_next(void *of, Bytes *piece)
+{
+    Export *x = of;
+    int status = export_next(x, piece);
+    return status == GOOD && x->bytes > x->bound ? past_bound(x->h, x->bound) : status;
+}
+
 static int to_file(const char *path, Export *x)
 {
     work_starts("exporting frames", 0);
-    int status = pieces_new(path, export_next, x);
+    int status = pieces_new(path, bounded_next, x);
     work_ends();
     return status;
 }
@@ -58,8 +66,8 @@ static int to_file(const char *path, Export *x)
 static int to_output(FILE *to, Export *x)
 {
     Bytes piece;
-    int status = export_next(x, &piece);
-    for (; status == GOOD && piece.length > 0; status = export_next(x, &piece))
+    int status = bounded_next(x, &piece);
+    for (; status == GOOD && piece.length > 0; status = bounded_next(x, &piece))
         if (put_output(to, piece) != GOOD)
             return TROUBLE;
     return status;
@@ -106,8 +114,10 @@ int export_verb(const Order *o)
         status = read_hive(o, o->words[0], &h);
     if (status == GOOD)
         status = export_begin(&h, &x);
-    if (status == GOOD)
-        status = to == NULL ? to_file(out, &x) : to_output(to, &x);
+    if (status != GOOD)
+        return status;
+    x.bound = bound_of(o, &h);
+    status = to == NULL ? to_file(out, &x) : to_output(to, &x);
     if (status == GOOD && out != NULL)
         tell(&x);
     return status;

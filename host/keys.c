@@ -6,6 +6,9 @@
 /* A tree has levels 0 to 512, so at most 513 keys are open at once; the cursor has three words for each. */
 enum { OPEN_MOST = LEVELS + 1, WORDS = 3 * OPEN_MOST };
 
+/* Room for any one line: 512 names of 255 characters, each twice and in JSON, where one has 15 bytes. So it is known how long each is. */
+static char line[1 << 21];
+
 /* The names on the way from the root, whose own is left out, to the key that opened last. */
 static Name way[LEVELS];
 
@@ -20,7 +23,7 @@ static void show(const Hive *h, uint32_t key, size_t level)
 }
 
 /* What is below a key that lies on a level: it is open already. */
-static int walk(const Hive *h, uint32_t key, size_t level)
+static int walk(const Hive *h, uint32_t key, size_t level, uint64_t bound)
 {
     static uint32_t levels[WORDS];
     levels[0] = key;
@@ -36,11 +39,13 @@ static int walk(const Hive *h, uint32_t key, size_t level)
         way[level + depth - 2] = (Name){h->bytes.at + w.name, w.length, w.narrow == 1};
         show(h, w.answer.value, level + depth - 1);
         work_did(++done);
+        if (said_bytes() > bound)
+            return past_bound(h, bound);
     }
 }
 
 /* In a hive that was accepted every key's parent fields lead to the root. On a terminal the lines themselves show how far it is. */
-static int list(const Hive *h, uint32_t key, uint64_t of)
+static int list(const Order *o, const Hive *h, uint32_t key, uint64_t of)
 {
     Name up[LEVELS];
     int level = climb(h, key, up);
@@ -50,8 +55,9 @@ static int list(const Hive *h, uint32_t key, uint64_t of)
         way[i] = up[level - 1 - i];
     if (!isatty(1))
         work_starts("listing keys", of);
+    setvbuf(stdout, line, _IOFBF, sizeof line);
     show(h, key, (size_t)level);
-    int status = walk(h, key, (size_t)level);
+    int status = walk(h, key, (size_t)level, bound_of(o, h));
     work_ends();
     return status;
 }
@@ -72,5 +78,5 @@ int keys_verb(const Order *o)
     if (r.answer.number != 0)
         return refusal(&h, r.answer, NULL);
     HiveAnswer a = hive_find_key(h.bytes.at, h.bytes.length, path.units.at, path.units.length);
-    return a.number != 0 ? refusal(&h, a, &path) : list(&h, a.value, path.units.length == 0 ? r.keys : 0);
+    return a.number != 0 ? refusal(&h, a, &path) : list(o, &h, a.value, path.units.length == 0 ? r.keys : 0);
 }

@@ -5,7 +5,7 @@
 
 #include "host.h"
 
-enum { LOG = 1, JSON = 2, WIDE = 4, NTH = 8, DRY_RUN = 16, BACKUP = 32, ANYWAY = 64, GROW = 128, PREFIX = 256, UTF8 = 512, DESCRIPTOR = 1024, NO_END = 1 << 30 };
+enum { LOG = 1, JSON = 2, WIDE = 4, NTH = 8, DRY_RUN = 16, BACKUP = 32, ANYWAY = 64, GROW = 128, PREFIX = 256, UTF8 = 512, DESCRIPTOR = 1024, ANY_LENGTH = 2048, NO_END = 1 << 30 };
 
 static const struct {
     const char *name, *wants;
@@ -16,11 +16,11 @@ static const struct {
     {"check", "FILE..", 1, NO_END, LOG | GROW | JSON, check_verb},
     {"key", "FILE PATH", 2, 2, LOG | GROW | JSON | WIDE, key_verb},
     {"ls", "FILE [PATH]", 1, 2, LOG | GROW | JSON | WIDE, list_verb},
-    {"keys", "FILE [PATH]", 1, 2, LOG | GROW | JSON, keys_verb},
+    {"keys", "FILE [PATH]", 1, 2, LOG | GROW | JSON | ANY_LENGTH, keys_verb},
     {"value", "FILE PATH NAME [OUT]", 3, 4, LOG | GROW | JSON | NTH, value_verb},
-    {"export", "FILE [OUT]", 1, 2, LOG | GROW | JSON, export_verb},
+    {"export", "FILE [OUT]", 1, 2, LOG | GROW | JSON | ANY_LENGTH, export_verb},
     {"build", "FRAMES OUT", 2, 2, DESCRIPTOR | JSON, build_verb},
-    {"reg", "FILE [PATH]", 1, 2, LOG | GROW | PREFIX | UTF8, reg_verb},
+    {"reg", "FILE [PATH]", 1, 2, LOG | GROW | PREFIX | UTF8 | ANY_LENGTH, reg_verb},
     {"deleted", "FILE", 1, 1, LOG | GROW | JSON, deleted_verb},
     {"repair", "FILE LOG [LOG2]", 2, 3, GROW | JSON | DRY_RUN | BACKUP | ANYWAY, repair_verb},
     {"explain", "N", 1, 1, 0, explain_verb},
@@ -34,7 +34,7 @@ static const struct {
 } OPTIONS[] = {
     {"--log", "a LOG", LOG}, {"--json", NULL, JSON}, {"-l", NULL, WIDE}, {"--nth", "a number", NTH},
     {"--dry-run", NULL, DRY_RUN}, {"--backup", "a COPY", BACKUP}, {"--anyway", NULL, ANYWAY}, {"--grow", NULL, GROW},
-    {"--prefix", "a KEY", PREFIX}, {"--utf8", NULL, UTF8}, {"--descriptor", "a FILE", DESCRIPTOR},
+    {"--prefix", "a KEY", PREFIX}, {"--utf8", NULL, UTF8}, {"--descriptor", "a FILE", DESCRIPTOR}, {"--any-length", NULL, ANY_LENGTH},
 };
 enum { OPTION_COUNT = sizeof OPTIONS / sizeof OPTIONS[0] };
 
@@ -65,6 +65,7 @@ static int take(Order *o, unsigned bit, const char *word)
     o->anyway |= bit == ANYWAY;
     o->grow |= bit == GROW;
     o->utf8 |= bit == UTF8;
+    o->any_length |= bit == ANY_LENGTH;
     if (bit == BACKUP)
         o->backup = word;
     if (bit == PREFIX)

@@ -10,13 +10,14 @@ enum { LINE_MOST = 77, NAME_MOST = 510 }; /* characters before a continuation; b
 /* WIDE: UTF-16LE with its mark, as regedit writes it. PLAIN: UTF-8. SHOWN: that, with what is hidden as codes. */
 enum Form { WIDE, PLAIN, SHOWN };
 
-/* column: how many characters, counted as units, the line has. in_key: the empty line behind a key is still to come. */
+/* column: how many characters, counted as units, the line has. bytes: how many were written, and how many may be. in_key: the empty line behind a key is still to come. */
 static struct {
     FILE *to;
     const char *file;
     Name prefix;
     enum Form form;
     size_t column;
+    uint64_t bytes, bound;
     bool in_key, left_out, untold, replaced;
 } text;
 
@@ -32,6 +33,7 @@ static void put_unit(uint32_t unit)
 {
     fputc((int)(unit & 0xff), text.to);
     fputc((int)(unit >> 8), text.to);
+    text.bytes += 2;
 }
 
 static void put_wide(uint32_t c)
@@ -39,6 +41,12 @@ static void put_wide(uint32_t c)
     if (c >= 0x10000)
         put_unit(0xd800 + ((c - 0x10000) >> 10));
     put_unit(c >= 0x10000 ? 0xdc00 + ((c - 0x10000) & 0x3ff) : c);
+}
+
+static void put_narrow(uint32_t c)
+{
+    put_utf8(text.to, c);
+    text.bytes += c < 0x80 ? 1 : c < 0x800 ? 2 : c < 0x10000 ? 3 : 4;
 }
 
 /* The escapes of a terminal are those of `ls`: in a key's name they have two backslashes. */
@@ -49,12 +57,13 @@ static void put_code(uint32_t c, enum Style style)
         put_wide(c);
     else if (c >= 0xd800 && c < 0xe000) {
         text.replaced = true;
-        put_utf8(text.to, 0xfffd);
+        put_narrow(0xfffd);
     } else if (text.form == SHOWN && is_hidden(c)) {
         fputs(style == KEY_NAME ? "\\" : "", text.to);
         put_escape(text.to, c);
+        text.bytes += (style == KEY_NAME) + (c < 0x100 ? 4 : 6);
     } else
-        put_utf8(text.to, c);
+        put_narrow(c);
 }
 
 static void put_text(const char *words)
@@ -70,7 +79,7 @@ static void end_line(void)
     if (text.form == WIDE)
         put_unit('\n');
     else
-        fputc('\n', text.to);
+        put_narrow('\n');
     text.column = 0;
 }
 
@@ -244,17 +253,25 @@ static void put_frame(uint32_t kind, uint8_t *payload, size_t length)
         put_key_line();
 }
 
+static int put_piece(const Hive *h, Bytes piece)
+{
+    for (size_t i = 0, length; i < piece.length; i += 6 + length) {
+        length = word_at(piece.at + i);
+        put_frame(piece.at[i + 4], piece.at + i + 6, length);
+        if (text.bytes > text.bound)
+            return past_bound(h, text.bound);
+    }
+    return GOOD;
+}
+
 static int put_frames(Export *x)
 {
     Bytes piece;
     int status = export_next(x, &piece);
-    for (; status == GOOD && piece.length > 0; status = export_next(x, &piece)) {
-        for (size_t i = 0, length; i < piece.length; i += 6 + length) {
-            length = word_at(piece.at + i);
-            put_frame(piece.at[i + 4], piece.at + i + 6, length);
-        }
-        if (ferror(text.to))
-            break;
+    while (status == GOOD && piece.length > 0 && !ferror(text.to)) {
+        status = put_piece(x->h, piece);
+        if (status == GOOD)
+            status = export_next(x, &piece);
     }
     if (fflush(text.to) != 0 || ferror(text.to))
         return trouble("standard output", "it cannot be written");
@@ -332,5 +349,6 @@ int reg_verb(const Order *o)
         status = export_begin(&h, &x);
     if (status == GOOD)
         status = go_below(&x, &path);
+    text.bound = bound_of(o, &h);
     return status == GOOD ? put_all(&x) : status;
 }

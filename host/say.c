@@ -1,5 +1,6 @@
 /* Answers on standard output, each one line: words, or a JSON object. Messages on standard error. */
 #include <stdarg.h>
+#include <stdio_ext.h>
 #include <string.h>
 
 #include "host.h"
@@ -7,6 +8,7 @@
 /* replaced: something that no JSON string can hold stands in this object as U+FFFD. */
 static struct {
     bool json, many, replaced;
+    uint64_t bytes;
 } shape;
 
 void say_as(bool json, bool many)
@@ -153,7 +155,14 @@ void say_end(void)
     if (shape.json)
         fputs(shape.replaced ? ",\"replaced\":true}" : "}", stdout);
     putchar('\n');
+    shape.bytes += __fpending(stdout);
     fflush(stdout);
+}
+
+/* How many bytes the lines have that were said: exact where standard output has a buffer that holds each of them whole. */
+uint64_t said_bytes(void)
+{
+    return shape.bytes;
 }
 
 void note(const char *file, const char *words)

@@ -488,6 +488,51 @@ static void write_wide(void)
     write_file("wide", m.file, made_length(&m));
 }
 
+/* So many keys with one value list, and so many values in it with the same data: the tree is far longer than the file. */
+static void write_shared(const char *name, int count, int each, size_t length)
+{
+    static uint8_t data[1 << 20];
+    uint32_t keys[64], values[64];
+    Made m = made((length + length / 16344 * 32 + 16384) / 4096 * 4096, 5);
+    m.root = new_key(&m, "R", 0);
+    for (int i = 0; i < each; i++) {
+        values[i] = new_value(&m, (char[]){(char)('A' + i / 8), (char)('A' + i % 8), 0}, 3, data, i == 0 ? length : 0);
+        if (i > 0)
+            memcpy(data_of(&m, values[i]) + 4, data_of(&m, values[0]) + 4, 8);
+    }
+    for (int i = 0; i < count; i++)
+        keys[i] = new_key(&m, (char[]){(char)('A' + i / 8), (char)('A' + i % 8), 0}, m.root);
+    hang_values(&m, keys[0], values, (size_t)each);
+    for (int i = 1; i < count; i++)
+        memcpy(data_of(&m, keys[i]) + 36, data_of(&m, keys[0]) + 36, 8);
+    hang_keys(&m, m.root, new_leaf(&m, "lh", keys, (size_t)count), (uint32_t)count);
+    finish(&m);
+    write_file(name, m.file, made_length(&m));
+}
+
+/* Keys with paths that are far longer than their records: many below a chain of the longest names. */
+static void write_paths(void)
+{
+    enum { DEPTH = 200, COUNT = 300 };
+    static uint32_t keys[COUNT];
+    char long_name[256] = "", name[8];
+    memset(long_name, '.', 255);
+    Made m = made(30 * 4096, 5);
+    uint32_t key = m.root = new_key(&m, "R", 0);
+    for (int i = 0; i < DEPTH; i++) {
+        uint32_t child = new_key(&m, long_name, key);
+        hang_keys(&m, key, new_leaf(&m, "lh", &child, 1), 1);
+        key = child;
+    }
+    for (int i = 0; i < COUNT; i++) {
+        snprintf(name, sizeof name, "k%03d", i);
+        keys[i] = new_key(&m, name, key);
+    }
+    hang_keys(&m, key, new_leaf(&m, "lh", keys, COUNT), COUNT);
+    finish(&m);
+    write_file("paths", m.file, made_length(&m));
+}
+
 static void write_trees(void)
 {
     write_hint();
@@ -496,6 +541,9 @@ static void write_trees(void)
     write_chain("chain", 513);
     write_reg();
     write_wide();
+    write_shared("shared", 20, 20, 16000);
+    write_shared("shared-much", 36, 36, 1 << 20);
+    write_paths();
 }
 
 int main(int count, char **words)
