@@ -1,6 +1,6 @@
 /* fuzz TOOL KEEP SEED SECONDS FILE..: runs the tool with spoilt files and random words until the seconds are over (0: once, and says what was run). A run is
- * made of its seed alone, and the next has the next seed. One that ends by a signal, or with a status that the tool does not have, is told with its seed, and
- * its files are kept in KEEP/SEED. The last line is how many runs there were. Started in a folder of its own; the FILEs are hives, logs and frames. */
+ * made of its seed alone, and the next has the next seed. One that ends by a signal, with a status that the tool does not have, or with 2 and not a word, is told
+ * with its seed, and its files are kept in KEEP/SEED. The last line is how many runs there were. Started in a folder of its own; the FILEs are hives, logs and frames. */
 #include <errno.h>
 #include <fcntl.h>
 #include <signal.h>
@@ -122,13 +122,20 @@ static enum Kind kind_of(const Seed *s)
     return get32(s->at + 28) != 0 ? LOG : get32(s->at + 4) != get32(s->at + 8) ? TORN : HIVE;
 }
 
-/* A file, one of the seeds and mostly of that kind: as it is, or spoilt. */
+/* One of the seeds, mostly of that kind. */
+static const Seed *pick(enum Kind kind)
+{
+    const Seed *s = &seeds[dice((uint32_t)seed_count)];
+    for (int i = 0; i < 60 && kind_of(s) != kind; i++)
+        s = &seeds[dice((uint32_t)seed_count)];
+    return s;
+}
+
+/* A file of that kind: as it is, or spoilt. */
 static void make_file(const char *name, enum Kind kind)
 {
     static uint8_t room[MOST];
-    const Seed *from = &seeds[dice((uint32_t)seed_count)];
-    for (int i = 0; i < 60 && kind_of(from) != kind; i++)
-        from = &seeds[dice((uint32_t)seed_count)];
+    const Seed *from = pick(kind);
     Seed s = {room, from->length};
     memset(room, 0, sizeof room);
     memcpy(room, from->at, from->length);
@@ -161,7 +168,7 @@ static void add_path(void)
 {
     static const char *const paths[] = {
         "", "\\", "a", "A\\k1", "a\\k9", "a\\k7\\x", "ControlSet001\\Services\\EventLog\\Application\\Print", "ControlSet001\\Services\\EventLog\\Application\\Bin\\x", "@", "@\\\\\\ud83dg",
-        "n\\n\\n\\x", "kinds", "names", "bytes\\24", "HKLM\\SYSTEM", "a/b", "a\\", "\\\\x07", "\\\\x5c", "\\\\ud83d", "\xc3\xa9" "diteur",
+        "n\\n\\n\\x", "kinds", "names", "bytes\\24", "HKLM\\SYSTEM", "a/b", "a\\", "\\\\x07", "\\\\x5c", "\\\\ud83d", "\303\251diteur",
     };
     if (dice(5) == 0)
         add_bytes(dice(4) == 0 ? LENGTH - 1 : 40);
@@ -246,7 +253,7 @@ static void make_words(void)
     for (uint32_t n = dice(4); n > 0; n--)
         add_option(verb[2]);
     add_words(verb[1]);
-    while (dice(12) == 0)
+    if (dice(12) == 0)
         add_option(verb[2]);
 }
 
@@ -285,7 +292,7 @@ static void clear(void)
 /* The run of a seed: how the tool ended. */
 static int run_one(const char *tool, uint64_t seed)
 {
-    int status;
+    int status = 0;
     state = seed * 0x9e3779b97f4a7c15u + 0x2545f4914f6cdd1du;
     dice(1);
     clear();
@@ -302,14 +309,19 @@ static int run_one(const char *tool, uint64_t seed)
     return status;
 }
 
+static void put_word(FILE *to, const char *word)
+{
+    fputs(" '", to);
+    for (const char *c = word; *c != 0; c++)
+        fprintf(to, *c < 0x20 || *c == 0x7f || *c == '\'' ? "\\%03o" : "%c", (unsigned char)*c);
+    fputc('\'', to);
+}
+
 static void put_words(FILE *to)
 {
-    for (int i = 0; i < word_count; i++) {
-        fputs(i == 0 ? "hive '" : " '", to);
-        for (const char *c = words[i]; *c != 0; c++)
-            fprintf(to, *c < 0x20 || *c == 0x7f || *c == '\'' ? "\\%03o" : "%c", (unsigned char)*c);
-        fputc('\'', to);
-    }
+    fputs("hive", to);
+    for (int i = 0; i < word_count; i++)
+        put_word(to, words[i]);
     fputc('\n', to);
 }
 
@@ -335,9 +347,13 @@ static void keep(const char *folder, uint64_t seed)
     fclose(to);
 }
 
+/* One of the five statuses; and 2 with a word on standard error. */
 static bool is_good(int status)
 {
-    return WIFEXITED(status) && WEXITSTATUS(status) <= 4;
+    struct stat errors;
+    if (!WIFEXITED(status) || WEXITSTATUS(status) > 4)
+        return false;
+    return WEXITSTATUS(status) != 2 || (stat("stderr", &errors) == 0 && errors.st_size > 0);
 }
 
 /* Whether the run is one to tell of. */
@@ -357,16 +373,23 @@ static bool judge(const char *folder, uint64_t seed, int status)
     return true;
 }
 
+static void read_seeds(char **paths, size_t count)
+{
+    seed_count = count;
+    seeds = calloc(count, sizeof *seeds);
+    if (seeds == NULL)
+        die("seeds");
+    for (size_t i = 0; i < count; i++)
+        read_seed(paths[i], &seeds[i]);
+}
+
 int main(int count, char **given)
 {
     if (count < 6)
         return 2;
     uint64_t seed = strtoull(given[3], NULL, 10), runs = 0, failed = 0, ends[6] = {0};
     time_t end = time(NULL) + strtol(given[4], NULL, 10);
-    seed_count = (size_t)count - 5;
-    seeds = calloc(seed_count, sizeof *seeds);
-    for (size_t i = 0; seeds != NULL && i < seed_count; i++)
-        read_seed(given[5 + i], &seeds[i]);
+    read_seeds(given + 5, (size_t)count - 5);
     bool once = strcmp(given[4], "0") == 0;
     do {
         int status = run_one(given[1], seed);

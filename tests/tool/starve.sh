@@ -1,10 +1,14 @@
 # No memory: each allocation of a run fails in turn, alone or with all behind it, the C library's own too. The run ends with status 2 and a line on standard
-# error; or, where it did without, as ever. A new file is there whole or not at all.
+# error; or, where it did without, as ever. A new file is there whole or not at all, and a hive to repair is as it was or repaired.
 
 hive_starved() { HIVE_STARVED=starved HIVE_STARVE=$k run "$out/hive-starve" "$@"; }
 hive_starved_from() { HIVE_FROM=1 hive_starved "$@"; }
 
 # as_ever: what the last run did is what it does with memory
+# unharmed: what may be there of the files that it writes
+unharmed() {
+    [ "$(echo new.part*)" = 'new.part*' ] && { [ ! -e new ] || cmp -s new usual-new; } && { [ ! -e torn.kept ] || cmp -s torn torn.kept || cmp -s torn torn.usual; }
+}
 as_ever() { [ "$status" = "$usual" ] && cmp -s stdout stdout.usual && cmp -s stderr stderr.usual && { [ ! -e usual-new ] || cmp -s new usual-new; }; }
 
 # one HOW WORD..: allocation k fails. Wrong is what ends otherwise than it may.
@@ -17,7 +21,7 @@ one() {
     [ -e starved ] || return 0
     runs=$((runs + 1))
     if as_ever; then return; fi
-    if [ "$status" = 2 ] && grep -q '^hive: ' stderr && [ "$(echo new.part*)" = 'new.part*' ] && { [ ! -e new ] || cmp -s new usual-new; }; then return; fi
+    if [ "$status" = 2 ] && grep -q '^hive: ' stderr && unharmed; then return; fi
     wrong="$wrong $how $k: status $status;"
 }
 
@@ -28,6 +32,7 @@ starve() {
     [ ! -e torn.kept ] || cp torn.kept torn
     hive_starved "$@" >stdout.usual 2>stderr.usual || usual=$?
     [ ! -e new ] || mv new usual-new
+    [ ! -e torn.kept ] || cp torn torn.usual
     while k=$((k + 1)) && one hive_starved "$@" && [ -e starved ]; do
         one hive_starved_from "$@"
     done
@@ -37,7 +42,7 @@ starve() {
 rm -f torn.kept usual-new
 notation='@\\\ud83dg'
 for json in '' --json; do
-    for words in 'check sample' 'check minimal cut nothing' 'check --log log spoilt' 'check --log new-log1 --log new-log2 spoilt' 'check --grow --log new-log-grown spoilt-short' \
+    for words in 'check sample' 'check /proc/version' 'check minimal cut nothing' 'check --log log spoilt' 'check --log new-log1 --log new-log2 spoilt' 'check --grow --log new-log-grown spoilt-short' \
         'check own-parent' 'key -l sample a' 'key sample a\k9' "key notation $notation" 'key cut a' 'ls sample a' 'ls -l notation @' 'ls names' 'ls bad-key' 'keys notation' \
         'keys bad-key' 'keys sample nobody' "value sample $print Large new" "value sample $print Several" 'value --nth 2 names \ a\x0ab' 'value names \ a\x0aB' 'export sample new' \
         'export sample' 'export bad-key new' 'export bad-key' 'build sample.frames new' 'build log new' 'build --descriptor log sample.frames new' 'deleted left' \
@@ -54,4 +59,4 @@ for json in '' --json; do
     starve repair $json torn new-log1 new-log2
     starve repair $json torn short-log
 done
-rm -f torn.kept torn new
+rm -f torn torn.* new usual-new starved
