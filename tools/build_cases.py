@@ -12,11 +12,11 @@ UTF-16LE. Then the descriptor's length (8): byte i of it is i mod 251, or 0 in o
 import os
 import re
 import struct
-import sys
 import zlib
 
 import build
 import hives
+import usage
 from build import NONE
 from hives import BASE, DATA_MOST, KEY_CLOSES, KEY_OPENS, KEY_VALUE, SEGMENT, framed, name_bytes, units
 
@@ -355,4 +355,4 @@ def main(path):
     print("%d cases in %d bytes" % (len(seen), len(out)))
 
 
-main(sys.argv[1])
+main(*usage.words(__doc__, "FILE"))

@@ -8,6 +8,7 @@ import os
 import struct
 
 import hives
+import usage
 from hives import BASE, Builder, Key, Refused, Value, changed, edited, entry, new_log, old_log, torn, u32, with_xor
 
 LONGEST = 20480
@@ -1321,4 +1322,5 @@ def main():
 
 
 if __name__ == "__main__":
+    usage.words(__doc__)
     main()

@@ -8,6 +8,9 @@ import struct
 
 import frames
 import hives
+import usage
+
+usage.words(__doc__)
 
 SECTOR = 512
 orders, lines = bytearray(), []

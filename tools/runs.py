@@ -6,6 +6,7 @@ import os
 import struct
 
 import hives
+import usage
 from hives import BASE, Builder, Item, Key, Refused, Value, u32
 
 orders, lines = bytearray(), []
@@ -491,4 +492,5 @@ def main():
 
 
 if __name__ == "__main__":
+    usage.words(__doc__)
     main()

@@ -4,9 +4,9 @@ impossible size; CUT, a file that ends early; DELETED, whose key `gone` and its 
 not: a descriptor in the security item, and a mark on the root. Standard library only."""
 import os
 import struct
-import sys
 
 import hives
+import usage
 
 NONE = 0xFFFFFFFF
 WRITTEN = 0x01DA6B2F00000000  # 2024-02-29 16:47:36 UTC
@@ -74,4 +74,4 @@ def main(folder):
             file.write(data)
 
 
-main(sys.argv[1])
+main(*usage.words(__doc__, "FOLDER"))

@@ -48,11 +48,9 @@ try 'value: an empty string among them' 0 "$(printf 'a\n\nb')" '' hive value tex
 try 'value: the last without its end' 0 "$(printf 'a\nb')" '' hive value texts '' open
 try 'value: a byte too many' 0 "$(printf 'a\nb\nff')" 'the last byte of the data is no part of a string' hive value texts '' odd
 try 'value: no string' 0 '' '' hive value texts '' none
-lines() { hive "$@" | wc -l | tr -d ' '; }
 try 'value: no string is no line' 0 0 '' lines value texts '' none
 try 'value: an empty string is a line' 0 1 '' lines value texts '' empty
 try 'value: text that gives orders, to a pipe' 0 "$(printf '\033c')" '' hive value texts '' order
-on_terminal() { HIVE_TERMINAL=1 hive_cut "$@"; }
 try 'value: text that gives orders, to a terminal' 0 '\x1bc' '' on_terminal value texts '' order
 try 'value: half of a pair' 0 '\ud83d!' '' hive value texts '' half
 try 'value: json' 0 '{"file":"sample","answer":"data","type":"REG_MULTI_SZ","length":18,"hex":"6f006e0065000000740077006f0000000000","strings":["one","two"]}' '' hive value --json sample "$print" Several
@@ -97,7 +95,6 @@ try 'value: no such folder' 2 '' 'No such file' hive value sample "$print" Large
 same 'reading changes nothing' sample sample.before
 
 rm -f trace
-traced() { HIVE_TRACE=trace hive_cut "$@" >/dev/null; }
 traced check sample
 traced key sample a
 traced ls --json sample a

@@ -52,7 +52,8 @@ sums() { (cd "$box" && sed '1,/^$/d' PROVENANCE | sha256sum -c --quiet); }
 right 'release: PROVENANCE has the sum of each file' sums
 right 'release: PROVENANCE has every file' [ "$(cd "$box" && find . -type f ! -name PROVENANCE | wc -l)" = "$(sed '1,/^$/d' "$box/PROVENANCE" | wc -l)" ]
 right 'release: PROVENANCE quotes the proof' grep -qxF "proof (rt ci): $(tail -n 1 "$proof")" "$box/PROVENANCE"
-right 'release: PROVENANCE quotes an axiom' grep -qF "$(grep '^axioms ' "$proof" | head -n 1)" "$box/PROVENANCE"
+axiom=$(grep -m 1 '^axioms ' "$proof") || axiom='' # a log without an axiom has nothing to quote, and does not pass
+right 'release: PROVENANCE quotes an axiom' sh -c '[ -n "$1" ] && grep -qF "$1" "$2"' - "$axiom" "$box/PROVENANCE"
 right 'release: PROVENANCE names the kit' grep -qxF "kit: $(rt version)" "$box/PROVENANCE"
 if commit=$(git -C "$top" rev-parse HEAD 2>/dev/null); then
     right 'release: PROVENANCE names the commit' grep -qE "^commit: $commit(, with changes that are not committed)?\$" "$box/PROVENANCE"

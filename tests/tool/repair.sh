@@ -1,8 +1,5 @@
 # Repair: what is written, when, and what is told.
 
-sound=$(hive check sample)
-done_line=$(printf 'repaired 8\n%s' "$sound")
-clean_line=$(printf 'clean\n%s' "$sound")
 cp spoilt file
 try 'repair: dry run' 0 "$(printf 'would repair 8\n%s' "$sound")" '' hive repair --dry-run file log
 same 'repair: a dry run changes nothing' file spoilt
@@ -24,7 +21,6 @@ try 'repair: an empty log' 1 'refused 21 at 0' 'empty: the start of the log' hiv
 same 'repair: a refusal changes nothing' file spoilt
 
 # A log whose pages hold a broken tree.
-unsound=$(printf 'would repair 8\nrefused 9 at 0')
 try 'repair: not sound, dry run' 3 "$unsound" 'the header of a bin is wrong' hive repair --dry-run --anyway file bad-log
 try 'repair: not sound' 3 "$unsound" 'nothing was written: the repaired hive would be refused so' hive repair --backup none file bad-log
 right 'repair: not sound, no backup' [ ! -e none ]
