@@ -31,7 +31,10 @@ same 'release: by its own proof, the same bytes' "made1/$made.tar.gz" "made4/$ma
 # What is not proved is not made.
 mkdir made3
 made_nothing() { right "release: $1, nothing was made" [ -z "$(ls -A made3)" ]; }
-unproven() { PATH=$PWD/prover:$PATH sh "$top/release" "$@"; }
+mkdir unable
+printf '%s\n' '#!/bin/sh' 'echo error: it is not proved' 'exit 1' >unable/rt
+chmod +x unable/rt
+unproven() { PATH=$PWD/unable:$PATH sh "$top/release" "$@"; }
 try 'release: a proof that fails' 2 '' 'it is not proved, and nothing was made' unproven made3
 made_nothing 'a proof that fails'
 sed '1s/.$/x/' "$proof" >proof-of-other
