@@ -177,6 +177,33 @@ pub fn compare_name(s: &[u8], narrow: bool, name: &[u16]) -> Order
     }
 }
 
+// Two given names, in UTF-16 units, by the same comparison: for whoever sorts names, or looks for one among those that a listing gave.
+pub fn compare_units(a: &[u16], b: &[u16]) -> Order
+    ensures { λ r. ⌜ r ≡ compare (now (a .entry)) (now (b .entry)) ⌝ }
+{
+    let shared = lesser(a.len(), b.len());
+    let mut i = 0;
+    while i < shared {
+        let x = upper(a[i]);
+        let y = upper(b[i]);
+        if x < y {
+            return Order::Before;
+        }
+        if y < x {
+            return Order::After;
+        }
+        i += 1;
+    }
+    if i < a.len() {
+        return Order::After;
+    }
+    if i < b.len() {
+        Order::Before
+    } else {
+        Order::Same
+    }
+}
+
 // Whether a stored name is the given one, by the same comparison.
 pub fn is_named(s: &[u8], narrow: bool, name: &[u16]) -> bool
     ensures { λ r. ⌜ r ≡ sameName (codes narrow (now (s .entry))) (now (name .entry)) ⌝ }
