@@ -37,7 +37,7 @@ module _ (s : List ℕ) (n b : ℕ) (long : length s ≡ 512) where
 
   renewed-version : (type : ℕ) → isVersion (renewed s n b) type ≡ isVersion s type
   renewed-version type =
-      closed.put-version (put32 (put32 s 4 n) 8 n) 40 b (inr (omega arith, omega arith)) type
+      closed.put-version (put32 (put32 s 4 n) 8 n) 40 b (inr (inl (omega arith, omega arith))) type
       ∙ closed.put-version (put32 s 4 n) 8 n (inl (omega arith)) type ∙ closed.put-version s 4 n (inl (omega arith)) type
 
   renewed-bins : b < 4294967296 → binsOf (renewed s n b) ≡ b

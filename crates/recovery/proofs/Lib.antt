@@ -8,3 +8,4 @@ pub mod Small
 pub mod Asked
 pub mod AtOnce
 pub mod Refusals
+pub mod Settles

@@ -19,6 +19,7 @@ ghost use Rattle.logs.specs.Logs.{readOf, headFault, logFault, loggedCount, cou
 ghost use Rattle.recovery.specs.Steps.{begunBy};
 ghost use Rattle.recovery.specs.Calls.{hiveFault, testFault, started, startAnswer, installed, closed, changed, pageAnswer, pageHive, closeAnswer, closeHive, nextOf, nextAnswer};
 ghost use Rattle.recovery.specs.AtOnce.{allAnswer, allHive, markOf, markAnswer, markedAnswer, markedMap, factsAnswer};
+ghost use Rattle.recovery.specs.Settling.{settleAnswer, settleHive};
 
 pub enum Started {
     // The hive needs no repair.
@@ -277,5 +278,23 @@ pub fn log_facts(log: &[u8]) -> LogFacts
     match logs::log_test(log) {
         Tested::Flawed(f) => LogFacts::Refused(fields::refused(Offset(fields::NO_KEY), f)),
         Tested::Logged { read, counted: _ } => LogFacts::Of(logs::facts_of(log, read)),
+    }
+}
+
+// Without a log: for a dirty hive that is to be read as it is, in private memory. Where 7 is the only fault of 1 to 7 it is clean afterwards.
+pub fn settle(hive: &mut [u8]) -> Stepped
+    ensures { λ r. ⌜ r ≡ settleAnswer (now (hive .entry)) ⌝ }
+    ensures { λ _. ⌜ now (hive .exit) ≡ settleHive (now (hive .entry)) ⌝ }
+{
+    match base::base_flaw(hive) {
+        Verdict::Sound => Stepped::Clean,
+        Verdict::Flawed(f) => {
+            let fault = f.fault;
+            if fault.number() != 7 {
+                return Stepped::Refused(fields::refused(Offset(fields::NO_KEY), f));
+            }
+            sectors::even(&mut hive[0..512]);
+            Stepped::Done
+        }
     }
 }

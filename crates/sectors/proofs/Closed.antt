@@ -21,7 +21,7 @@ use Rattle.sectors.proofs.Words.{put-length, put-take, u32-other, u32-s
 -- ---- the checksum
 
 -- the field at 508 is no part of it
-checksum-put : (s : List ℕ) (v : ℕ) → storedChecksum (put32 s 508 v) ≡ storedChecksum s
+pub checksum-put : (s : List ℕ) (v : ℕ) → storedChecksum (put32 s 508 v) ≡ storedChecksum s
 checksum-put s v = checksum-same (put32 s 508 v) s (λ k h. u32-other s 508 v (k * 4) (inl (omega arith)))
 
 -- ---- the closing sector
@@ -89,19 +89,23 @@ unfolding standsAt
 put-regf s i v h = ap (λ (x : List ℕ). sameBytes x (114 ∷ 101 ∷ 103 ∷ 102 ∷ [])) (put-take s i v 4 h)
 
 -- one that meets none of the fields that a version names
-pub put-version : (s : List ℕ) (i v : ℕ) → (i + 4 ≤ 20) ⊎ ((36 ≤ i) × (i + 4 ≤ 44)) → (type : ℕ) → isVersion (put32 s i v) type ≡ isVersion s type
+pub put-version : (s : List ℕ) (i v : ℕ) → (i + 4 ≤ 20) ⊎ (((36 ≤ i) × (i + 4 ≤ 44)) ⊎ (48 ≤ i)) → (type : ℕ)
+    → isVersion (put32 s i v) type ≡ isVersion s type
 unfolding isVersion
 put-version s i v h type =
-    let w : (j : ℕ) → ((j + 4 ≤ 36) × (20 ≤ j)) ⊎ (44 ≤ j) → u32At (put32 s i v) j ≡ u32At s j = λ j g. u32-other s i v j (apart j g h) in
+    let w : (j : ℕ) → ((j + 4 ≤ 36) × (20 ≤ j)) ⊎ ((44 ≤ j) × (j + 4 ≤ 48)) → u32At (put32 s i v) j ≡ u32At s j = λ j g. u32-other s i v j (apart j g h) in
     let f₂₀ = w 20 (inl (omega arith, omega arith)) in
     let f₂₄ = w 24 (inl (omega arith, omega arith)) in
     let f₂₈ = w 28 (inl (omega arith, omega arith)) in
     let f₃₂ = w 32 (inl (omega arith, omega arith)) in
-    let f₄₄ = w 44 (inr (omega arith)) in
+    let f₄₄ = w 44 (inr (omega arith, omega arith)) in
     λ t. eqb (f₂₀ t) 1 && (leb 3 (f₂₄ t) && (leb (f₂₄ t) 5 && (eqb (f₂₈ t) type && (eqb (f₃₂ t) 1 && eqb (f₄₄ t) 1))))
   where
-    apart : (j : ℕ) → ((j + 4 ≤ 36) × (20 ≤ j)) ⊎ (44 ≤ j) → (i + 4 ≤ 20) ⊎ ((36 ≤ i) × (i + 4 ≤ 44)) → (j + 4 ≤ i) ⊎ (i + 4 ≤ j)
+    apart : (j : ℕ) → ((j + 4 ≤ 36) × (20 ≤ j)) ⊎ ((44 ≤ j) × (j + 4 ≤ 48)) → (i + 4 ≤ 20) ⊎ (((36 ≤ i) × (i + 4 ≤ 44)) ⊎ (48 ≤ i))
+        → (j + 4 ≤ i) ⊎ (i + 4 ≤ j)
     apart j (inl g) (inl h) = inr (omega arith)
-    apart j (inl g) (inr h) = inl (omega arith)
+    apart j (inl g) (inr (inl h)) = inl (omega arith)
+    apart j (inl g) (inr (inr h)) = inl (omega arith)
     apart j (inr g) (inl h) = inr (omega arith)
-    apart j (inr g) (inr h) = inr (omega arith)
+    apart j (inr g) (inr (inl h)) = inr (omega arith)
+    apart j (inr g) (inr (inr h)) = inl (omega arith)

@@ -3,3 +3,4 @@ pub mod Words
 pub mod Closed
 pub mod Pages
 pub mod Logged
+pub mod Settles

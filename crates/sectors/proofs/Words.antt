@@ -42,7 +42,7 @@ put-take s i v n h =
     let h₃ : n ≤ i + 3 = omega arith in
     simp take-set-le
 
-put-other : (s : List ℕ) (i v j : ℕ) → j ≢ i → j ≢ i + 1 → j ≢ i + 2 → j ≢ i + 3 → getD (put32 s i v) j 0 ≡ getD s j 0
+pub put-other : (s : List ℕ) (i v j : ℕ) → j ≢ i → j ≢ i + 1 → j ≢ i + 2 → j ≢ i + 3 → getD (put32 s i v) j 0 ≡ getD s j 0
 put-other s i v j n₀ n₁ n₂ n₃ = simp getD-set-other
 
 -- every number that does not meet it stays

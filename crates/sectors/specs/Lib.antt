@@ -1,3 +1,4 @@
 pub mod Sector
 pub mod Logged
 pub mod Closing
+pub mod Settling

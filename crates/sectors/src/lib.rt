@@ -6,6 +6,7 @@ ghost use Prim.Native.Nat.{_+_, _*_, _≤_, _<_};
 ghost use lib.ListN.{length};
 ghost use Rattle.sectors.specs.Sector.{sectorAt, stored, pagePlace};
 ghost use Rattle.sectors.specs.Closing.{put32, closingSector};
+ghost use Rattle.sectors.specs.Settling.{settledSector};
 
 // Where a page of the bins data lies in the hive.
 pub fn page_place(page: usize) -> Place
@@ -54,4 +55,15 @@ pub fn store_closing(hive: &mut [u8], log: &[u8])
 {
     store(hive, Place(0), log, Place(0));
     seal(&mut hive[0..512]);
+}
+
+// Makes the sequence numbers of a hive's first sector equal: the second becomes the first, then the checksum over what then stands there.
+pub fn even(dst: &mut [u8])
+    requires { ⌜ 512 ≤ length (now dst) ⌝ }
+    ensures { λ _. ⌜ now (dst .exit) ≡ settledSector (now (dst .entry)) ⌝ }
+{
+    let first = fields::u32_at(dst, 4);
+    put_u32(dst, 8, first);
+    let renewed = base::stored_checksum(dst);
+    put_u32(dst, 508, renewed);
 }
