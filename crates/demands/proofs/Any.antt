@@ -22,6 +22,7 @@ use Rattle.recovery.specs.declared.Stepped.the-variants as stepped
 use Rattle.recovery.specs.Calls.{pageAnswer, pageHive, closeAnswer, closeHive}
 use Rattle.recovery.proofs.Refusals.{start-refuses, page-refuses, close-refuses, next-refuses, all-refuses, mark-refuses, marked-refuses, facts-refuses as log-refuses}
 use Rattle.recovery.specs.AtOnce.{allAnswer, allHive, markedAnswer, markedMap}
+use Rattle.recovery.proofs.Settles.{settle-refuses, settle-stays}
 use Rattle.walk.proofs.Refusals.{begin-refuses, step-refuses, begin-stays, step-stays}
 use Rattle.export.proofs.Refusals.{step-refuses as frame-refuses, step-leaves, begin-refuses as export-refuses, begin-leaves, run-refuses, run-leaves}
 use Rattle.answers.proofs.Refusals.{measure-refuses, build-refuses}
@@ -127,6 +128,7 @@ demand1 =
       mark-place = λ l from r e. mark-refuses l from e;
       marked-place = λ l room r e. marked-refuses l room e;
       log-place = λ l r e. log-refuses l e;
+      settle-place = λ h r e. settle-refuses h e;
       copy-stays = λ h us x out r e. refused-untouched InTurn h us x out e;
       quick-copy-stays = λ h us x out r e. refused-untouched Halving h us x out e;
       copy-at-stays = λ h v out r e. copy-at-stays h v out e;
@@ -140,6 +142,7 @@ demand1 =
       page-stays = page-stays;
       close-stays = close-stays;
       all-stays = all-stays;
+      settle-stays = λ h r e. settle-stays h e;
       marked-stays = marked-stays;
       map-untouched = λ h m r e p. map-untouched h m e p;
       map-zero = λ h m r e p q. map-zero h m e p q;

@@ -41,4 +41,6 @@ unique =
       next-mark = λ l from r r′ p q. one p q;
       mark-pages = λ l m a a′ b b′ p q. (one (p .0) (q .0), one (p .1) (q .1));
       log-facts = λ l r r′ p q. one p q;
+      settle = λ h a a′ b b′ p q. (one (p .0) (q .0), one (p .1) (q .1));
+      compare-units = λ a b r r′ p q. one p q;
     }

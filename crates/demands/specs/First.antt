@@ -5,6 +5,7 @@
 -- `subkeyAnswer h o n`, `valueAnswer h o n`, `infoAt h v`, `copyAt h v n`, `factsAnswer h o`, `beginAnswer h ws`, `stepAnswer h ws n`, `stepAnswer h m n room`,
 -- `beginAnswer h m ws` and `runAnswer h ws c room` of an export, `measureAnswer s n` and `buildAnswer s sd room` of a stream, `remnantAnswer h from`,
 -- `rowsAnswer h from n`,
+-- `settleAnswer h`, `compare a b` of two names,
 -- `startAnswer h l`, `pageAnswer h l p`, `closeAnswer h l`, `nextAnswer l from`, `allAnswer h l`, `markAnswer l from`, `markedAnswer l n` and
 -- `factsAnswer l` of a log. These are total functions, so there is an answer. What is left to say is what a refusal is.
 use Prim.Native.Nat.{ℕ, _/_, _≤_}
@@ -65,6 +66,7 @@ use Rattle.recovery.specs.Calls.{startAnswer, pageAnswer, pageHive, closeAnswer
 use Rattle.logs.specs.Refused.{OfHead, OfLog}
 use Rattle.recovery.specs.Refused.{OfStart, OfPage, OfClose, OfMarked}
 use Rattle.recovery.specs.AtOnce.{allAnswer, allHive, markAnswer, markedAnswer, markedMap, factsAnswer as logAnswer}
+use Rattle.recovery.specs.Settling.{settleAnswer, settleHive, OfSettle}
 
 pub record Demand1 : Type 0 where
   -- "A refusal is a number from the listed set": the table has 1 to 27, request 2 adds 28, request 8 adds 29 and request 11 adds 30 to 39
@@ -109,6 +111,7 @@ pub record Demand1 : Type 0 where
   pub mark-place : (l : List ℕ) (from : ℕ) (r : Refusal) → markAnswer l from ≡ mark.Refused r → Keyless (OfHead l) r
   pub marked-place : (l : List ℕ) (room : ℕ) (r : Refusal) → markedAnswer l room ≡ marked.Refused r → Keyless (OfMarked l room) r
   pub log-place : (l : List ℕ) (r : Refusal) → logAnswer l ≡ log.Refused r → Keyless (OfLog l) r
+  pub settle-place : (h : List ℕ) (r : Refusal) → settleAnswer h ≡ stepped.Refused r → Keyless (OfSettle h) r
   -- "It changes no byte of hive or output"
   pub copy-stays : (h us x out : List ℕ) (r : Refusal) → copyAnswer h us x (length out) ≡ copied.Refused r → copyOut h us x out ≡ out
   pub quick-copy-stays : (h us x out : List ℕ) (r : Refusal) → quickCopy h us x (length out) ≡ copied.Refused r → quickOut h us x out ≡ out
@@ -124,6 +127,7 @@ pub record Demand1 : Type 0 where
   pub page-stays : (h l : List ℕ) (p : ℕ) (r : Refusal) → pageAnswer h l p ≡ stepped.Refused r → pageHive h l p ≡ h
   pub close-stays : (h l : List ℕ) (r : Refusal) → closeAnswer h l ≡ stepped.Refused r → closeHive h l ≡ h
   pub all-stays : (h l : List ℕ) (r : Refusal) → allAnswer h l ≡ stepped.Refused r → allHive h l ≡ h
+  pub settle-stays : (h : List ℕ) (r : Refusal) → settleAnswer h ≡ stepped.Refused r → settleHive h ≡ h
   pub marked-stays : (l m : List ℕ) (r : Refusal) → markedAnswer l (length m) ≡ marked.Refused r → markedMap l m ≡ m
   -- "the work map afterwards is the one the list states": "Refusals 1 to 8 leave the map untouched; 9 and 10 leave its first bins size / 64 bytes zero; later
   -- ones leave it complete", as does the check that accepts; and "bytes beyond bins size / 64 stay"

@@ -36,6 +36,9 @@ use Rattle.recovery.specs.declared.Marked.{Marked}
 use Rattle.recovery.specs.declared.LogFacts.{LogFacts}
 use Rattle.recovery.specs.Calls.{startAnswer, pageAnswer, pageHive, closeAnswer, closeHive, nextAnswer}
 use Rattle.recovery.specs.AtOnce.{allAnswer, allHive, markAnswer, markedAnswer, markedMap, factsAnswer as logAnswer}
+use Rattle.recovery.specs.Settling.{settleAnswer, settleHive}
+use Rattle.names.specs.declared.Order.{Order}
+use Rattle.names.specs.Comparison.{compare}
 
 -- a promise that no two outcomes satisfy
 abbrev pub Determines : {A B : Type 0} → (A → B → Type 0) → Type 0
@@ -95,6 +98,9 @@ AllPages h l r after = (r ≡ allAnswer h l) × (after ≡ allHive h l)
 abbrev pub MarkPages : List ℕ → List ℕ → Marked → List ℕ → Type 0
 MarkPages l m r after = (r ≡ markedAnswer l (length m)) × (after ≡ markedMap l m)
 
+abbrev pub Evens : List ℕ → Stepped → List ℕ → Type 0
+Evens h r after = (r ≡ settleAnswer h) × (after ≡ settleHive h)
+
 pub record Unique : Type 0 where
   pub check : (h m : List ℕ) → Determines (Checks h m)
   pub find-key : (h us : List ℕ) (r r′ : KeyFound) → r ≡ findAnswer h us → r′ ≡ findAnswer h us → r ≡ r′
@@ -129,3 +135,5 @@ pub record Unique : Type 0 where
   pub next-mark : (l : List ℕ) (from : ℕ) (r r′ : NextMark) → r ≡ markAnswer l from → r′ ≡ markAnswer l from → r ≡ r′
   pub mark-pages : (l m : List ℕ) → Determines (MarkPages l m)
   pub log-facts : (l : List ℕ) (r r′ : LogFacts) → r ≡ logAnswer l → r′ ≡ logAnswer l → r ≡ r′
+  pub settle : (h : List ℕ) → Determines (Evens h)
+  pub compare-units : (a b : List ℕ) (r r′ : Order) → r ≡ compare a b → r′ ≡ compare a b → r ≡ r′
