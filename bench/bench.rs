@@ -14,6 +14,12 @@ use std::fs::{read, write};
 use std::hint::black_box;
 use std::time::Instant;
 
+// The states of kiweamotu.h that are asked here.
+const THERE: u64 = 4;
+const OPENS: u64 = 6;
+const CLOSES: u64 = 7;
+const WRITTEN: u64 = 8;
+
 #[repr(C)]
 #[derive(Clone, Copy)]
 pub struct HiveAnswer {
@@ -185,7 +191,7 @@ fn rattle(i: &mut Input) -> Outcome {
                 let (l, k) = (i.rows.as_mut_ptr(), i.rows.len());
                 let (out, map) = i.out.split_at_mut(EXPORT_ROOM);
                 let mut e = hive_export_begin(h, n, map.as_mut_ptr(), map.len(), l, k);
-                while e.state == 2 {
+                while e.state == WRITTEN {
                     e = hive_export_run(h, n, l, k, e.depth as usize, e.due as usize, out.as_mut_ptr(), out.len());
                     frames += e.frames as usize;
                     bytes += e.bytes as usize;
@@ -200,8 +206,8 @@ fn rattle(i: &mut Input) -> Outcome {
                 let (mut count, mut sum) = (0, 0usize);
                 let (l, k) = (i.rows.as_mut_ptr(), i.rows.len());
                 let mut w = hive_walk_begin(h, n, l, k);
-                while w.state >= 2 {
-                    let told = if w.state == 2 { w.name ^ w.length ^ w.narrow } else { 0 };
+                while w.state == OPENS || w.state == CLOSES {
+                    let told = if w.state == OPENS { w.name ^ w.length ^ w.narrow } else { 0 };
                     sum = sum.wrapping_mul(37).wrapping_add(w.answer.value as usize ^ told as usize);
                     count += 1;
                     w = hive_walk_step(h, n, l, k, w.depth as usize);
@@ -215,7 +221,7 @@ fn rattle(i: &mut Input) -> Outcome {
             Kind::Repair => {
                 let mut done = 0;
                 let mut p = hive_recover_next(l, k, 0);
-                while p.state == 2 {
+                while p.state == THERE {
                     hive_recover_page(h, n, l, k, p.page as usize);
                     done += 1;
                     p = hive_recover_next(l, k, p.page as usize + 1);

@@ -29,24 +29,15 @@ uint32_t next_code(Name name, size_t *i)
     return 0x10000 + ((c - 0xd800) << 10) + (low - 0xdc00);
 }
 
-/* The library's capitals: a to z and 0xE0 to 0xFE except 0xF7 go 32 down, 0xFF to 0x0178. */
-static uint32_t capital(uint32_t c)
-{
-    if (c == 0xff)
-        return 0x178;
-    return (c >= 'a' && c <= 'z') || (c >= 0xe0 && c <= 0xfe && c != 0xf7) ? c - 32 : c;
-}
-
-/* As the library compares: code by code, as capitals. */
+/* Whether a stored name is the given one, by the library's order. It compares units, and a stored name may have a byte for each: but a
+ * record says with 16 bits how many bytes its name has. */
 bool is_called(Name stored, Units name)
 {
-    size_t i = 0;
-    while (i < name.length && i < unit_count(stored)) {
-        if (capital(unit_at(stored, i)) != capital(name.at[i]))
-            return false;
-        i++;
-    }
-    return i == name.length && i == unit_count(stored);
+    static uint16_t units[1 << 16];
+    size_t count = unit_count(stored);
+    for (size_t i = 0; i < count; i++)
+        units[i] = (uint16_t)unit_at(stored, i);
+    return hive_name_order(units, count, name.at, name.length) == 0;
 }
 
 /* What gives a terminal orders, breaks a line, or changes how the text around it looks: so no file can. Halves of pairs are no characters. */

@@ -82,17 +82,19 @@ enum HiveFault {
     HIVE_FAULT_HIVE_SIZE = 39, /* bins size over the limit */
 };
 
-/* The states: of an answer that goes on or ends, of a walk, of an export, and of a step of the repair. */
+/* The states of all answers, each with a number of its own: refused; nothing is to be done, or it is done; a list or an export has no
+ * more, or something is there; a walk is over, or a key opens or closes; frames were written.
+ */
 enum {
     HIVE_REFUSED = 0,
-    HIVE_NO_MORE = 1,
-    HIVE_THERE = 2,
-    HIVE_OVER = 1,
-    HIVE_OPENS = 2,
-    HIVE_CLOSES = 3,
-    HIVE_WRITTEN = 2,
     HIVE_CLEAN = 1,
     HIVE_DONE = 2,
+    HIVE_NO_MORE = 3,
+    HIVE_THERE = 4,
+    HIVE_OVER = 5,
+    HIVE_OPENS = 6,
+    HIVE_CLOSES = 7,
+    HIVE_WRITTEN = 8,
 };
 
 /* The forms of a value's data. */
@@ -377,8 +379,8 @@ HIVE_ASSERT(offsetof(HiveLog, end) == 40);
 HIVE_ASSERT(offsetof(HiveLog, bins) == 48);
 HIVE_ASSERT(sizeof(HiveLog) == 56);
 
-/* The version of this interface: 2. Structs and functions of one version never change. Version 2 names the key of a refusal,
- * which was HIVE_NO_KEY, always, in version 1.
+/* The version of this interface: 3. Structs, functions and constants of one version never change. In version 3 every state has a number
+ * of its own; in 2 and 1 four of them were 2. Version 2 named the key of a refusal, which was HIVE_NO_KEY, always, in version 1.
  */
 uint32_t hive_abi(void);
 
@@ -593,6 +595,20 @@ HiveRecovery hive_recover_mark_pages(const uint8_t *log, size_t log_len, uint8_t
  * other from 512 on is a log. Refuses 21, 22, 23, 22, in this order.
  */
 HiveLog hive_recover_log(const uint8_t *log, size_t log_len);
+
+/* Without a log: makes a dirty hive in memory one that the reader's calls take as it is, with what its log would still change missing.
+ * Where the sequence numbers differ and nothing else of 1 to 7 is wrong, bytes 8 to 11 become bytes 4 to 7, the checksum at 508 is
+ * renewed, and it is HIVE_DONE; a hive with none of 1 to 7 is HIVE_CLEAN, and nothing changes. Any other is refused, 1 to 6, and
+ * nothing changes. After HIVE_DONE or HIVE_CLEAN no call refuses 1 to 7. Never store such a first sector in the file: the file would
+ * look clean, and its log would never be asked again.
+ */
+HiveRecovery hive_settle(uint8_t *hive, size_t hive_len);
+
+/* The order of two names, each in UTF-16 units, as the check and the lookups compare names: by code, with a to z, 0xE0 to 0xFE except
+ * 0xF7, and 0xFF as capitals, and a prefix before the longer name. -1 where the first comes before the second, 0 where they are the
+ * same name, 1 where it comes after. Any units will do, none too.
+ */
+int32_t hive_name_order(const uint16_t *a, size_t a_len, const uint16_t *b, size_t b_len);
 
 #ifdef __cplusplus
 }

@@ -39,16 +39,15 @@ import os
 import stat
 import sys
 import threading
-from ctypes import c_size_t, c_uint32, c_uint64, c_void_p
+from ctypes import c_int32, c_size_t, c_uint32, c_uint64, c_void_p
 from typing import Any, BinaryIO, Callable, Iterator, List, NamedTuple, Optional, Sequence, Tuple, TypeVar, Union, overload
 
-__all__ = ["Hive", "Key", "Value", "Deleted", "Report", "Exported", "Repair", "Log", "Refused", "Unsound", "Unbuilt", "build", "log_facts", "repair"]
+__all__ = ["Hive", "Key", "Value", "Deleted", "Report", "Exported", "Repair", "Log", "Refused", "Unsound", "Unbuilt", "build", "log_facts", "name_order",
+           "repair", "settle"]
 
 SECTOR = 512
-INTERFACES = (2, 1)  # those that this file knows: their structs and calls are the same, and in 1 no refusal names a key
-REFUSED, NO_MORE, THERE = 0, 1, 2
-OVER, OPENS, CLOSES = 1, 2, 3
-CLEAN, DONE = 1, 2
+INTERFACES = (3,)  # those that this file knows; in 2 and 1 the states had other numbers
+REFUSED, CLEAN, DONE, NO_MORE, THERE, OVER, OPENS, CLOSES, WRITTEN = range(9)
 SEGMENTS = 3
 NO_KEY = 0xFFFFFFFF
 LEVELS = 512
@@ -208,6 +207,8 @@ _CALLS = {
     "hive_recover_close": (_Recovery, _MEMORY * 2),
     "hive_recover_mark_pages": (_Recovery, _MEMORY * 2),
     "hive_recover_log": (_Log, _MEMORY),
+    "hive_settle": (_Recovery, _MEMORY),
+    "hive_name_order": (c_int32, _MEMORY * 2),
 }
 
 
@@ -440,6 +441,17 @@ def _contents(source: Source) -> Any:
         return _read(fd, os.fsdecode(source))
     finally:
         os.close(fd)
+
+
+# ---- names
+
+def name_order(a: str, b: str) -> int:
+    """-1, 0 or 1: whether the name a comes before b, is the same, or comes after, as the check and the lookups compare names.
+
+    >>> name_order("K\xe9", "k\xc9"), name_order("a", "ab"), name_order("_", "Z")
+    (0, -1, 1)
+    """
+    return _library.hive_name_order(*_units(a), *_units(b))
 
 
 # ---- answers
@@ -936,6 +948,21 @@ def log_facts(log: Source) -> Log:
     facts = _ask(_library.hive_recover_log, lent)
     _allow(facts.answer)
     return Log(facts.entries, facts.first, facts.last, facts.end, facts.bins)
+
+
+def settle(hive: Any) -> bool:
+    """Without a log: makes a dirty hive in memory, a bytearray or the like, one that is read as it is, with what its log would still change missing. Where
+    its sequence numbers differ and nothing else of 1 to 7 is wrong they are made equal: True. Where nothing is wrong, False. Else Refused, 1 to 6, and
+    nothing changes. Do not store the outcome over the file: it would look clean, and its log would never be asked again.
+
+    >>> torn = bytearray(open("spoilt", "rb").read())
+    >>> settle(torn), settle(torn)
+    (True, False)
+    """
+    lent = _Lent(hive, writable=True)
+    done = _library.hive_settle(*lent.memory)
+    _allow(done.answer)
+    return done.state == DONE
 
 
 class _Start:

@@ -65,6 +65,11 @@ def folded(codes):
     return [upper(c) for c in codes]
 
 
+def name_order(a, b):
+    """-1, 0 or 1: "compared by code after upper-casing [..], a prefix before the longer name"."""
+    return (folded(a) > folded(b)) - (folded(a) < folded(b))
+
+
 def name_hint(codes):
     """The hint of an `lf` element, by request 8: the low bytes of the first four codes as stored, and zero bytes behind a shorter name. A code above
     255 among them asks for a first byte 0: then this is 0."""
@@ -124,6 +129,19 @@ def open_hive(hive):
     if u32(hive, 4) != u32(hive, 8):
         raise Refused(7)
     return bytes(hive[BASE:BASE + size])
+
+
+def settle(hive):
+    """Where 7 is the only fault of 1 to 7 the second number becomes the first, under a new checksum: whether that was done (128)."""
+    try:
+        open_hive(hive)
+        return False
+    except Refused as r:
+        if r.number != 7:
+            raise
+    hive[8:12] = hive[4:8]
+    seal(hive)
+    return True
 
 
 def signed_size(bins, at):

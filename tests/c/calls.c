@@ -110,8 +110,9 @@ static HiveValue asked(const uint8_t *file, size_t length, const char *path, con
 /* A member as it must be: refused or at the end it says nothing, and a name lies in the file. */
 static HiveMember sound(HiveMember m, size_t length)
 {
-    EXPECT(m.state <= 2 && m.narrow <= 1 && (m.state == 0) == (m.answer.number != 0) && (m.state == 0 || m.answer.key == NO_KEY));
-    EXPECT(m.state == 2 ? m.name + m.length <= length : m.answer.value + m.name + m.length + m.narrow == 0);
+    EXPECT(m.state == HIVE_REFUSED ? m.answer.number != 0 : m.answer.number == 0 && m.answer.key == NO_KEY);
+    EXPECT((m.state == HIVE_REFUSED || m.state == HIVE_NO_MORE || m.state == HIVE_THERE) && m.narrow <= 1);
+    EXPECT(m.state == HIVE_THERE ? m.name + m.length <= length : m.answer.value + m.name + m.length + m.narrow == 0);
     return m;
 }
 
@@ -147,9 +148,9 @@ static size_t members(const uint8_t *h, size_t length, uint32_t key, int depth)
 {
     size_t count = 0, n;
     HiveMember m;
-    for (n = 0; n < 100 && (m = sound(hive_nth_subkey(h, length, key, n), length)).state == 2; n++)
+    for (n = 0; n < 100 && (m = sound(hive_nth_subkey(h, length, key, n), length)).state == HIVE_THERE; n++)
         count += 1 + (depth > 0 ? members(h, length, m.answer.value, depth - 1) : 0);
-    for (n = 0; n < 100 && (m = sound(hive_nth_value(h, length, key, n), length)).state == 2; n++)
+    for (n = 0; n < 100 && (m = sound(hive_nth_value(h, length, key, n), length)).state == HIVE_THERE; n++)
         count += value_at(h, length, m.answer.value).key == NO_KEY;
     key_at(h, length, key);
     return count;
@@ -157,7 +158,7 @@ static size_t members(const uint8_t *h, size_t length, uint32_t key, int depth)
 
 static void t_nothing(void)
 {
-    EXPECT(hive_abi() == 2);
+    EXPECT(hive_abi() == 3);
     EXPECT(is(hive_check(NULL, 0, NULL, 0).answer, 1, 0));
     EXPECT(is(hive_find_key(NULL, 0, NULL, 0), 1, 0));
     EXPECT(is(hive_value_info(NULL, 0, NULL, 0, NULL, 0).answer, 1, 0));
@@ -187,10 +188,10 @@ static void t_nothing(void)
     EXPECT(is(hive_check(m.file, n, NULL, 0).answer, 8, 0));
     EXPECT(hive_find_key(m.file, n, NULL, 0).value == m.root && hive_quick_key(m.file, n, NULL, 0).value == m.root);
     EXPECT(in(hive_value_info(m.file, n, NULL, 0, NULL, 0).answer, 18, 0, m.root));
-    EXPECT(hive_next_remnant(m.file, n, 0).state == 1 && hive_remnants(m.file, n, 0, NULL, 0).state == 1);
-    EXPECT(hive_recover_start(m.file, n, NULL, 0).state == 1);
-    EXPECT(hive_recover_page(m.file, n, NULL, 0, 3).state == 1 && hive_recover_close(m.file, n, NULL, 0).state == 1);
-    EXPECT(hive_recover_all(m.file, n, NULL, 0).state == 1);
+    EXPECT(hive_next_remnant(m.file, n, 0).state == HIVE_NO_MORE && hive_remnants(m.file, n, 0, NULL, 0).state == HIVE_NO_MORE);
+    EXPECT(hive_recover_start(m.file, n, NULL, 0).state == HIVE_CLEAN);
+    EXPECT(hive_recover_page(m.file, n, NULL, 0, 3).state == HIVE_CLEAN && hive_recover_close(m.file, n, NULL, 0).state == HIVE_CLEAN);
+    EXPECT(hive_recover_all(m.file, n, NULL, 0).state == HIVE_CLEAN);
 }
 
 /* All calls on one file, taken for hive and log, path and name. */
@@ -471,29 +472,29 @@ static void t_members(void)
     char path[] = "a\\k1";
     for (size_t i = 0; i < 7; i++, path[3]++) {
         HiveMember k = sound(hive_nth_subkey(h, n, a, i), n);
-        EXPECT(k.state == 2 && k.answer.value == found(m.file, n, path).value);
+        EXPECT(k.state == HIVE_THERE && k.answer.value == found(m.file, n, path).value);
         EXPECT(k.length == 2 && k.narrow == 1 && memcmp(h + k.name, path + 2, 2) == 0);
     }
     for (size_t i = 0; i < 3; i++)
-        EXPECT(sound(hive_nth_subkey(h, n, a, i == 0 ? 7 : (size_t)-1 >> (i - 1)), n).state == 1);
-    EXPECT(sound(hive_nth_value(h, n, a, 0), n).state == 1);
+        EXPECT(sound(hive_nth_subkey(h, n, a, i == 0 ? 7 : (size_t)-1 >> (i - 1)), n).state == HIVE_NO_MORE);
+    EXPECT(sound(hive_nth_value(h, n, a, 0), n).state == HIVE_NO_MORE);
     EXPECT(members(h, n, m.root, 8) == 15 + 10);
     uint32_t key = found(m.file, n, "controlset001\\services\\eventlog\\application\\print").value;
     HiveMember v = sound(hive_nth_value(h, n, key, 2), n);
-    EXPECT(v.state == 2 && v.length == 14 && memcmp(h + v.name, "TypesSupported", 14) == 0);
+    EXPECT(v.state == HIVE_THERE && v.length == 14 && memcmp(h + v.name, "TypesSupported", 14) == 0);
     HiveValue w = hive_value_at(h, n, v.answer.value);
     EXPECT(is(w.answer, 0, 0) && w.kind == 4 && w.form == 1 && w.length == 4 && memcmp(h + w.at, "\7\0\0", 4) == 0);
-    EXPECT(sound(hive_nth_value(h, n, key, 1), n).length == 0 && sound(hive_nth_value(h, n, key, 10), n).state == 1);
+    EXPECT(sound(hive_nth_value(h, n, key, 1), n).length == 0 && sound(hive_nth_value(h, n, key, 10), n).state == HIVE_NO_MORE);
     EXPECT(is(hive_value_at(h, n, key).answer, 12, key) && is(hive_value_at(h, n, 4).answer, 11, 4));
     EXPECT(is(hive_nth_subkey(h, n, v.answer.value, 0).answer, 12, v.answer.value) && is(hive_nth_value(h, n, 0xfffffffc, 0).answer, 11, 0xfffffffc));
     put16(data_of(&m, a) + 2, 0);
     uint32_t list = get32(data_of(&m, a) + 28), second = get32(data_of(&m, list) + 8);
     data_of(&m, second)[0] = 'x';
     h = lend(0, m.file, n);
-    EXPECT(sound(hive_nth_subkey(h, n, m.root, 0), n).state == 0 && sound(hive_nth_subkey(h, n, m.root, 1), n).state == 2);
+    EXPECT(sound(hive_nth_subkey(h, n, m.root, 0), n).state == HIVE_REFUSED && sound(hive_nth_subkey(h, n, m.root, 1), n).state == HIVE_THERE);
     put16(data_of(&m, a) + 2, 0x20);
     h = lend(0, m.file, n);
-    EXPECT(sound(hive_nth_subkey(h, n, a, 2), n).state == 2 && in(hive_nth_subkey(h, n, a, 3).answer, 12, second, a));
+    EXPECT(sound(hive_nth_subkey(h, n, a, 2), n).state == HIVE_THERE && in(hive_nth_subkey(h, n, a, 3).answer, 12, second, a));
 }
 
 /* Two values of one name, of which only the offset tells the second; and what a key's record says. */
@@ -636,7 +637,7 @@ static void t_keys(void)
             EXPECT(in(asked(m.file, n, rows[i].path, rows[i].name == NULL ? "" : rows[i].name, data).answer, number, rows[i].cell, rows[i].key));
             if (rows[i].of != 0) {
                 HiveMember x = (rows[i].subkey ? hive_nth_subkey : hive_nth_value)(m.file, n, rows[i].of, rows[i].nth);
-                EXPECT(in(x.answer, number, rows[i].cell, rows[i].key) && x.state == 0);
+                EXPECT(in(x.answer, number, rows[i].cell, rows[i].key) && x.state == HIVE_REFUSED);
             }
             free(m.file);
         }
@@ -724,9 +725,9 @@ static void step(const uint8_t *h, size_t n, size_t from, const Left *want, size
     HiveRemnant r = hive_next_remnant(h, n, from);
     EXPECT(r.answer.number == 0 && r.answer.place == 0 && r.answer.key == NO_KEY);
     if (count == 0)
-        EXPECT(r.state == 1 && r.answer.value + r.kind + r.name + r.length + r.narrow == 0);
+        EXPECT(r.state == HIVE_NO_MORE && r.answer.value + r.kind + r.name + r.length + r.narrow == 0);
     else
-        EXPECT(r.state == 2 && r.answer.value == want->at && r.kind == want->kind && r.length == want->length && r.narrow == want->narrow &&
+        EXPECT(r.state == HIVE_THERE && r.answer.value == want->at && r.kind == want->kind && r.length == want->length && r.narrow == want->narrow &&
                r.name == 4096 + want->at + (want->kind == KEY ? 80 : 24) && r.name + r.length <= n);
 }
 
@@ -743,7 +744,7 @@ static void some_rows(const uint8_t *h, size_t n, size_t from, const Left *want,
     HiveRows r = hive_remnants(h, n, from, rows, words);
     size_t fit = count < words / 4 ? count : words / 4;
     bool short_of_one = count > 0 && words < 4;
-    EXPECT(is(r.answer, short_of_one ? 20 : 0, 0) && r.state == (short_of_one ? 0 : count == 0 ? 1 : 2) && r.rows == fit);
+    EXPECT(is(r.answer, short_of_one ? 20 : 0, 0) && r.state == (short_of_one ? HIVE_REFUSED : count == 0 ? HIVE_NO_MORE : HIVE_THERE) && r.rows == fit);
     EXPECT(fit == 0 || memcmp(rows, want, fit * sizeof *want) == 0);
     EXPECT(memcmp(rows + 4 * fit, before, 4 * (words - 4 * fit)) == 0);
 }
@@ -965,7 +966,7 @@ static void t_left_random(void)
                 memcpy(m.file + 4096 + i, dice() % 4 == 0 ? "nk " : "vk\1", 4);
         const uint8_t *h = lend(0, m.file, n);
         HiveRows s = hive_remnants(h, n, 0, rows, sizeof rows / sizeof rows[0]);
-        for (HiveRemnant r; (r = hive_next_remnant(h, n, from)).state == 2; k++) {
+        for (HiveRemnant r; (r = hive_next_remnant(h, n, from)).state == HIVE_THERE; k++) {
             const uint8_t *d = h + 4096 + r.answer.value + 4;
             EXPECT(r.answer.value >= from && r.answer.value % 8 == 0 && memcmp(d, r.kind == KEY ? "nk" : "vk", 2) == 0 && r.name + r.length <= n);
             EXPECT(memcmp(rows + 4 * k, (uint32_t[]){r.answer.value, (uint32_t)r.kind, (uint32_t)r.length, (uint32_t)r.narrow}, 16) == 0);
@@ -992,26 +993,26 @@ static void t_repair(void)
     h = lend(0, file, n);
     l = lend(1, log.at, log.length);
     HiveRecovery r = hive_recover_start(h, n, l, log.length);
-    EXPECT(is(r.answer, 0, 0) && r.state == 2 && r.pages == COUNT);
+    EXPECT(is(r.answer, 0, 0) && r.state == HIVE_DONE && r.pages == COUNT);
     EXPECT(is(hive_recover_page(h, n, l, log.length, 1).answer, 26, 0));
     EXPECT(is(hive_recover_page(h, n, l, log.length, 128).answer, 26, 0));
     EXPECT(is(hive_recover_close(h, n, l, log.length).answer, 27, 0));
     EXPECT(memcmp(h, file, n) == 0);
     HivePage p = hive_recover_next(l, log.length, 0);
     for (size_t i = 0; i < COUNT; i++) {
-        EXPECT(p.state == 2 && p.page == PAGES[i] && p.from == 1024 + 512 * i && p.to == 4096 + 512 * PAGES[i]);
+        EXPECT(p.state == HIVE_THERE && p.page == PAGES[i] && p.from == 1024 + 512 * i && p.to == 4096 + 512 * PAGES[i]);
         EXPECT(is(hive_recover_close(h, n, l, log.length).answer, 27, 0));
         r = hive_recover_page(h, n, l, log.length, p.page);
-        EXPECT(r.state == 2 && is(r.answer, 0, 0));
+        EXPECT(r.state == HIVE_DONE && is(r.answer, 0, 0));
         memcpy(file + p.to, log.at + p.from, 512);
         EXPECT(memcmp(h, file, n) == 0);
         p = hive_recover_next(l, log.length, p.page + 1);
     }
-    EXPECT(p.state == 1 && is(p.answer, 0, 0));
-    EXPECT(hive_recover_next(l, log.length, 128).state == 1 && hive_recover_next(l, log.length, (size_t)-1).state == 1);
+    EXPECT(p.state == HIVE_NO_MORE && is(p.answer, 0, 0));
+    EXPECT(hive_recover_next(l, log.length, 128).state == HIVE_NO_MORE && hive_recover_next(l, log.length, (size_t)-1).state == HIVE_NO_MORE);
     r = hive_recover_close(h, n, l, log.length);
-    EXPECT(r.state == 2 && is(r.answer, 0, 0) && memcmp(h, m.file, n) == 0);
-    EXPECT(hive_recover_close(h, n, l, log.length).state == 1 && hive_recover_page(h, n, l, log.length, 1).state == 1);
+    EXPECT(r.state == HIVE_DONE && is(r.answer, 0, 0) && memcmp(h, m.file, n) == 0);
+    EXPECT(hive_recover_close(h, n, l, log.length).state == HIVE_CLEAN && hive_recover_page(h, n, l, log.length, 1).state == HIVE_CLEAN);
     EXPECT(memcmp(h, m.file, n) == 0 && is(checked(h, n), 0, 0));
 }
 
@@ -1026,20 +1027,20 @@ static void t_repair_at_once(void)
     for (size_t half = 0; half < 2; half++) {
         uint8_t *h = lend(0, file, n);
         if (half == 1)
-            EXPECT(hive_recover_page(h, n, l, log.length, PAGES[2]).state == 2);
+            EXPECT(hive_recover_page(h, n, l, log.length, PAGES[2]).state == HIVE_DONE);
         HiveRecovery r = hive_recover_all(h, n, l, log.length);
-        EXPECT(r.state == 2 && r.pages == 0 && is(r.answer, 0, 0));
+        EXPECT(r.state == HIVE_DONE && r.pages == 0 && is(r.answer, 0, 0));
         EXPECT(memcmp(h, file, 4096) == 0 && memcmp(h + 4096, m.file + 4096, n - 4096) == 0);
-        EXPECT(hive_recover_close(h, n, l, log.length).state == 2 && memcmp(h, m.file, n) == 0);
-        EXPECT(hive_recover_all(h, n, l, log.length).state == 1 && memcmp(h, m.file, n) == 0);
+        EXPECT(hive_recover_close(h, n, l, log.length).state == HIVE_DONE && memcmp(h, m.file, n) == 0);
+        EXPECT(hive_recover_all(h, n, l, log.length).state == HIVE_CLEAN && memcmp(h, m.file, n) == 0);
     }
     HiveMark p = hive_recover_mark(l, log.length, 0);
     for (size_t i = 0; i < COUNT; i++) {
-        EXPECT(p.state == 2 && p.page == PAGES[i] && p.to == 4096 + 512 * PAGES[i] && is(p.answer, 0, 0));
+        EXPECT(p.state == HIVE_THERE && p.page == PAGES[i] && p.to == 4096 + 512 * PAGES[i] && is(p.answer, 0, 0));
         p = hive_recover_mark(l, log.length, p.page + 1);
     }
-    EXPECT(p.state == 1 && p.page == 0 && p.to == 0 && is(p.answer, 0, 0));
-    EXPECT(hive_recover_mark(l, log.length, 128).state == 1 && hive_recover_mark(l, log.length, (size_t)-1).state == 1);
+    EXPECT(p.state == HIVE_NO_MORE && p.page == 0 && p.to == 0 && is(p.answer, 0, 0));
+    EXPECT(hive_recover_mark(l, log.length, 128).state == HIVE_NO_MORE && hive_recover_mark(l, log.length, (size_t)-1).state == HIVE_NO_MORE);
     for (size_t k = 0; k < log.length; k++)
         EXPECT(is(hive_recover_mark(lend(1, log.at, k), k, 0).answer, k < 512 ? 21 : k < 516 + 16 ? 22 : 0, 0));
 }
@@ -1067,7 +1068,7 @@ static void t_log_refusals(void)
     }
     log = made_log(&m, PAGES, 0);
     HiveRecovery r = hive_recover_start(file, n, log.at, log.length);
-    EXPECT(r.state == 2 && r.pages == 0 && hive_recover_next(log.at, log.length, 0).state == 1);
+    EXPECT(r.state == HIVE_DONE && r.pages == 0 && hive_recover_next(log.at, log.length, 0).state == HIVE_NO_MORE);
     EXPECT(is(hive_recover_start(file, n, log.at, log.length - 1).answer, 22, 0));
     EXPECT(is(hive_recover_start(file, n - 1, log.at, log.length).answer, 24, 0));
 }
@@ -1120,10 +1121,10 @@ static void t_closing_checksums(void)
         store_xor(log.at, cases[i].log, 0);
         reseal(log.at);
         for (size_t k = 0; k < COUNT; k++)
-            EXPECT(hive_recover_page(h, n, log.at, log.length, PAGES[k]).state == 2);
-        EXPECT(hive_recover_close(h, n, log.at, log.length).state == 2);
+            EXPECT(hive_recover_page(h, n, log.at, log.length, PAGES[k]).state == HIVE_DONE);
+        EXPECT(hive_recover_close(h, n, log.at, log.length).state == HIVE_DONE);
         EXPECT(xor_of(h) == (cases[i].log ^ 1) && get32(h + 508) == cases[i].stored);
-        EXPECT(hive_recover_start(h, n, log.at, log.length).state == 1);
+        EXPECT(hive_recover_start(h, n, log.at, log.length).state == HIVE_CLEAN);
         EXPECT(hive_find_key(h, n, (const uint16_t[]){'A'}, 1).number == 0 && is(checked(h, n), 0, 0));
         free(log.at);
     }

@@ -167,7 +167,7 @@ static void t_value_list(void)
     put32(data_of(&m, m.root) + 36, 536869851);
     EXPECT(in(check(&m), 11, 0, m.root) && in(asked(&m), 11, 0, m.root));
     EXPECT(in(hive_nth_value(m.file, FILE_LENGTH, m.root, 536869850).answer, 11, 0, m.root));
-    EXPECT(hive_nth_value(m.file, FILE_LENGTH, m.root, 536869851).state == 1);
+    EXPECT(hive_nth_value(m.file, FILE_LENGTH, m.root, 536869851).state == HIVE_NO_MORE);
     for (size_t i = 0; i < sizeof too_many / sizeof too_many[0]; i++) {
         put32(data_of(&m, m.root) + 36, too_many[i]);
         EXPECT(in(check(&m), 12, 144, m.root) && in(asked(&m), 12, 144, m.root));
@@ -275,7 +275,7 @@ static void t_repair(void)
     EXPECT(is(hive_recover_close(m.file, FILE_LENGTH, l, n).answer, 27, 0));
     HivePage p = hive_recover_next(l, n, 2);
     EXPECT(p.state == HIVE_THERE && p.page == PAGES - 1 && p.from == FIRST + 512 && p.to == 2147483136);
-    EXPECT(hive_recover_next(l, n, PAGES).state == 1 && hive_recover_mark(l, n, 2).to == 2147483136);
+    EXPECT(hive_recover_next(l, n, PAGES).state == HIVE_NO_MORE && hive_recover_mark(l, n, 2).to == 2147483136);
     EXPECT(hive_recover_page(m.file, FILE_LENGTH, l, n, PAGES - 1).state == HIVE_DONE);
     EXPECT(memcmp(m.file + 4608, l + FIRST, 512) == 0 && memcmp(m.file + 2147483136, l + FIRST + 512, 512) == 0);
     EXPECT(m.file[4607] == 0 && m.file[5120] == 0 && m.file[2147483135] == 0);

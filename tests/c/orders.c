@@ -1,5 +1,6 @@
 /* orders <STREAM: the frames of the test program answered by the C face. A refusal's line says the key under examination too, and lines that start
-   with a space say what the other calls answer, what deletion left, a walk, and the tree as frames. tools/compare --keys compares them with the model. */
+   with a space say what the other calls answer, what deletion left, a walk, the tree as frames, the hive settled, and the order of names.
+   tools/compare --keys compares them with the model. */
 #include <stdio.h>
 #include <string.h>
 #include <unistd.h>
@@ -252,6 +253,19 @@ static void wild_runs(size_t length)
     }
 }
 
+/* A copy of the hive made one that is read as it is. */
+static void settled(size_t length)
+{
+    static uint8_t copy[LONGEST];
+    memcpy(copy, hive, length);
+    HiveRecovery s = hive_settle(copy, length);
+    if (s.state == HIVE_REFUSED)
+        say(" settled: ", s.answer);
+    else
+        puts(s.state == HIVE_DONE ? " settled: done" : " settled: clean");
+    printf(" settled hive: %u\n", sum(copy, length));
+}
+
 static void on_hive(size_t length)
 {
     memcpy(hive, payload, length);
@@ -271,6 +285,7 @@ static void on_hive(size_t length)
     members(" subkey: ", hive_nth_subkey, root);
     members(" value: ", hive_nth_value, root);
     say(" root: ", hive_key_at(hive, length, root).answer);
+    settled(length);
 }
 
 /* What the log says by itself: its facts, its pages all at once, and one by one with their places. */
@@ -322,6 +337,19 @@ static void on_log(size_t length)
     of_log(length);
 }
 
+/* A path taken for names: its halves, it and the one before it, and it and itself with bit 5 of each unit turned. */
+static void ordered(const uint16_t *units, size_t n)
+{
+    static uint16_t before[LONGEST / 2], turned[LONGEST / 2];
+    static size_t before_count;
+    for (size_t i = 0; i < n; i++)
+        turned[i] = units[i] ^ 0x20;
+    printf(" order: %d %d %d\n", hive_name_order(units, n / 2, units + n / 2, n - n / 2), hive_name_order(units, n, before, before_count),
+           hive_name_order(units, n, turned, n));
+    memcpy(before, units, 2 * n);
+    before_count = n;
+}
+
 /* The value named v of that key, in full, in place, and copied to a few bytes; all of it by both lookups. */
 static void on_path(size_t length)
 {
@@ -337,6 +365,7 @@ static void on_path(size_t length)
     say(" quick info: ", hive_quick_info(hive, hive_length, units, n, name, 1).answer);
     say(" quick view: ", hive_quick_view(hive, hive_length, units, n, name, 1).answer);
     say(" quick copy: ", hive_quick_copy(hive, hive_length, units, n, name, 1, out, ROOM).answer);
+    ordered(units, n);
 }
 
 int main(void)

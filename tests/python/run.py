@@ -122,11 +122,56 @@ def layouts():
     for struct_name, kind in mine.items():
         expect(re.findall(r"sizeof\(%s\) == (\d+)" % struct_name, header), [str(ctypes.sizeof(kind))])
         expect(re.findall(r"offsetof\(%s, (\w+)\) == (\d+)" % struct_name, header), [(f, str(getattr(kind, f).offset)) for f, _ in kind._fields_])
-    types = {"size_t": ctypes.c_size_t, "uint32_t": ctypes.c_uint32, **mine}
+    types = {"size_t": ctypes.c_size_t, "int32_t": ctypes.c_int32, "uint32_t": ctypes.c_uint32, **mine}
     for name, (result, arguments) in kiweamotu._CALLS.items():
         (answer, parameters), = re.findall(r"^(\w+) %s\((.*)\);" % name, header, re.M)
         expect(types[answer], result)
         expect([ctypes.c_void_p if "*" in p else types[p.split()[0]] for p in parameters.split(", ") if p != "void"], arguments)
+
+
+@test
+def states():
+    """the header's states are its own, and all of them differ"""
+    header = bytes_of(os.path.join(release, "include", "kiweamotu.h")).decode()
+    numbers = re.findall(r"^    HIVE_([A-Z_]+) = (\d+),$", header[:header.index("/* The forms")], re.M)
+    expect([(name, str(getattr(kiweamotu, name))) for name, _ in numbers], numbers)
+    expect(sorted(int(number) for _, number in numbers), list(range(9)))
+
+
+@test
+def orders():
+    """the order of two names agrees with the plain reading, on odd names too"""
+    dice, met = random.Random(1), set()
+    for _ in range(3000):
+        a, b = ("".join(dice.choice("aAzZ_\xe9\xc9\xf7\xd7\xff\u0178\0\ud800\U0001f600") for _ in range(dice.randrange(4))) for _ in range(2))
+        met.add(kiweamotu.name_order(a, b))
+        expect(kiweamotu.name_order(a, b), hives.name_order(hives.units(a), hives.units(b)))
+    expect((met, [kiweamotu.name_order(a, a.lower()) for a in ("\0", "K[", "N\xc9")]), ({-1, 0, 1}, [0, 0, 0]))
+
+
+@test
+def settled():
+    """a dirty hive is read as it is when it is settled, and what else is wrong with it is refused and changes nothing"""
+    sample, met = bytes_of("sample"), set()
+    for seed in range(300):
+        dice = random.Random(seed)
+        file = bytearray(sample)
+        for _ in range(dice.randrange(3)):
+            file[dice.choice((4, 8, 11, 20, 40, 43, 508, 4096))] ^= 1 << dice.randrange(8)
+        if seed % 4:
+            hives.seal(file)
+        mine, model = bytearray(file), bytearray(file)
+        told_here, told_there = told(kiweamotu.settle, mine), told(hives.settle, model)
+        expect((told_here, mine), (told_there, model))
+        met.add(told_here if isinstance(told_here, bool) else told_here[0])
+        if isinstance(told_here, bool):
+            expect([key.name for key in Hive(mine).subkeys], [key.name for key in Hive("sample").subkeys])
+    expect(met >= {False, True, 3, 4, 5}, True)
+    try:
+        kiweamotu.settle(sample)
+        raise AssertionError("bytes are not written")
+    except BufferError:
+        pass
 
 
 @test

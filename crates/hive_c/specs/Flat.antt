@@ -2,8 +2,11 @@
 -- cases. The promises use that definition."
 use Prim.Native.Nat.{ℕ, _+_, _-_}
 use mathlib.Core.Bool.{Bool, cond}
+use lib.IntN.{ℤ, pos, negsuc}
 use Rattle.fields.specs.declared.Refusal.{Refusal}
 use Rattle.fields.specs.Faults.{numberOf, noKey}
+use Rattle.names.specs.declared.Order.{Order}
+use Rattle.names.specs.declared.Order.the-variants.{Before, Same, After}
 use Rattle.tree.specs.declared.Checked.{Checked}
 use Rattle.tree.specs.declared.Checked.the-variants as checked
 use Rattle.values.specs.declared.ValueData.{ValueData}
@@ -111,11 +114,11 @@ narrowIn t = cond t 1 0
 abbrev pub memberWith : HiveAnswer → ℕ → ℕ → ℕ → ℕ → HiveMember
 memberWith a s name len narrow = record { answer = a; state = s; name = name; length = len; narrow = narrow }
 
--- state 0: refused; 1: no more; 2: there
+-- A state has one number wherever it stands: 0 refused, 1 clean, 2 done, 3 no more, 4 there, 5 over, 6 opens, 7 closes, 8 written.
 abbrev pub memberIn : Member → HiveMember
 memberIn (member.Refused f) = memberWith (refused f) 0 0 0 0
-memberIn member.NoMore = memberWith (granted 0) 1 0 0 0
-memberIn (member.At e) = memberWith (granted (e .at .0)) 2 (e .name .0) (e .len) (narrowIn (e .narrow))
+memberIn member.NoMore = memberWith (granted 0) 3 0 0 0
+memberIn (member.At e) = memberWith (granted (e .at .0)) 4 (e .name .0) (e .len) (narrowIn (e .narrow))
 
 abbrev pub keyWith : HiveAnswer → ℕ → ℕ → ℕ → ℕ → ℕ → ℕ → ℕ → HiveKey
 keyWith a w p s v name len narrow =
@@ -130,20 +133,20 @@ factsIn (facts.Refused f) = keyWith (refused f) 0 0 0 0 0 0 0
 abbrev pub walkWith : HiveAnswer → ℕ → ℕ → ℕ → ℕ → ℕ → HiveWalk
 walkWith a s n name len narrow = record { answer = a; state = s; depth = n; name = name; length = len; narrow = narrow }
 
--- "state 0 refused, 1 over, 2 opens, 3 closes", of a walk in which n keys are open. "The depth afterwards is depth + 1, depth - 1, depth, depth."
+-- refused, over, opens, closes: of a walk in which n keys are open. "The depth afterwards is depth + 1, depth - 1, depth, depth."
 abbrev pub walkIn : Walked → ℕ → HiveWalk
 walkIn (walk.Refused f) n = walkWith (refused f) 0 n 0 0 0
-walkIn walk.Over n = walkWith (granted 0) 1 n 0 0 0
-walkIn (walk.Opens e) n = walkWith (granted (e .at .0)) 2 (n + 1) (e .name .0) (e .len) (narrowIn (e .narrow))
-walkIn (walk.Closes k) n = walkWith (granted (k .0)) 3 (n - 1) 0 0 0
+walkIn walk.Over n = walkWith (granted 0) 5 n 0 0 0
+walkIn (walk.Opens e) n = walkWith (granted (e .at .0)) 6 (n + 1) (e .name .0) (e .len) (narrowIn (e .narrow))
+walkIn (walk.Closes k) n = walkWith (granted (k .0)) 7 (n - 1) 0 0 0
 
--- of an export: "state 0 refused, 1 done, 2 written"
+-- of an export: refused, no more, written
 abbrev pub frameWith : HiveAnswer → ℕ → ℕ → HiveFrame
 frameWith a s n = record { answer = a; state = s; length = n }
 
 abbrev pub frameIn : Framed → HiveFrame
-frameIn (frame.Written n) = frameWith (granted 0) 2 n
-frameIn frame.Done = frameWith (granted 0) 1 0
+frameIn (frame.Written n) = frameWith (granted 0) 8 n
+frameIn frame.Done = frameWith (granted 0) 3 0
 frameIn (frame.Refused f) = frameWith (refused f) 0 0
 
 abbrev pub cursorAt : ℕ → ℕ → Cursor
@@ -153,13 +156,13 @@ abbrev pub exportWith : HiveAnswer → ℕ → Cursor → ℕ → ℕ → HiveEx
 exportWith a s c frames bytes = record { answer = a; state = s; depth = c .depth; due = c .due; frames = frames; bytes = bytes }
 
 abbrev pub begunIn : Begun → HiveExport
-begunIn (begun.At c) = exportWith (granted 0) 2 c 0 0
+begunIn (begun.At c) = exportWith (granted 0) 8 c 0 0
 begunIn (begun.Refused f) = exportWith (refused f) 0 (cursorAt 0 0) 0 0
 
 -- of a run that was asked with the cursor c
 abbrev pub exportIn : Ran → Cursor → HiveExport
-exportIn (ran.Written p) c = exportWith (granted 0) 2 (p .next) (p .frames) (p .bytes)
-exportIn ran.Done c = exportWith (granted 0) 1 c 0 0
+exportIn (ran.Written p) c = exportWith (granted 0) 8 (p .next) (p .frames) (p .bytes)
+exportIn ran.Done c = exportWith (granted 0) 3 c 0 0
 exportIn (ran.Refused f) c = exportWith (refused f) 0 c 0 0
 
 -- of a hive that is built: "at" is a position in the stream
@@ -173,31 +176,31 @@ builtIn (built.Refused u) = builtWith (refused (u .refusal)) (u .at .0) 0
 abbrev pub remnantWith : HiveAnswer → ℕ → ℕ → ℕ → ℕ → ℕ → HiveRemnant
 remnantWith a s k name len narrow = record { answer = a; state = s; kind = k; name = name; length = len; narrow = narrow }
 
--- state 0: refused; 1: done; 2: found. Kind 1: a key; 2: a value
+-- refused, no more, there. Kind 1: a key; 2: a value
 abbrev pub remnantIn : Remnant → HiveRemnant
 remnantIn (remnant.Refused f) = remnantWith (refused f) 0 0 0 0 0
-remnantIn remnant.Done = remnantWith (granted 0) 1 0 0 0 0
-remnantIn (remnant.At x) = remnantWith (granted (x .at .0)) 2 (kindWord (x .kind)) (x .name .0) (x .len) (narrowIn (x .narrow))
+remnantIn remnant.Done = remnantWith (granted 0) 3 0 0 0 0
+remnantIn (remnant.At x) = remnantWith (granted (x .at .0)) 4 (kindWord (x .kind)) (x .name .0) (x .len) (narrowIn (x .narrow))
 
 abbrev pub rowsWith : HiveAnswer → ℕ → ℕ → HiveRows
 rowsWith a s n = record { answer = a; state = s; rows = n }
 
--- state 0: refused; 1: done; 2: rows
+-- refused, no more, there
 abbrev pub rowsIn : Filled → HiveRows
 rowsIn (filled.Refused f) = rowsWith (refused f) 0 0
-rowsIn filled.Done = rowsWith (granted 0) 1 0
-rowsIn (filled.With n) = rowsWith (granted 0) 2 n
+rowsIn filled.Done = rowsWith (granted 0) 3 0
+rowsIn (filled.With n) = rowsWith (granted 0) 4 n
 
 abbrev pub recoveryWith : HiveAnswer → ℕ → ℕ → HiveRecovery
 recoveryWith a s n = record { answer = a; state = s; pages = n }
 
--- state 0: refused; 1: clean; 2: accepted
+-- refused, clean, done
 abbrev pub startIn : Started → HiveRecovery
 startIn (start.Refused f) = recoveryWith (refused f) 0 0
 startIn start.Clean = recoveryWith (granted 0) 1 0
 startIn (start.Pages n) = recoveryWith (granted 0) 2 n
 
--- state 0: refused; 1: clean; 2: done
+-- the same of a step
 abbrev pub stepIn : Stepped → HiveRecovery
 stepIn (step.Refused f) = recoveryWith (refused f) 0 0
 stepIn step.Clean = recoveryWith (granted 0) 1 0
@@ -206,21 +209,21 @@ stepIn step.Done = recoveryWith (granted 0) 2 0
 abbrev pub pageWith : HiveAnswer → ℕ → ℕ → ℕ → ℕ → HivePage
 pageWith a s n from to = record { answer = a; state = s; page = n; from = from; to = to }
 
--- state 0: refused; 1: no more; 2: a page
+-- refused, no more, there
 abbrev pub pageIn : NextPage → HivePage
 pageIn (page.Refused f) = pageWith (refused f) 0 0 0 0
-pageIn page.NoMore = pageWith (granted 0) 1 0 0 0
-pageIn (page.At n from to) = pageWith (granted 0) 2 n (from .0) (to .0)
+pageIn page.NoMore = pageWith (granted 0) 3 0 0 0
+pageIn (page.At n from to) = pageWith (granted 0) 4 n (from .0) (to .0)
 
 abbrev pub markWith : HiveAnswer → ℕ → ℕ → ℕ → HiveMark
 markWith a s n to = record { answer = a; state = s; page = n; to = to }
 
 abbrev pub markIn : NextMark → HiveMark
 markIn (mark.Refused f) = markWith (refused f) 0 0 0
-markIn mark.NoMore = markWith (granted 0) 1 0 0
-markIn (mark.At n to) = markWith (granted 0) 2 n (to .0)
+markIn mark.NoMore = markWith (granted 0) 3 0 0
+markIn (mark.At n to) = markWith (granted 0) 4 n (to .0)
 
--- state 0: refused; 2: done
+-- refused, done
 abbrev pub mapIn : Marked → HiveRecovery
 mapIn (marked.Refused f) = recoveryWith (refused f) 0 0
 mapIn (marked.Pages n) = recoveryWith (granted 0) 2 n
@@ -231,3 +234,9 @@ logWith a n first last end bins = record { answer = a; entries = n; first = firs
 abbrev pub logIn : LogFacts → HiveLog
 logIn (log.Refused f) = logWith (refused f) 0 0 0 0 0
 logIn (log.Of x) = logWith (granted 0) (x .entries) (x .first) (x .last) (x .end) (x .bins)
+
+-- the order of two names: before, the same, after
+abbrev pub orderIn : Order → ℤ
+orderIn Before = negsuc 0
+orderIn Same = pos 0
+orderIn After = pos 1

@@ -33,6 +33,7 @@ use listing::Member;
 use lookup::Copied;
 use lookup::Info;
 use lookup::ValueFound;
+use names::Order;
 use paths::KeyFound;
 use recovery::LogFacts;
 use recovery::NextMark;
@@ -51,6 +52,7 @@ ghost use mathlib.Core.Path.{_≡_};
 ghost use mathlib.Core.Bool.{true};
 ghost use lib.ListN.{length};
 ghost use Rattle.cells.specs.Survey.{mapLeft};
+ghost use Rattle.names.specs.Comparison.{compare};
 ghost use Rattle.tree.specs.Tree.{checkAnswer};
 ghost use Rattle.paths.specs.Answers.{findAnswer, quickAnswer};
 ghost use Rattle.lookup.specs.Answers.{infoAnswer, viewAnswer, copyAnswer, copyOut, quickInfo, quickView, quickCopy, quickOut};
@@ -61,27 +63,29 @@ ghost use Rattle.export.specs.Answers.{stepAnswer as frameAnswer, stepOut, begi
 ghost use Rattle.answers.specs.Answers.{measureAnswer, buildAnswer, buildOut};
 ghost use Rattle.recovery.specs.Calls.{startAnswer, pageAnswer, pageHive, closeAnswer, closeHive, nextAnswer};
 ghost use Rattle.recovery.specs.AtOnce.{allAnswer, allHive, markAnswer, markedAnswer, markedMap, factsAnswer as logAnswer};
+ghost use Rattle.recovery.specs.Settling.{settleAnswer, settleHive};
 ghost use Rattle.remnants.specs.Remnants.{kindWord, remnantAnswer, rowsAnswer, rowsOut};
-ghost use Rattle.hive_c.specs.Flat.{remnantIn, rowsIn, walkWith, walkIn, frameIn, exportWith, begunIn, exportIn, cursorAt, builtIn, granted as grantedOf, refused as refusedOf, reportIn, keyIn, formOf, valueIn, copyIn, narrowIn, memberIn, factsIn, startIn, stepIn, pageIn, markIn, mapIn, logIn};
+ghost use Rattle.hive_c.specs.Flat.{remnantIn, rowsIn, walkWith, walkIn, frameIn, exportWith, begunIn, exportIn, cursorAt, builtIn, granted as grantedOf, refused as refusedOf, reportIn, keyIn, formOf, valueIn, copyIn, narrowIn, memberIn, factsIn, startIn, stepIn, pageIn, markIn, mapIn, logIn, orderIn};
 
-// The states: of an answer that goes on or ends, of a walk, of an export, and of a step of the repair.
+// The states of all answers, each with a number of its own: refused; nothing is to be done, or it is done; a list or an export has no
+// more, or something is there; a walk is over, or a key opens or closes; frames were written.
 const REFUSED: u64 = 0;
-
-const NO_MORE: u64 = 1;
-
-const THERE: u64 = 2;
-
-const OVER: u64 = 1;
-
-const OPENS: u64 = 2;
-
-const CLOSES: u64 = 3;
-
-const WRITTEN: u64 = 2;
 
 const CLEAN: u64 = 1;
 
 const DONE: u64 = 2;
+
+const NO_MORE: u64 = 3;
+
+const THERE: u64 = 4;
+
+const OVER: u64 = 5;
+
+const OPENS: u64 = 6;
+
+const CLOSES: u64 = 7;
+
+const WRITTEN: u64 = 8;
 
 // The forms of a value's data.
 const INLINE: u32 = 1;
@@ -300,13 +304,13 @@ fn refused(f: Refusal) -> HiveAnswer
     }
 }
 
-// The version of this interface: 2. Structs and functions of one version never change. Version 2 names the key of a refusal,
-// which was HIVE_NO_KEY, always, in version 1.
+// The version of this interface: 3. Structs, functions and constants of one version never change. In version 3 every state has a number
+// of its own; in 2 and 1 four of them were 2. Version 2 named the key of a refusal, which was HIVE_NO_KEY, always, in version 1.
 #[no_mangle]
 pub extern "C" fn hive_abi() -> u32
-    ensures { λ r. ⌜ r ≡ 2 ⌝ }
+    ensures { λ r. ⌜ r ≡ 3 ⌝ }
 {
-    2
+    3
 }
 
 fn reported(c: Checked) -> HiveReport
@@ -1177,4 +1181,37 @@ pub extern "C" fn hive_recover_log(log: &[u8]) -> HiveLog
     ensures { λ r. ⌜ r ≡ logIn (logAnswer (now (log .entry))) ⌝ }
 {
     told(recovery::log_facts(log))
+}
+
+// Without a log: makes a dirty hive in memory one that the reader's calls take as it is, with what its log would still change missing.
+// Where the sequence numbers differ and nothing else of 1 to 7 is wrong, bytes 8 to 11 become bytes 4 to 7, the checksum at 508 is
+// renewed, and it is HIVE_DONE; a hive with none of 1 to 7 is HIVE_CLEAN, and nothing changes. Any other is refused, 1 to 6, and
+// nothing changes. After HIVE_DONE or HIVE_CLEAN no call refuses 1 to 7. Never store such a first sector in the file: the file would
+// look clean, and its log would never be asked again.
+#[no_mangle]
+pub extern "C" fn hive_settle(hive: &mut [u8]) -> HiveRecovery
+    ensures { λ r. ⌜ r ≡ stepIn (settleAnswer (now (hive .entry))) ⌝ }
+    ensures { λ _. ⌜ now (hive .exit) ≡ settleHive (now (hive .entry)) ⌝ }
+{
+    stepped(recovery::settle(hive))
+}
+
+fn order_number(o: Order) -> i32
+    ensures { λ r. ⌜ r ≡ orderIn o ⌝ }
+{
+    match o {
+        Order::Before => -1,
+        Order::Same => 0,
+        Order::After => 1,
+    }
+}
+
+// The order of two names, each in UTF-16 units, as the check and the lookups compare names: by code, with a to z, 0xE0 to 0xFE except
+// 0xF7, and 0xFF as capitals, and a prefix before the longer name. -1 where the first comes before the second, 0 where they are the
+// same name, 1 where it comes after. Any units will do, none too.
+#[no_mangle]
+pub extern "C" fn hive_name_order(a: &[u16], b: &[u16]) -> i32
+    ensures { λ r. ⌜ r ≡ orderIn (compare (now (a .entry)) (now (b .entry))) ⌝ }
+{
+    order_number(names::compare_units(a, b))
 }

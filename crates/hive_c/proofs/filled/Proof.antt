@@ -6,10 +6,10 @@ use Rattle.hive_c.proofs.filled.Statement.{statement}
 use Rattle.hive_c.proofs.filled.Tie as tie
 
 returns : tie.Need-returns
-returns c = let g = c .before .before .f .given in ap (λ (a : HiveAnswer). rowsWith a 2 (g .0 .0)) (c .granted .ensures) ∙ sym (ap rowsIn (g .1))
+returns c = let g = c .before .before .f .given in ap (λ (a : HiveAnswer). rowsWith a 4 (g .0 .0)) (c .granted .ensures) ∙ sym (ap rowsIn (g .1))
 
 returns-2 : tie.Need-returns-2
-returns-2 c = ap (λ (a : HiveAnswer). rowsWith a 1 0) (c .granted2 .ensures) ∙ sym (ap rowsIn (c .before .enum-told .given .1))
+returns-2 c = ap (λ (a : HiveAnswer). rowsWith a 3 0) (c .granted2 .ensures) ∙ sym (ap rowsIn (c .before .enum-told .given .1))
 
 returns-3 : tie.Need-returns-3
 returns-3 c = ap (λ (a : HiveAnswer). rowsWith a 0 0) (c .refused .ensures) ∙ sym (ap rowsIn (c .before .before .f2 .given .1))

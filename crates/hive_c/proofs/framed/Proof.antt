@@ -6,10 +6,10 @@ use Rattle.hive_c.proofs.framed.Statement.{statement}
 use Rattle.hive_c.proofs.framed.Tie as tie
 
 returns : tie.Need-returns
-returns c = let g = c .before .before .s .given in ap (λ (a : HiveAnswer). frameWith a 2 (g .0 .0)) (c .granted .ensures) ∙ sym (ap frameIn (g .1))
+returns c = let g = c .before .before .s .given in ap (λ (a : HiveAnswer). frameWith a 8 (g .0 .0)) (c .granted .ensures) ∙ sym (ap frameIn (g .1))
 
 returns-2 : tie.Need-returns-2
-returns-2 c = ap (λ (a : HiveAnswer). frameWith a 1 0) (c .granted2 .ensures) ∙ sym (ap frameIn (c .before .enum-told .given .1))
+returns-2 c = ap (λ (a : HiveAnswer). frameWith a 3 0) (c .granted2 .ensures) ∙ sym (ap frameIn (c .before .enum-told .given .1))
 
 returns-3 : tie.Need-returns-3
 returns-3 c = ap (λ (a : HiveAnswer). frameWith a 0 0) (c .refused .ensures) ∙ sym (ap frameIn (c .before .before .s2 .given .1))

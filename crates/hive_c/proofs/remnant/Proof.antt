@@ -9,7 +9,7 @@ returns : tie.Need-returns
 returns c = c .remain-facts .ensures ∙ sym (ap remnantIn (c .before .before .n .given .1))
 
 returns-2 : tie.Need-returns-2
-returns-2 c = ap (λ (a : HiveAnswer). remnantWith a 1 0 0 0 0) (c .granted .ensures) ∙ sym (ap remnantIn (c .before .enum-told .given .1))
+returns-2 c = ap (λ (a : HiveAnswer). remnantWith a 3 0 0 0 0) (c .granted .ensures) ∙ sym (ap remnantIn (c .before .enum-told .given .1))
 
 returns-3 : tie.Need-returns-3
 returns-3 c = ap (λ (a : HiveAnswer). remnantWith a 0 0 0 0 0) (c .refused .ensures) ∙ sym (ap remnantIn (c .before .before .n2 .given .1))

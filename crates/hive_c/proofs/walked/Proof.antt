@@ -26,14 +26,14 @@ returns-2 : tie.Need-returns-2
 returns-2 c =
     let n = c .before .before .before .before .before .args .depth in
     c .nameless .ensures
-    ∙ ap (λ (a : HiveAnswer). walkWith a 3 (n - 1) 0 0 0) (c .before .granted .ensures)
+    ∙ ap (λ (a : HiveAnswer). walkWith a 7 (n - 1) 0 0 0) (c .before .granted .ensures)
     ∙ sym (ap (λ (x : Walked). walkIn x n) (c .before .before .before .w2 .given .1))
 
 returns-3 : tie.Need-returns-3
 returns-3 c =
     let n = c .before .before .before .before .args .depth in
     c .nameless2 .ensures
-    ∙ ap (λ (a : HiveAnswer). walkWith a 1 n 0 0 0) (c .before .granted2 .ensures)
+    ∙ ap (λ (a : HiveAnswer). walkWith a 5 n 0 0 0) (c .before .granted2 .ensures)
     ∙ sym (ap (λ (x : Walked). walkIn x n) (c .before .before .enum-told .given .1))
 
 returns-4 : tie.Need-returns-4
