@@ -4,14 +4,15 @@ use mathlib.Core.Bool.{Bool, true, false, cond, not, _&&_}
 use mathlib.Core.List.{List, [], _∷_}
 use lib.Dec.{eqb, leb}
 use lib.ListN.{length}
+use lib.Seq.{sets}
 use Rattle.fields.specs.declared.Fault.the-variants.{LogBase, LogShort}
 use Rattle.fields.specs.declared.Verdict.{Verdict}
 use Rattle.fields.specs.declared.Verdict.the-variants as verdict
-use Rattle.fields.specs.Number.{u32At, u64At}
+use Rattle.fields.specs.Number.{u32At, u64At, le32}
 use Rattle.fields.specs.Faults.{flaw, nowhere, unless, _next_}
 use Rattle.base.specs.Block.{sector, usable, isSettled}
 use Rattle.sectors.specs.Sector.{page}
-use Rattle.sectors.specs.Closing.{put32, closingSector}
+use Rattle.sectors.specs.Closing.{closingSector}
 use Rattle.entries.specs.Entries.{Entry, counted, chainOf}
 use Rattle.versions.specs.Versions.{versionsOf}
 use Rattle.entries.specs.declared.Chain.{Chain}
@@ -50,6 +51,10 @@ applies h l =
     cond (usable (sector h) 0) (eqb (u32At (sector h) 8) (u32At (sector l) 4))
     (eqb (u64At (page h 0) 20) (u64At (sector l) 12) && allStamped (u64At (sector l) 12) (versionsOf l 0))
 
+-- a base block s with n for both sequence numbers, and the bins size b
+abbrev pub renewed : List ℕ → ℕ → ℕ → List ℕ
+renewed s n b = sets (sets (sets s 4 (le32 n)) 8 (le32 n)) 40 (le32 b)
+
 -- "the closing sector takes the last counted entry's bins size, and its number in both sequence fields"
 unfoldable pub closingOf : List ℕ → List ℕ
-closingOf l = closingSector (put32 (put32 (put32 (sector l) 4 (chainOf l .last)) 8 (chainOf l .last)) 40 (chainOf l .bins))
+closingOf l = closingSector (renewed (sector l) (chainOf l .last) (chainOf l .bins))

@@ -17,11 +17,11 @@ ghost use Rattle.bitmap.specs.Bits.{nextAmong};
 ghost use Rattle.fields.specs.Bytes.{sameBytes};
 ghost use Rattle.sectors.specs.Sector.{sectorAt, stored, pagePlace, page as pageOf};
 ghost use Rattle.sectors.specs.Logged.{inBelow};
-ghost use Rattle.sectors.specs.Closing.{put32, closingSector};
+ghost use Rattle.sectors.specs.Closing.{closingSector};
 ghost use Rattle.entries.specs.Entries.{chainOf};
 ghost use Rattle.versions.specs.Versions.{versions as versionsIn, versionsOf, isLogged, loggedPlace, logged};
 ghost use Rattle.new_log.specs.Layout.{logBins, pageCount, loggedBelow, loggedCount, nextLogged, marksOf, allIn, allPut};
-ghost use Rattle.new_log.specs.Tests.{isLogBase, logFault, headed, allStamped, applies as isOf, closingOf};
+ghost use Rattle.new_log.specs.Tests.{isLogBase, logFault, headed, allStamped, applies as isOf, renewed, closingOf};
 ghost use Rattle.new_log.specs.Windows.{hasPage, inWindow, Windowed, always, differs};
 
 // ---- its own tests
@@ -344,11 +344,11 @@ pub fn put_all(hive: &mut [u8], log: &[u8], chain: Chain)
 // Makes the log's first sector the closing one.
 fn renew(dst: &mut [u8], number: u32, bins: u32)
     requires { ⌜ 512 ≤ length (now dst) ⌝ }
-    ensures { λ _. ⌜ now (dst .exit) ≡ closingSector (put32 (put32 (put32 (now (dst .entry)) 4 number) 8 number) 40 bins) ⌝ }
+    ensures { λ _. ⌜ now (dst .exit) ≡ closingSector (renewed (now (dst .entry)) number bins) ⌝ }
 {
-    sectors::put_u32(dst, 4, number);
-    sectors::put_u32(dst, 8, number);
-    sectors::put_u32(dst, 40, bins);
+    fields::put_u32(dst, 4, number);
+    fields::put_u32(dst, 8, number);
+    fields::put_u32(dst, 40, bins);
     sectors::seal(dst);
 }
 

@@ -7,22 +7,23 @@ use mathlib.Core.Bool.{true, _&&_}
 use mathlib.Core.List.{List, [], _∷_}
 use lib.Dec.{eqb, leb, lit<}
 use lib.ListN.{length}
+use lib.Seq.{sets}
 use borrow.Author.Tests.{eq-eqb}
-use Rattle.fields.specs.Number.{u32At}
+use Rattle.fields.specs.Number.{u32At, le32}
 use Rattle.fields.specs.Bytes.{sameBytes, standsAt}
 use Rattle.fields.proofs.Bools.{and-inv, and-both}
 use Rattle.base.specs.Block.{isRegf, storedChecksum, isSummed, minorOf, typeOf, isVersion, binsOf, isBinsSize, usable, isSettled, clean}
 use Rattle.base.proofs.Laws.{usable-facts, facts-clean}
 use Rattle.base.proofs.Sums.{checksum-below, checksum-same}
 use Rattle.sectors.specs.Sector.{Bytes}
-use Rattle.sectors.specs.Closing.{put32, asHive, closingSector}
+use Rattle.sectors.specs.Closing.{asHive, closingSector}
 use Rattle.sectors.proofs.Words.{put-length, put-take, u32-other, u32-same, put-bytes}
 
 -- ---- the checksum
 
 -- the field at 508 is no part of it
-pub checksum-put : (s : List ℕ) (v : ℕ) → storedChecksum (put32 s 508 v) ≡ storedChecksum s
-checksum-put s v = checksum-same (put32 s 508 v) s (λ k h. u32-other s 508 v (k * 4) (inl (omega arith)))
+pub checksum-put : (s : List ℕ) (v : ℕ) → storedChecksum (sets s 508 (le32 v)) ≡ storedChecksum s
+checksum-put s v = checksum-same (sets s 508 (le32 v)) s (λ k h. u32-other s 508 v (k * 4) (inl (omega arith)))
 
 -- ---- the closing sector
 
@@ -84,16 +85,16 @@ module _ (s : List ℕ) (n : length s ≡ 512) (h : Bytes s) where
 
 -- ---- a number put into a base block
 
-pub put-regf : (s : List ℕ) (i v : ℕ) → 4 ≤ i → isRegf (put32 s i v) ≡ isRegf s
+pub put-regf : (s : List ℕ) (i v : ℕ) → 4 ≤ i → isRegf (sets s i (le32 v)) ≡ isRegf s
 unfolding standsAt
 put-regf s i v h = ap (λ (x : List ℕ). sameBytes x (114 ∷ 101 ∷ 103 ∷ 102 ∷ [])) (put-take s i v 4 h)
 
 -- one that meets none of the fields that a version names
 pub put-version : (s : List ℕ) (i v : ℕ) → (i + 4 ≤ 20) ⊎ (((36 ≤ i) × (i + 4 ≤ 44)) ⊎ (48 ≤ i)) → (type : ℕ)
-    → isVersion (put32 s i v) type ≡ isVersion s type
+    → isVersion (sets s i (le32 v)) type ≡ isVersion s type
 unfolding isVersion
 put-version s i v h type =
-    let w : (j : ℕ) → ((j + 4 ≤ 36) × (20 ≤ j)) ⊎ ((44 ≤ j) × (j + 4 ≤ 48)) → u32At (put32 s i v) j ≡ u32At s j = λ j g. u32-other s i v j (apart j g h) in
+    let w : (j : ℕ) → ((j + 4 ≤ 36) × (20 ≤ j)) ⊎ ((44 ≤ j) × (j + 4 ≤ 48)) → u32At (sets s i (le32 v)) j ≡ u32At s j = λ j g. u32-other s i v j (apart j g h) in
     let f₂₀ = w 20 (inl (omega arith, omega arith)) in
     let f₂₄ = w 24 (inl (omega arith, omega arith)) in
     let f₂₈ = w 28 (inl (omega arith, omega arith)) in

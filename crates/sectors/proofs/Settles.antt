@@ -13,15 +13,9 @@ use Rattle.base.specs.Block.{storedChecksum, isRegf, isSummed, isVersion, isBin
 use Rattle.base.proofs.Laws.{usable-facts, facts-clean}
 use Rattle.base.proofs.Sums.{checksum-below}
 use Rattle.sectors.specs.Sector.{Bytes}
-use Rattle.sectors.specs.Closing.{put32}
 use Rattle.sectors.specs.Settling.{evened, settledSector}
 use Rattle.sectors.proofs.Words.{put-length, put-other, u32-other, u32-same, put-bytes}
 use Rattle.sectors.proofs.Closed.{checksum-put, put-regf, put-version}
-
--- a byte that a number does not meet
-put-beside : (s : List ℕ) (at v i : ℕ) → (i < at) ⊎ (at + 4 ≤ i) → getD (put32 s at v) i 0 ≡ getD s i 0
-put-beside s at v i (inl g) = put-other s at v i (omega arith) (omega arith) (omega arith) (omega arith)
-put-beside s at v i (inr g) = put-other s at v i (omega arith) (omega arith) (omega arith) (omega arith)
 
 module _ (s : List ℕ) where
   pub settled-length : length (settledSector s) ≡ length s
@@ -35,7 +29,7 @@ module _ (s : List ℕ) where
   -- every other byte stays
   pub settled-apart : (i : ℕ) → (i < 8) ⊎ (12 ≤ i) → (i < 508) ⊎ (512 ≤ i) → getD (settledSector s) i 0 ≡ getD s i 0
   unfolding settledSector
-  settled-apart i a b = put-beside (evened s) 508 (storedChecksum (evened s)) i b ∙ put-beside s 8 (u32At s 4) i a
+  settled-apart i a b = put-other (evened s) 508 (storedChecksum (evened s)) i b ∙ put-other s 8 (u32At s 4) i a
 
   module _ (n : length s ≡ 512) (b : Bytes s) where
     settled-second : u32At (settledSector s) 8 ≡ u32At s 4

@@ -1,24 +1,14 @@
--- 32-bit numbers put into a list of bytes, and read again.
-use Prim.Native.Nat.{ℕ, zero, suc, _+_, _*_, _/_, _%_, _≤_, _<_}
-use native.Mathlib.Nat.{div-div-eq-div-mul, div-add-mod', mod-eq-of-lt}
+-- Bytes that are set in a list, the four of a 32-bit number above all, and read again.
+use Prim.Native.Nat.{ℕ, zero, suc, _+_, _≤_, _<_}
 use native.Mathlib.Omega.{arith}
-use mathlib.Core.Path.{_≡_, sym, ap, _∙_}
+use mathlib.Core.Path.{_≡_, refl, sym, ap, _∙_}
 use mathlib.Core.Logic.{_≢_, _⊎_, inl, inr}
-use mathlib.Core.List.{List, [], _∷_}
-use lib.Dec.{lit<}
-use lib.ListN.{length, take, getD, set, length-set}
-use lib.Seq.{getD-set-same, getD-set-other, take-set-le}
-use Rattle.fields.specs.Number.{u16At, u32At}
+use mathlib.Core.List.{List, [], _∷_, _++_, append-assoc}
+use lib.ListN.{length, take, drop, getD, set}
+use lib.Seq.{sets, sets-eq, length-sets, length-take-le, getD-set-other, take-set-le}
+use Rattle.fields.specs.Number.{u16At, u32At, le16, le32}
+use Rattle.fields.proofs.Little.{length-le32, u32-le}
 use Rattle.sectors.specs.Sector.{Bytes}
-use Rattle.sectors.specs.Closing.{put32}
-
--- a 32-bit number by its four bytes
-abbrev pub fourAt : List ℕ → ℕ → ℕ
-fourAt s i = getD s i 0 + getD s (i + 1) 0 * 256 + getD s (i + 2) 0 * 65536 + getD s (i + 3) 0 * 16777216
-
-pub u32-four : (s : List ℕ) (i : ℕ) → u32At s i ≡ fourAt s i
-unfolding u32At u16At
-u32-four s i = let e : i + 2 + 1 ≡ i + 3 = omega arith in omega (arith, ap (λ (k : ℕ). getD s k 0) e)
 
 -- ---- lists of bytes
 
@@ -30,35 +20,6 @@ take-bytes (x ∷ l) b zero (suc i) = omega arith
 take-bytes (x ∷ l) b (suc n) zero = b zero
 take-bytes (x ∷ l) b (suc n) (suc i) = take-bytes l (λ k. b (suc k)) n i
 
--- ---- what is put leaves
-
-pub put-length : (s : List ℕ) (i v : ℕ) → length (put32 s i v) ≡ length s
-put-length s i v = simp length-set
-
-pub put-take : (s : List ℕ) (i v n : ℕ) → n ≤ i → take n (put32 s i v) ≡ take n s
-put-take s i v n h =
-    let h₁ : n ≤ i + 1 = omega arith in
-    let h₂ : n ≤ i + 2 = omega arith in
-    let h₃ : n ≤ i + 3 = omega arith in
-    simp take-set-le
-
-pub put-other : (s : List ℕ) (i v j : ℕ) → j ≢ i → j ≢ i + 1 → j ≢ i + 2 → j ≢ i + 3 → getD (put32 s i v) j 0 ≡ getD s j 0
-put-other s i v j n₀ n₁ n₂ n₃ = simp getD-set-other
-
--- every number that does not meet it stays
-pub u32-other : (s : List ℕ) (i v j : ℕ) → (j + 4 ≤ i) ⊎ (i + 4 ≤ j) → u32At (put32 s i v) j ≡ u32At s j
-u32-other s i v j h =
-    let e : (k : ℕ) → k < 4 → getD (put32 s i v) (j + k) 0 ≡ getD s (j + k) 0 = λ k l. apart k l h in
-    u32-four (put32 s i v) j ∙ (λ t. e₀ h t + e 1 (lit< tt) t * 256 + e 2 (lit< tt) t * 65536 + e 3 (lit< tt) t * 16777216) ∙ sym (u32-four s j)
-  where
-    apart : (k : ℕ) → k < 4 → (j + 4 ≤ i) ⊎ (i + 4 ≤ j) → getD (put32 s i v) (j + k) 0 ≡ getD s (j + k) 0
-    apart k l (inl g) = put-other s i v (j + k) (omega arith) (omega arith) (omega arith) (omega arith)
-    apart k l (inr g) = put-other s i v (j + k) (omega arith) (omega arith) (omega arith) (omega arith)
-
-    e₀ : (j + 4 ≤ i) ⊎ (i + 4 ≤ j) → getD (put32 s i v) j 0 ≡ getD s j 0
-    e₀ (inl g) = put-other s i v j (omega arith) (omega arith) (omega arith) (omega arith)
-    e₀ (inr g) = put-other s i v j (omega arith) (omega arith) (omega arith) (omega arith)
-
 set-bytes : (s : List ℕ) (j v : ℕ) → Bytes s → v < 256 → Bytes (set s j v)
 set-bytes [] j v h b i = h i
 set-bytes (x ∷ s) zero v h b zero = b
@@ -66,38 +27,70 @@ set-bytes (x ∷ s) zero v h b (suc i) = h (suc i)
 set-bytes (x ∷ s) (suc j) v h b zero = h zero
 set-bytes (x ∷ s) (suc j) v h b (suc i) = set-bytes s j v (λ k. h (suc k)) b i
 
-pub put-bytes : (s : List ℕ) (i v : ℕ) → Bytes s → Bytes (put32 s i v)
-put-bytes s i v h =
-    let b₀ : v % 256 < 256 = omega arith in
-    let b₁ : v / 256 % 256 < 256 = omega arith in
-    let b₂ : v / 65536 % 256 < 256 = omega arith in
-    let b₃ : v / 16777216 % 256 < 256 = omega arith in
-    let s₁ = set s i (v % 256) in
-    let s₂ = set s₁ (i + 1) (v / 256 % 256) in
-    let s₃ = set s₂ (i + 2) (v / 65536 % 256) in
-    set-bytes s₃ (i + 3) (v / 16777216 % 256) (set-bytes s₂ (i + 2) (v / 65536 % 256) (set-bytes s₁ (i + 1) (v / 256 % 256) (set-bytes s i (v % 256) h b₀) b₁) b₂) b₃
+sets-bytes : (xs s : List ℕ) (i : ℕ) → Bytes s → Bytes xs → Bytes (sets s i xs)
+sets-bytes [] s i h b = h
+sets-bytes (x ∷ xs) s i h b = sets-bytes xs (set s i x) (suc i) (set-bytes s i x h (b 0)) (λ k. b (suc k))
 
--- ---- what is put is there
+le-bytes : (v : ℕ) → Bytes (le32 v)
+unfolding le32 le16
+le-bytes v zero = omega arith
+le-bytes v (suc zero) = omega arith
+le-bytes v (suc (suc zero)) = omega arith
+le-bytes v (suc (suc (suc zero))) = omega arith
+le-bytes v (suc (suc (suc (suc i)))) = omega arith
 
--- a number below 2 ^ 32 is its four bytes
-four-bytes : (v : ℕ) → v < 4294967296 → v % 256 + v / 256 % 256 * 256 + v / 65536 % 256 * 65536 + v / 16777216 % 256 * 16777216 ≡ v
-four-bytes v small =
-    let q₃ : v / 16777216 < 256 = omega arith in
-    omega (arith, div-add-mod' v 256, div-add-mod' (v / 256) 256, div-add-mod' (v / 65536) 256, div-div-eq-div-mul v 256 256, div-div-eq-div-mul v 65536 256, mod-eq-of-lt q₃)
+-- ---- what is set leaves
 
-pub u32-same : (s : List ℕ) (i v : ℕ) → v < 4294967296 → i + 4 ≤ length s → u32At (put32 s i v) i ≡ v
-u32-same s i v small fits =
-    let s₁ = set s i (v % 256) in
-    let s₂ = set s₁ (i + 1) (v / 256 % 256) in
-    let s₃ = set s₂ (i + 2) (v / 65536 % 256) in
-    let v₃ = v / 16777216 % 256 in
-    let b₀ : getD (put32 s i v) i 0 ≡ v % 256 =
-    getD-set-other s₃ (i + 3) i v₃ 0 (omega arith) ∙ getD-set-other s₂ (i + 2) i (v / 65536 % 256) 0 (omega arith)
-    ∙ getD-set-other s₁ (i + 1) i (v / 256 % 256) 0 (omega arith) ∙ getD-set-same s i (v % 256) 0 (omega arith) in
-    let b₁ : getD (put32 s i v) (i + 1) 0 ≡ v / 256 % 256 =
-    getD-set-other s₃ (i + 3) (i + 1) v₃ 0 (omega arith) ∙ getD-set-other s₂ (i + 2) (i + 1) (v / 65536 % 256) 0 (omega arith)
-    ∙ getD-set-same s₁ (i + 1) (v / 256 % 256) 0 (simp length-set (omega arith)) in
-    let b₂ : getD (put32 s i v) (i + 2) 0 ≡ v / 65536 % 256 =
-    getD-set-other s₃ (i + 3) (i + 2) v₃ 0 (omega arith) ∙ getD-set-same s₂ (i + 2) (v / 65536 % 256) 0 (simp length-set (omega arith)) in
-    let b₃ : getD (put32 s i v) (i + 3) 0 ≡ v₃ = getD-set-same s₃ (i + 3) v₃ 0 (simp length-set (omega arith)) in
-    omega (arith, u32-four (put32 s i v) i, four-bytes v small)
+sets-take : (xs s : List ℕ) (i n : ℕ) → n ≤ i → take n (sets s i xs) ≡ take n s
+sets-take [] s i n h = refl
+sets-take (x ∷ xs) s i n h = sets-take xs (set s i x) (suc i) n (omega arith) ∙ take-set-le n s i x h
+
+sets-other : (xs s : List ℕ) (i j : ℕ) → (j < i) ⊎ (i + length xs ≤ j) → getD (sets s i xs) j 0 ≡ getD s j 0
+sets-other [] s i j h = refl
+sets-other (x ∷ xs) s i j h = sets-other xs (set s i x) (suc i) j (on h) ∙ getD-set-other s i j x 0 (off h)
+  where
+    on : (j < i) ⊎ (i + suc (length xs) ≤ j) → (j < suc i) ⊎ (suc i + length xs ≤ j)
+    on (inl a) = inl (omega arith)
+    on (inr a) = inr (omega arith)
+
+    off : (j < i) ⊎ (i + suc (length xs) ≤ j) → j ≢ i
+    off (inl a) = omega arith
+    off (inr a) = omega arith
+
+-- ---- a 32-bit number that is put: its place, and that it is there
+
+module _ (s : List ℕ) (i v : ℕ) where
+  pub put-length : length (sets s i (le32 v)) ≡ length s
+  put-length = length-sets s i (le32 v)
+
+  pub put-take : (n : ℕ) → n ≤ i → take n (sets s i (le32 v)) ≡ take n s
+  put-take n h = sets-take (le32 v) s i n h
+
+  pub put-bytes : Bytes s → Bytes (sets s i (le32 v))
+  put-bytes h = sets-bytes (le32 v) s i h (le-bytes v)
+
+  -- every byte that it does not meet stays
+  pub put-other : (k : ℕ) → (k < i) ⊎ (i + 4 ≤ k) → getD (sets s i (le32 v)) k 0 ≡ getD s k 0
+  put-other k g = sets-other (le32 v) s i k (rw length-le32 g)
+
+  -- every number that does not meet it stays
+  pub u32-other : (j : ℕ) → (j + 4 ≤ i) ⊎ (i + 4 ≤ j) → u32At (sets s i (le32 v)) j ≡ u32At s j
+  unfolding u32At u16At
+  u32-other j h =
+      let a = put-other j (go 0 (omega arith) (omega arith) h) in
+      let b = put-other (j + 1) (go 1 (omega arith) (omega arith) h) in
+      let c = put-other (j + 2) (go 2 (omega arith) (omega arith) h) in
+      let d = put-other (j + 2 + 1) (go 3 (omega arith) (omega arith) h) in
+      omega arith
+    where
+      go : (k : ℕ) {m : ℕ} → k < 4 → m ≡ j + k → (j + 4 ≤ i) ⊎ (i + 4 ≤ j) → (m < i) ⊎ (i + 4 ≤ m)
+      go k l e (inl g) = inl (omega arith)
+      go k l e (inr g) = inr (omega arith)
+
+  pub u32-same : v < 4294967296 → i + 4 ≤ length s → u32At (sets s i (le32 v)) i ≡ v
+  u32-same small fits =
+      let n = length-le32 v in
+      let behind = drop (i + length (le32 v)) s in
+      ap (λ (x : List ℕ). u32At x i) (sets-eq (le32 v) s i (omega arith) ∙ append-assoc (take i s) (le32 v) behind)
+      ∙ ap (u32At (take i s ++ (le32 v ++ behind))) (sym (length-take-le i s (omega arith)))
+      ∙ u32-le (take i s) v small behind

@@ -5,7 +5,7 @@ ghost use mathlib.Core.Path.{_≡_};
 ghost use Prim.Native.Nat.{_+_, _*_, _≤_, _<_};
 ghost use lib.ListN.{length};
 ghost use Rattle.sectors.specs.Sector.{sectorAt, stored, pagePlace};
-ghost use Rattle.sectors.specs.Closing.{put32, closingSector};
+ghost use Rattle.sectors.specs.Closing.{closingSector};
 ghost use Rattle.sectors.specs.Settling.{settledSector};
 
 // Where a page of the bins data lies in the hive.
@@ -27,24 +27,14 @@ pub fn store(hive: &mut [u8], to: Place, log: &[u8], from: Place)
     fields::copy_all(&log[b..b + 512], &mut hive[a..a + 512]);
 }
 
-pub fn put_u32(dst: &mut [u8], i: usize, v: u32)
-    requires { ⌜ i + 4 ≤ length (now dst) ⌝ }
-    ensures { λ _. ⌜ now (dst .exit) ≡ put32 (now (dst .entry)) i v ⌝ }
-{
-    dst[i] = (v % 256) as u8;
-    dst[i + 1] = (v / 256 % 256) as u8;
-    dst[i + 2] = (v / 65536 % 256) as u8;
-    dst[i + 3] = (v / 16777216 % 256) as u8;
-}
-
 // Makes a log's first sector a hive's: type 0, then the checksum over what then stands there.
 pub fn seal(dst: &mut [u8])
     requires { ⌜ 512 ≤ length (now dst) ⌝ }
     ensures { λ _. ⌜ now (dst .exit) ≡ closingSector (now (dst .entry)) ⌝ }
 {
-    put_u32(dst, 28, 0);
+    fields::put_u32(dst, 28, 0);
     let sum = base::stored_checksum(dst);
-    put_u32(dst, 508, sum);
+    fields::put_u32(dst, 508, sum);
 }
 
 // Writes the closing sector of the log to the hive's first 512 bytes.
@@ -63,7 +53,7 @@ pub fn even(dst: &mut [u8])
     ensures { λ _. ⌜ now (dst .exit) ≡ settledSector (now (dst .entry)) ⌝ }
 {
     let first = fields::u32_at(dst, 4);
-    put_u32(dst, 8, first);
+    fields::put_u32(dst, 8, first);
     let renewed = base::stored_checksum(dst);
-    put_u32(dst, 508, renewed);
+    fields::put_u32(dst, 508, renewed);
 }

@@ -1,6 +1,8 @@
-use Rattle.sectors.specs.Closing.{put32, closingSector}
+use Rattle.sectors.specs.Closing.{closingSector}
 use mathlib.Core.List.{List}
 use Prim.Native.Nat.{ℕ}
+use lib.Seq.{sets}
+use Rattle.fields.specs.Number.{le32}
 use mathlib.Core.Path.{ap, _∙_}
 use borrow.Author.Needs.{needs}
 use Rattle.new_log.proofs.renew.Statement.{statement}
@@ -8,12 +10,16 @@ use Rattle.new_log.proofs.renew.Tie as tie
 
 returns : tie.Need-returns
 returns c =
-    let s = c .before .before .before .before .before .before .before .before .before .before .before .before .before .before .before .before .before in
-    c .before .before .seal .ensures
+    let k = c .before .before in
+    let p3 = k .before .before .before .before in
+    let p2 = p3 .before .before .before .before in
+    let p1 = p2 .before .before .before .before in
+    let s = p1 .before .before .before in
+    k .seal .ensures
     ∙ ap closingSector
-    (c .before .before .before .before .before .before .put-u323 .ensures
-    ∙ ap (λ (x : List ℕ). put32 x 40 (s .args .bins))
-    (c .before .before .before .before .before .before .before .before .before .before .put-u322 .ensures ∙ ap (λ (x : List ℕ). put32 x 8 (s .args .number)) (c .before .before .before .before .before .before .before .before .before .before .before .before .before .before .put-u32 .ensures)))
+    (p3 .put-u323 .ensures
+    ∙ ap (λ (x : List ℕ). sets x 40 (le32 (s .args .bins)))
+    (p2 .put-u322 .ensures ∙ ap (λ (x : List ℕ). sets x 8 (le32 (s .args .number))) (p1 .put-u32 .ensures)))
 
 pub renew-spec : {M : Type 1} → statement M
 renew-spec =

@@ -1,8 +1,8 @@
 use Rattle.base.specs.Block.{sector}
-use Rattle.sectors.specs.Closing.{put32, closingSector}
+use Rattle.sectors.specs.Closing.{closingSector}
 use Rattle.entries.specs.declared.Chain.{Chain}
 use Rattle.entries.proofs.Counted.{bins-sized}
-use Rattle.new_log.specs.Tests.{closingOf}
+use Rattle.new_log.specs.Tests.{renewed, closingOf}
 use Rattle.new_log.proofs.Facts.{log-long, some-counted}
 use lib.Seq.{length-take-le, take-at, drop-at}
 use lib.ListN.{length, take, drop}
@@ -19,7 +19,8 @@ store-requires c κs = let s = c .before .before .before in (s .pre .1 .1, log-l
 
 cast-renew : tie.Need-cast-renew
 cast-renew c =
-    let s = c .before .before .before .before .before .before .before .before in
+    let i = c .before .before .before .before in
+    let s = i .before .before .before .before in
     let l = s .args .log .now in
     omega (arith, ap (λ (k : Chain). k .bins) (s .pre .1 .0), bins-sized l (some-counted l (s .pre .0)) .limit)
 
@@ -27,16 +28,16 @@ returns : tie.Need-returns
 unfolding closingOf
 returns c =
     let k = c .before .before in
-    let i = c .before .before .before .before .before .before .before in
-    let s = c .before .before .before .before .before .before .before .before .before .before .before in
+    let i = k .before .before .before .before .before in
+    let s = i .before .before .before .before in
     let l = s .args .log .now in
     let y = drop 512 (s .args .hive .now) in
     let n : length (sector l) ≡ 512 = length-take-le 512 l (log-long l (s .pre .0)) in
     ap₂ _++_
     (k .renew .ensures
-    ∙ ap (λ (x : List ℕ). closingSector (put32 (put32 (put32 x 4 (s .args .chain .last)) 8 (s .args .chain .last)) 40 (s .args .chain .bins)))
+    ∙ ap (λ (x : List ℕ). closingSector (renewed x (s .args .chain .last) (s .args .chain .bins)))
     (ap (take 512) (i .store .ensures) ∙ take-at (sector l) y 512 n)
-    ∙ ap (λ (e : Chain). closingSector (put32 (put32 (put32 (sector l) 4 (e .last)) 8 (e .last)) 40 (e .bins))) (s .pre .1 .0))
+    ∙ ap (λ (e : Chain). closingSector (renewed (sector l) (e .last) (e .bins))) (s .pre .1 .0))
     (ap (drop 512) (i .store .ensures) ∙ drop-at (sector l) y 512 n)
 
 pub store-closing-spec : {M : Type 1} → statement M

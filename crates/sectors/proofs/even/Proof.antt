@@ -1,4 +1,5 @@
-use Rattle.sectors.specs.Closing.{put32}
+use lib.Seq.{sets}
+use Rattle.fields.specs.Number.{le32}
 use Rattle.sectors.specs.Settling.{settledSector}
 use Rattle.base.specs.Block.{storedChecksum}
 use Prim.Native.Nat.{ℕ}
@@ -16,8 +17,8 @@ returns c =
     let p1 = k .before .before .before .before in
     let u = p1 .before .before in
     let s = u .before .before .before .args .dst .now in
-    let e = p1 .put-u32 .ensures ∙ ap (λ (v : ℕ). put32 s 8 v) (u .u32-at .ensures) in
-    p2 .put-u322 .ensures ∙ ap₂ (λ (l : List ℕ) (v : ℕ). put32 l 508 v) e (k .stored-checksum .ensures ∙ ap storedChecksum e)
+    let e = p1 .put-u32 .ensures ∙ ap (λ (v : ℕ). sets s 8 (le32 v)) (u .u32-at .ensures) in
+    p2 .put-u322 .ensures ∙ ap₂ (λ (l : List ℕ) (v : ℕ). sets l 508 (le32 v)) e (k .stored-checksum .ensures ∙ ap storedChecksum e)
 
 pub even-spec : {M : Type 1} → statement M
 even-spec =

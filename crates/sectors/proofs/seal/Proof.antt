@@ -1,6 +1,8 @@
-use Rattle.sectors.specs.Closing.{put32, closingSector}
+use Rattle.sectors.specs.Closing.{closingSector}
 use Rattle.base.specs.Block.{storedChecksum}
 use Prim.Native.Nat.{ℕ}
+use Rattle.fields.specs.Number.{le32}
+use lib.Seq.{sets}
 use mathlib.Core.List.{List}
 use mathlib.Core.Path.{ap, ap₂, _∙_}
 use borrow.Author.Needs.{needs}
@@ -13,7 +15,7 @@ returns c =
     let p2 = c .before .before in
     let k = p2 .before .before in
     let p1 = k .before .before .before .before in
-    p2 .put-u322 .ensures ∙ ap₂ (λ (l : List ℕ) (v : ℕ). put32 l 508 v) (p1 .put-u32 .ensures) (k .stored-checksum .ensures ∙ ap storedChecksum (p1 .put-u32 .ensures))
+    p2 .put-u322 .ensures ∙ ap₂ (λ (l : List ℕ) (v : ℕ). sets l 508 (le32 v)) (p1 .put-u32 .ensures) (k .stored-checksum .ensures ∙ ap storedChecksum (p1 .put-u32 .ensures))
 
 pub seal-spec : {M : Type 1} → statement M
 seal-spec =
