@@ -349,7 +349,7 @@ fn renew(dst: &mut [u8], number: u32, bins: u32)
     fields::put_u32(dst, 4, number);
     fields::put_u32(dst, 8, number);
     fields::put_u32(dst, 40, bins);
-    sectors::seal(dst);
+    sectors::make_closing(dst);
 }
 
 // Writes the closing sector to the hive's first 512 bytes.

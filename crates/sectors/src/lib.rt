@@ -27,8 +27,8 @@ pub fn store(hive: &mut [u8], to: Place, log: &[u8], from: Place)
     fields::copy_all(&log[b..b + 512], &mut hive[a..a + 512]);
 }
 
-// Makes a log's first sector a hive's: type 0, then the checksum over what then stands there.
-pub fn seal(dst: &mut [u8])
+// Makes a log's first sector the closing one, a hive's: type 0, then the checksum over what then stands there.
+pub fn make_closing(dst: &mut [u8])
     requires { ⌜ 512 ≤ length (now dst) ⌝ }
     ensures { λ _. ⌜ now (dst .exit) ≡ closingSector (now (dst .entry)) ⌝ }
 {
@@ -44,7 +44,7 @@ pub fn store_closing(hive: &mut [u8], log: &[u8])
     ensures { λ _. ⌜ now (hive .exit) ≡ stored (now (hive .entry)) 0 (closingSector (sectorAt (now (log .entry)) 0)) ⌝ }
 {
     store(hive, Place(0), log, Place(0));
-    seal(&mut hive[0..512]);
+    make_closing(&mut hive[0..512]);
 }
 
 // Makes the sequence numbers of a hive's first sector equal: the second becomes the first, then the checksum over what then stands there.

@@ -15,7 +15,7 @@ returns c =
     let p2 = p3 .before .before .before .before in
     let p1 = p2 .before .before .before .before in
     let s = p1 .before .before .before in
-    k .seal .ensures
+    k .make-closing .ensures
     ∙ ap closingSector
     (p3 .put-u323 .ensures
     ∙ ap (λ (x : List ℕ). sets x 40 (le32 (s .args .bins)))

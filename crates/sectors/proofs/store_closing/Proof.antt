@@ -15,7 +15,7 @@ returns c =
     let x = take 512 (s .args .log .now) in
     let y = drop 512 (s .args .hive .now) in
     let n : length x ≡ 512 = length-take-le 512 (s .args .log .now) (s .pre .1) in
-    ap₂ _++_ (k .seal .ensures ∙ ap closingSector (ap (take 512) (i .store .ensures) ∙ take-at x y 512 n))
+    ap₂ _++_ (k .make-closing .ensures ∙ ap closingSector (ap (take 512) (i .store .ensures) ∙ take-at x y 512 n))
     (ap (drop 512) (i .store .ensures) ∙ drop-at x y 512 n)
 
 pub store-closing-spec : {M : Type 1} → statement M

@@ -6,8 +6,8 @@ use lib.Seq.{sets}
 use mathlib.Core.List.{List}
 use mathlib.Core.Path.{ap, ap₂, _∙_}
 use borrow.Author.Needs.{needs}
-use Rattle.sectors.proofs.seal.Statement.{statement}
-use Rattle.sectors.proofs.seal.Tie as tie
+use Rattle.sectors.proofs.make_closing.Statement.{statement}
+use Rattle.sectors.proofs.make_closing.Tie as tie
 
 returns : tie.Need-returns
 unfolding closingSector
@@ -17,7 +17,7 @@ returns c =
     let p1 = k .before .before .before .before in
     p2 .put-u322 .ensures ∙ ap₂ (λ (l : List ℕ) (v : ℕ). sets l 508 (le32 v)) (p1 .put-u32 .ensures) (k .stored-checksum .ensures ∙ ap storedChecksum (p1 .put-u32 .ensures))
 
-pub seal-spec : {M : Type 1} → statement M
-seal-spec =
+pub make-closing-spec : {M : Type 1} → statement M
+make-closing-spec =
     tie.close
     (tie.spec (λ c κs. search needs) (λ c κs. search needs) (λ c κs. search needs) (λ c. search needs) returns)
