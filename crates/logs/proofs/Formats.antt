@@ -1,10 +1,11 @@
 -- Each question of a log whose format is known: that of its own crate.
-use Prim.Native.Nat.{ℕ, _/_}
+use Prim.Native.Nat.{ℕ, _+_, _/_, _≤_}
 use native.Mathlib.Omega.{arith}
 use mathlib.Core.Path.{_≡_, refl, sym, ap, _∙_}
 use mathlib.Core.Bool.{Bool, true, false, cond}
 use mathlib.Core.List.{List}
 use Rattle.fields.specs.declared.Verdict.{Verdict}
+use Rattle.fields.specs.declared.Verdict.the-variants.{Sound}
 use Rattle.bitmap.specs.declared.Next.{Next}
 use Rattle.sectors.specs.Logged.{inBelow, putBelow}
 use Rattle.entries.specs.declared.Chain.{Chain}
@@ -158,3 +159,18 @@ module _ (l : List ℕ) where
 
     pub new-put : (h : List ℕ) → allPut h l ≡ new-layout.allPut h l
     new-put h = λ t. putBelow (new-is t) (new-last t) (new-bins t / 512) h
+
+  -- ---- a question that goes on to the crate of its format: what was read, which the code's match has told, and what such a question counts on
+
+  pub old-told : {r : Read} → r ≡ Old → r ≡ readOf l → isNew l ≡ false
+  old-told e p = is-old (sym e ∙ p)
+
+  pub new-told : {r : Read} {c : Chain} → r ≡ New c → r ≡ readOf l → (isNew l ≡ true) × (c ≡ chainOf l)
+  new-told {c = c} e p = is-new c (sym e ∙ p)
+
+  module _ {r : Read} {n : ℕ} (x : (logFault l ≡ Sound) × ((r ≡ readOf l) × (4096 + logBins l ≤ n))) where
+    pub old-room : r ≡ Old → (tests.logFault l ≡ Sound) × (4096 + layout.logBins l ≤ n)
+    old-room e = let o = old-told e (x .1 .0) in let h = x .1 .1 in (sym (old-fault o) ∙ x .0, omega (arith, h, old-bins o))
+
+    pub new-room : {c : Chain} → r ≡ New c → (new-tests.logFault l ≡ Sound) × ((c ≡ chainOf l) × (4096 + new-layout.logBins l ≤ n))
+    new-room e = let m = new-told e (x .1 .0) in let h = x .1 .1 in (sym (new-fault (m .0)) ∙ x .0, (m .1, omega (arith, h, new-bins (m .0))))

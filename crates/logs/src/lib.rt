@@ -100,15 +100,13 @@ fn old_test(log: &[u8]) -> Tested
     }
 }
 
+// The same tests, for none counts a page.
 fn new_test(log: &[u8]) -> Tested
     ensures { λ r. ⌜ r ≡ tested (newTests.logFault (now (log .entry))) (format.New (chainOf (now (log .entry)))) 0 ⌝ }
 {
-    match new_log::read(log) {
-        new_log::Head::Flawed(f) => Tested::Flawed(f),
-        new_log::Head::Good(chain) => Tested::Logged {
-            read: Read::New(chain),
-            counted: 0,
-        },
+    match new_head(log) {
+        Head::Flawed(f) => Tested::Flawed(f),
+        Head::Good(read) => Tested::Logged { read, counted: 0 },
     }
 }
 

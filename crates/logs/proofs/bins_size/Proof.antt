@@ -1,4 +1,4 @@
-use Rattle.logs.proofs.Formats.{is-old, is-new, old-bins, new-bins}
+use Rattle.logs.proofs.Formats.{old-told, new-told, old-bins, new-bins}
 use Rattle.logs.proofs.Laws.{head-of, log-long, bins-sized}
 use Rattle.entries.specs.declared.Chain.{Chain}
 use native.Mathlib.Omega.{arith}
@@ -13,16 +13,14 @@ bins-size-requires c κs = let s = c .before .before .before in log-long (s .arg
 returns : tie.Need-returns
 returns c =
     let s = c .before .before .before .before in
-    let l = s .args .log .now in
-    let o = is-old l (sym (c .before .enum-told .given .1) ∙ s .pre .1) in
-    (c .bins-size .ensures .0 ∙ sym (old-bins l o), c .bins-size .ensures .1)
+    let o = old-told _ (c .before .enum-told .given .1) (s .pre .1) in
+    (c .bins-size .ensures .0 ∙ sym (old-bins _ o), c .bins-size .ensures .1)
 
 returns-2 : tie.Need-returns-2
 returns-2 c =
     let s = c .before .before .before .before in
     let l = s .args .log .now in
-    let g = c .before .read .given in
-    let n = is-new l (g .0 .0) (sym (g .1) ∙ s .pre .1) in
+    let n = new-told l (c .before .read .given .1) (s .pre .1) in
     let e = ap (λ (x : Chain). x .largest) (n .1) ∙ sym (new-bins l (n .0)) in
     (e, omega (arith, e, bins-sized l (head-of l (s .pre .0)) .limit))
 
