@@ -1,4 +1,5 @@
 pub mod Ways
+pub mod Called
 pub mod ByStart
 pub mod Accepts
 pub mod Within
