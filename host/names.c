@@ -37,7 +37,7 @@ bool is_called(Name stored, Units name)
     size_t count = unit_count(stored);
     for (size_t i = 0; i < count; i++)
         units[i] = (uint16_t)unit_at(stored, i);
-    return hive_name_order(units, count, name.at, name.length) == 0;
+    return hive_name_order(units, count, name.at, name.length) == HIVE_SAME;
 }
 
 /* What gives a terminal orders, breaks a line, or changes how the text around it looks: so no file can. Halves of pairs are no characters. */

@@ -110,6 +110,13 @@ enum {
     HIVE_OLD_VALUE = 2,
 };
 
+/* The order of two names. No answer is 0. */
+enum {
+    HIVE_BEFORE = 1,
+    HIVE_SAME = 2,
+    HIVE_AFTER = 3,
+};
+
 /* No key is named: no cell lies there. */
 #define HIVE_NO_KEY 0xffffffffu
 
@@ -605,10 +612,10 @@ HiveLog hive_recover_log(const uint8_t *log, size_t log_len);
 HiveRecovery hive_settle(uint8_t *hive, size_t hive_len);
 
 /* The order of two names, each in UTF-16 units, as the check and the lookups compare names: by code, with a to z, 0xE0 to 0xFE except
- * 0xF7, and 0xFF as capitals, and a prefix before the longer name. -1 where the first comes before the second, 0 where they are the
- * same name, 1 where it comes after. Any units will do, none too.
+ * 0xF7, and 0xFF as capitals, and a prefix before the longer name. HIVE_BEFORE where the first comes before the second, HIVE_SAME
+ * where they are the same name, HIVE_AFTER where it comes after. Any units will do, none too.
  */
-int32_t hive_name_order(const uint16_t *a, size_t a_len, const uint16_t *b, size_t b_len);
+uint32_t hive_name_order(const uint16_t *a, size_t a_len, const uint16_t *b, size_t b_len);
 
 #ifdef __cplusplus
 }

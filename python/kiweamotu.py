@@ -39,7 +39,7 @@ import os
 import stat
 import sys
 import threading
-from ctypes import c_int32, c_size_t, c_uint32, c_uint64, c_void_p
+from ctypes import c_size_t, c_uint32, c_uint64, c_void_p
 from typing import Any, BinaryIO, Callable, Iterator, List, NamedTuple, Optional, Sequence, Tuple, TypeVar, Union, overload
 
 __all__ = ["Hive", "Key", "Value", "Deleted", "Report", "Exported", "Repair", "Log", "Refused", "Unsound", "Unbuilt", "build", "log_facts", "name_order",
@@ -49,6 +49,7 @@ SECTOR = 512
 INTERFACES = (3,)  # those that this file knows; in 2 and 1 the states had other numbers
 REFUSED, CLEAN, DONE, NO_MORE, THERE, OVER, OPENS, CLOSES, WRITTEN = range(9)
 SEGMENTS = 3
+SAME = 2  # between before, 1, and after, 3
 NO_KEY = 0xFFFFFFFF
 LEVELS = 512
 WORDS_OF_A_WALK = 3 * (LEVELS + 1)  # three for each key that is open at once
@@ -208,7 +209,7 @@ _CALLS = {
     "hive_recover_mark_pages": (_Recovery, _MEMORY * 2),
     "hive_recover_log": (_Log, _MEMORY),
     "hive_settle": (_Recovery, _MEMORY),
-    "hive_name_order": (c_int32, _MEMORY * 2),
+    "hive_name_order": (c_uint32, _MEMORY * 2),
 }
 
 
@@ -451,7 +452,7 @@ def name_order(a: str, b: str) -> int:
     >>> name_order("K\xe9", "k\xc9"), name_order("a", "ab"), name_order("_", "Z")
     (0, -1, 1)
     """
-    return _library.hive_name_order(*_units(a), *_units(b))
+    return _library.hive_name_order(*_units(a), *_units(b)) - SAME
 
 
 # ---- answers

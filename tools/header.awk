@@ -5,7 +5,6 @@ function trim(s) { gsub(/^[ \t]+|[ \t]+$/, "", s); return s }
 function number(t) {
     if (t == "usize") return "size_t"
     if (t ~ /^u[0-9]+$/) { sub(/^u/, "", t); return "uint" t "_t" }
-    if (t ~ /^i[0-9]+$/) { sub(/^i/, "", t); return "int" t "_t" }
     return t
 }
 function parameter(s,   i, name, t, c) {

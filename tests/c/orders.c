@@ -344,7 +344,7 @@ static void ordered(const uint16_t *units, size_t n)
     static size_t before_count;
     for (size_t i = 0; i < n; i++)
         turned[i] = units[i] ^ 0x20;
-    printf(" order: %d %d %d\n", hive_name_order(units, n / 2, units + n / 2, n - n / 2), hive_name_order(units, n, before, before_count),
+    printf(" order: %u %u %u\n", hive_name_order(units, n / 2, units + n / 2, n - n / 2), hive_name_order(units, n, before, before_count),
            hive_name_order(units, n, turned, n));
     memcpy(before, units, 2 * n);
     before_count = n;

@@ -28,8 +28,8 @@ static void t_states(void)
 static int order(const uint16_t *a, size_t n, const uint16_t *b, size_t k)
 {
     const uint16_t *x = (const uint16_t *)lend(0, a, 2 * n), *y = (const uint16_t *)lend(1, b, 2 * k);
-    int r = hive_name_order(x, n, y, k);
-    EXPECT(hive_name_order(y, k, x, n) == -r);
+    int r = (int)hive_name_order(x, n, y, k) - HIVE_SAME;
+    EXPECT((int)hive_name_order(y, k, x, n) - HIVE_SAME == -r && r >= -1 && r <= 1);
     return r;
 }
 
@@ -73,7 +73,7 @@ static void t_order(void)
     };
     for (size_t i = 0; i < sizeof rows / sizeof rows[0]; i++)
         EXPECT(order(rows[i].a, rows[i].n, rows[i].b, rows[i].k) == rows[i].order);
-    EXPECT(hive_name_order(NULL, 0, NULL, 0) == 0);
+    EXPECT(hive_name_order(NULL, 0, NULL, 0) == HIVE_SAME && HIVE_BEFORE == 1 && HIVE_SAME == 2 && HIVE_AFTER == 3);
 }
 
 static void t_order_units(void)

@@ -122,7 +122,7 @@ def layouts():
     for struct_name, kind in mine.items():
         expect(re.findall(r"sizeof\(%s\) == (\d+)" % struct_name, header), [str(ctypes.sizeof(kind))])
         expect(re.findall(r"offsetof\(%s, (\w+)\) == (\d+)" % struct_name, header), [(f, str(getattr(kind, f).offset)) for f, _ in kind._fields_])
-    types = {"size_t": ctypes.c_size_t, "int32_t": ctypes.c_int32, "uint32_t": ctypes.c_uint32, **mine}
+    types = {"size_t": ctypes.c_size_t, "uint32_t": ctypes.c_uint32, **mine}
     for name, (result, arguments) in kiweamotu._CALLS.items():
         (answer, parameters), = re.findall(r"^(\w+) %s\((.*)\);" % name, header, re.M)
         expect(types[answer], result)

@@ -2,7 +2,6 @@
 -- cases. The promises use that definition."
 use Prim.Native.Nat.{ℕ, _+_, _-_}
 use mathlib.Core.Bool.{Bool, cond}
-use lib.IntN.{ℤ, pos, negsuc}
 use Rattle.fields.specs.declared.Refusal.{Refusal}
 use Rattle.fields.specs.Faults.{numberOf, noKey}
 use Rattle.names.specs.declared.Order.{Order}
@@ -236,7 +235,7 @@ logIn (log.Refused f) = logWith (refused f) 0 0 0 0 0
 logIn (log.Of x) = logWith (granted 0) (x .entries) (x .first) (x .last) (x .end) (x .bins)
 
 -- the order of two names: before, the same, after
-abbrev pub orderIn : Order → ℤ
-orderIn Before = negsuc 0
-orderIn Same = pos 0
-orderIn After = pos 1
+abbrev pub orderIn : Order → ℕ
+orderIn Before = 1
+orderIn Same = 2
+orderIn After = 3

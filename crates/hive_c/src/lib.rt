@@ -99,6 +99,13 @@ const OLD_KEY: u64 = 1;
 
 const OLD_VALUE: u64 = 2;
 
+// The order of two names. No answer is 0.
+const BEFORE: u32 = 1;
+
+const SAME: u32 = 2;
+
+const AFTER: u32 = 3;
+
 // No key is named: no cell lies there.
 const NO_KEY: u32 = 0xffff_ffff;
 
@@ -1196,21 +1203,21 @@ pub extern "C" fn hive_settle(hive: &mut [u8]) -> HiveRecovery
     stepped(recovery::settle(hive))
 }
 
-fn order_number(o: Order) -> i32
+fn order_number(o: Order) -> u32
     ensures { λ r. ⌜ r ≡ orderIn o ⌝ }
 {
     match o {
-        Order::Before => -1,
-        Order::Same => 0,
-        Order::After => 1,
+        Order::Before => BEFORE,
+        Order::Same => SAME,
+        Order::After => AFTER,
     }
 }
 
 // The order of two names, each in UTF-16 units, as the check and the lookups compare names: by code, with a to z, 0xE0 to 0xFE except
-// 0xF7, and 0xFF as capitals, and a prefix before the longer name. -1 where the first comes before the second, 0 where they are the
-// same name, 1 where it comes after. Any units will do, none too.
+// 0xF7, and 0xFF as capitals, and a prefix before the longer name. HIVE_BEFORE where the first comes before the second, HIVE_SAME
+// where they are the same name, HIVE_AFTER where it comes after. Any units will do, none too.
 #[no_mangle]
-pub extern "C" fn hive_name_order(a: &[u16], b: &[u16]) -> i32
+pub extern "C" fn hive_name_order(a: &[u16], b: &[u16]) -> u32
     ensures { λ r. ⌜ r ≡ orderIn (compare (now (a .entry)) (now (b .entry))) ⌝ }
 {
     order_number(names::compare_units(a, b))
