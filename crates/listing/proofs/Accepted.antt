@@ -1,4 +1,5 @@
--- In an accepted hive the members of a key that the tree holds are those of its lists, in order, and then there are no more; each of its values has facts.
+-- In an accepted hive the members of a key that the tree holds are those of its lists, in order, and then there are no more; each of its values has facts,
+-- and the key has a descriptor.
 use Prim.Native.Nat.{ℕ, zero, suc, _+_, _-_, _<_, _≤_}
 use native.Mathlib.Omega.{arith}
 use mathlib.Core.Path.{_≡_, refl, sym, ap, _∙_, subst}
@@ -9,17 +10,23 @@ use lib.Dec.{eqb, leb}
 use lib.ListN.{length, getD, length-append, List·getD-append}
 use borrow.Author.Tests.{eqb-false, leb-true, leb-false, le-leb, lt-leb}
 use Rattle.fields.specs.declared.Offset.{Offset}
+use Rattle.fields.specs.declared.Fault.the-variants.{Record}
+use Rattle.fields.specs.declared.Verdict.{Verdict}
 use Rattle.fields.specs.declared.Verdict.the-variants.{Sound}
-use Rattle.fields.specs.Faults.{nowhere}
+use Rattle.fields.specs.Faults.{flaw, nowhere}
+use Rattle.fields.proofs.Firsts.{sound, holds}
 use Rattle.base.specs.Block.{sector, minorOf, binsData, baseFault}
 use Rattle.base.proofs.Laws.{facts-base}
 use Rattle.cells.specs.declared.Rule.the-variants.{Header}
 use Rattle.cells.specs.Named.{dataAt}
 use Rattle.cells.specs.Tiled.{BinsTile}
+use Rattle.cells.proofs.Mapped.{header-sound}
 use Rattle.records.specs.declared.Child.{Child}
-use Rattle.records.specs.Keys.{keyFault, keyOf}
+use Rattle.records.specs.Keys.{keyFault, keyOf, securityOf}
 use Rattle.records.specs.Lists.{leafFault, leafChildren, leavesOf, childrenIn, leavesBelow, childrenBelow, children}
 use Rattle.records.specs.Steps.{noChild}
+use Rattle.security.specs.Descriptor.{descriptorFault}
+use Rattle.security.proofs.Descriptor.{descriptor-exactly}
 use Rattle.values.specs.Records.{valueOf}
 use Rattle.values.specs.Lists.{valuesOf}
 use Rattle.tree.specs.declared.Hive.{Hive}
@@ -34,8 +41,11 @@ use Rattle.search.proofs.Finds.{key-good, list-head, leaves-good}
 use Rattle.lookup.specs.declared.ValueFound.the-variants as value
 use Rattle.lookup.specs.Answers.{infoOf}
 use Rattle.lookup.proofs.ValueFinds.{list-good, each-good, value-good}
+use Rattle.listing.specs.declared.KeySecurity.the-variants as security
 use Rattle.listing.specs.declared.Member.the-variants.{At, NoMore}
 use Rattle.listing.specs.Members.{entryOf, nthIn, nthBelow, subkeyIn, subkeyAnswer, nthOf, valueIn, valueAnswer, infoAt}
+use Rattle.listing.specs.Pieces.{descriptorPiece, securityWhere, securityBelow, securityAnswer}
+use Rattle.listing.proofs.Pieces.{security-on}
 use Rattle.listing.proofs.Members.{subkey-none, subkey-is, in-none, in-is, subkey-in, value-in, info-in}
 
 -- past the first of two lists
@@ -175,3 +185,16 @@ module _ (h : List ℕ) (w : CleanAndWellFormed h) (o : Offset) (i : List·Mem�
       → infoAt h v ≡ value.At (infoOf (valueOf (binsData h) (minorOf (sector h)) v))
   info-there v j =
       info-in h v base ∙ rw (each-good (binsData h) (w .formed .tiled) (minorOf (sector h)) (keyOf (binsData h) o) (key-stands .values) v j)
+
+  -- its item is one of the ring's, so its descriptor is answered
+  pub security-there : securityAnswer h o ≡ security.At (descriptorPiece (binsData h) (securityOf (binsData h) o))
+  unfolding securityBelow descriptorFault
+  security-there =
+      let d = binsData h in
+      let at = securityOf d o in
+      let s = w .formed .security in
+      let x = s .each at (s .all o i) in
+      let cell = header-sound d (w .formed .tiled) [] at (x .item .in-use) in
+      let has = descriptor-exactly d at .1 (record { sk = x .item .sk; fields-fit = x .item .fields-fit; room = x .room }) in
+      security-on h o (sound (baseFault h) _ base key-tested)
+      ∙ ap (λ (v : Verdict). securityWhere o v (descriptorPiece d at)) (sound _ _ cell (holds (flaw Record at) has))

@@ -10,11 +10,15 @@ use Rattle.fields.specs.Faults.{flaw, nowhere, noKey}
 use Rattle.base.specs.Block.{sector, minorOf, binsData}
 use Rattle.base.specs.Refused.{OfBase}
 use Rattle.cells.specs.declared.Rule.the-variants.{Header}
+use Rattle.records.specs.Keys.{securityOf}
+use Rattle.security.specs.Refused.{OfDescriptor}
+use Rattle.values.specs.declared.ValueData.the-variants.{OneCell}
 use Rattle.values.specs.Records.{dataIn}
 use Rattle.values.specs.Refused.{Role, a-key, a-value, Fit, Unfit, Among, Lists, Values, Data}
 use Rattle.lookup.specs.declared.Info.{Info}
 use Rattle.lookup.specs.declared.ValueFound.the-variants.{At as ValueAt}
 use Rattle.listing.specs.Members.{infoAt}
+use Rattle.listing.specs.Pieces.{classCell, classLength}
 
 -- the key under examination, and the flaw: once the record is accepted that key is `key`
 pub data OfRecord (h : List ℕ) (w : Role) (o : Offset) (named : Role → Offset → Type 0) (key : Offset) : Offset → Flaw → Type 0 where
@@ -43,3 +47,12 @@ pub data OfCopied (h : List ℕ) (v : Offset) (room : ℕ) : Flaw → Type 0 whe
 -- key_facts of the key at an offset: what it names is not read
 abbrev pub OfFacts : List ℕ → Offset → Flaw → Type 0
 OfFacts h k = OfRecord h a-key k (λ w o. ⊥) noKey noKey
+
+-- key_class of the key at an offset, which is then the key under examination: it names a cell as a value names its data in one cell, unless the length is 0
+abbrev pub OfClass : List ℕ → Offset → Offset → Flaw → Type 0
+OfClass h k = OfRecord h a-key k (Data Header (binsData h) (OneCell (classCell (binsData h) k) (classLength (binsData h) k))) k
+
+-- key_security of the key at an offset: as key_facts up to its record, and then the item that it names, with that key
+pub data OfSecurity (h : List ℕ) (k : Offset) : Offset → Flaw → Type 0 where
+  as-facts : {f : Flaw} → OfFacts h k f → OfSecurity h k noKey f
+  of-item : {f : Flaw} → Fit Header (binsData h) a-key k → OfDescriptor Header (binsData h) (securityOf (binsData h) k) f → OfSecurity h k k f

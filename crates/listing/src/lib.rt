@@ -15,8 +15,10 @@ use records::Leafed;
 use records::Leaves;
 use records::Name;
 use search::Look;
+use security::Described;
 use values::Entered;
 use values::Entries;
+use values::ValueData;
 use values::Valued;
 ghost use mathlib.Core.Path.{_≡_};
 ghost use mathlib.Core.List.{[]};
@@ -27,8 +29,11 @@ ghost use Rattle.cells.specs.declared.Rule.the-variants.{Header};
 ghost use Rattle.cells.specs.Named.{dataAt};
 ghost use Rattle.records.specs.Keys.{keyFault, keyOf};
 ghost use Rattle.records.specs.Steps.{LeavesLie, leavesNamed};
+ghost use Rattle.security.specs.Descriptor.{descriptorFault};
 ghost use Rattle.values.specs.Records.{valueFault, valueOf};
+ghost use Rattle.values.specs.Segments.{dataFault};
 ghost use Rattle.listing.specs.Members.{entryOf, memberWhere, nthIn, nthBelow, subkeyBelow, subkeyIn, subkeyAnswer, nthOf, valueBelow, valueIn, valueAnswer, infoAt, copyAt, outAt, factsOf, factsWhere, factsAnswer};
+ghost use Rattle.listing.specs.Pieces.{givenFault, classLength, classPiece, classWhere, classBelow, classAnswer, descriptorPiece, securityWhere, securityBelow, securityAnswer};
 
 // A key or a value that a list names, and where its name stands in the file: `len` bytes from `name` on, one for each character if narrow, else UTF-16LE.
 pub struct Entry {
@@ -274,5 +279,120 @@ pub fn key_facts(hive: &[u8], key: Offset) -> KeyFacts
     match base::base_flaw(hive) {
         Verdict::Flawed(f) => KeyFacts::Refused(fields::refused(Offset(fields::NO_KEY), f)),
         Verdict::Sound => facts_in(base::bins_of(hive), key),
+    }
+}
+
+// Bytes of the file: `len` of them from `at` on.
+pub struct Piece {
+    pub at: Place,
+    pub len: usize,
+}
+
+pub enum KeyClass {
+    None,
+    At(Piece),
+    Refused(Refusal),
+}
+
+pub enum KeySecurity {
+    At(Piece),
+    Refused(Refusal),
+}
+
+// A key's own 11 or 12.
+fn key_flaw(bins: &[u8], key: Offset) -> Verdict
+    ensures { λ r. ⌜ r ≡ keyFault Header (now (bins .entry)) [] key ⌝ }
+{
+    match records::key_at(bins, b"", Rule::Header, key) {
+        Keyed::Flawed(f) => Verdict::Flawed(f),
+        Keyed::Whole(_) => Verdict::Sound,
+    }
+}
+
+// The given key: 1 to 7, then its own 11 or 12.
+fn given_flaw(hive: &[u8], key: Offset) -> Verdict
+    ensures { λ r. ⌜ r ≡ givenFault (now (hive .entry)) key ⌝ }
+{
+    match base::base_flaw(hive) {
+        Verdict::Flawed(f) => Verdict::Flawed(f),
+        Verdict::Sound => key_flaw(base::bins_of(hive), key),
+    }
+}
+
+// How many bytes the class name of a key that was tested has.
+fn class_length(bins: &[u8], key: Offset) -> u16
+    requires { ⌜ 76 ≤ length (dataAt (now bins) key) ⌝ }
+    ensures { λ r. ⌜ r ≡ classLength (now (bins .entry)) key ⌝ }
+{
+    fields::u16_at(cells::part_in(bins, key, 74, 2), 0)
+}
+
+// A class name of a key, whose cell is tested as one of a value's data.
+fn class_at(bins: &[u8], key: Offset, cell: Offset, len: u16) -> KeyClass
+    ensures { λ r. ⌜ r ≡ classWhere key (dataFault Header (now (bins .entry)) [] (ValueData.OneCell cell len)) (classPiece cell len) ⌝ }
+{
+    let data = ValueData::OneCell {
+        cell,
+        len: len as u32,
+    };
+    match values::data_flaw(bins, b"", Rule::Header, data) {
+        Verdict::Flawed(f) => KeyClass::Refused(fields::refused(key, f)),
+        Verdict::Sound => KeyClass::At(Piece {
+            at: cells::part_place(cell, 0, len as usize),
+            len: len as usize,
+        }),
+    }
+}
+
+// The class name of a key that was tested. Of length 0 there is none, and the offset is not read.
+fn class_below(bins: &[u8], key: Offset) -> KeyClass
+    requires { ⌜ 76 ≤ length (dataAt (now bins) key) ⌝ }
+    ensures { λ r. ⌜ r ≡ classBelow (now (bins .entry)) key ⌝ }
+{
+    let len = class_length(bins, key);
+    if len == 0 {
+        return KeyClass::None;
+    }
+    class_at(bins, key, Offset(cells::word_in(bins, key, 48)), len)
+}
+
+// Where the class name of the key at an offset lies, and how long it is.
+pub fn key_class(hive: &[u8], key: Offset) -> KeyClass
+    ensures { λ r. ⌜ r ≡ classAnswer (now (hive .entry)) key ⌝ }
+{
+    match given_flaw(hive, key) {
+        Verdict::Flawed(f) => KeyClass::Refused(fields::refused(Offset(fields::NO_KEY), f)),
+        Verdict::Sound => class_below(base::bins_of(hive), key),
+    }
+}
+
+// The descriptor of the item at an offset, which a key names.
+fn security_at(bins: &[u8], key: Offset, o: Offset) -> KeySecurity
+    ensures { λ r. ⌜ r ≡ securityWhere key (descriptorFault Header (now (bins .entry)) [] o) (descriptorPiece (now (bins .entry)) o) ⌝ }
+{
+    match security::described_at(bins, b"", Rule::Header, o) {
+        Described::Flawed(f) => KeySecurity::Refused(fields::refused(key, f)),
+        Described::Whole(i) => KeySecurity::At(Piece {
+            at: security::descriptor_place(o, i),
+            len: i.size as usize,
+        }),
+    }
+}
+
+// The descriptor of a key that was tested.
+fn security_below(bins: &[u8], key: Offset) -> KeySecurity
+    requires { ⌜ 76 ≤ length (dataAt (now bins) key) ⌝ }
+    ensures { λ r. ⌜ r ≡ securityBelow (now (bins .entry)) key ⌝ }
+{
+    security_at(bins, key, records::security_of(bins, key))
+}
+
+// Where the security descriptor of the key at an offset lies, and how long it is.
+pub fn key_security(hive: &[u8], key: Offset) -> KeySecurity
+    ensures { λ r. ⌜ r ≡ securityAnswer (now (hive .entry)) key ⌝ }
+{
+    match given_flaw(hive, key) {
+        Verdict::Flawed(f) => KeySecurity::Refused(fields::refused(Offset(fields::NO_KEY), f)),
+        Verdict::Sound => security_below(base::bins_of(hive), key),
     }
 }

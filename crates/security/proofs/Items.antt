@@ -27,7 +27,7 @@ use Rattle.cells.proofs.Mapped.{sound-in-use, in-use-sound}
 use Rattle.cells.proofs.Parts.{u32-part}
 use Rattle.records.proofs.Facts.{signed-exactly}
 use Rattle.records.proofs.Listed.{same-offset}
-use Rattle.security.specs.Items.{isItem, itemIn, itemOf, hasRoom, isLinked, isJoined}
+use Rattle.security.specs.Items.{isSk, isItem, itemIn, itemOf, hasRoom, isLinked, isJoined}
 use Rattle.security.specs.Stands.{IsItem, Roomy}
 use Rattle.security.specs.Refused.{LinkStands}
 
@@ -39,6 +39,10 @@ module _ (d : List ℕ) (o : Offset) where
   pub item-front : itemIn (partIn d o 0 20) ≡ itemOf d o
   unfolding itemOf itemIn
   item-front = rw (same 4 (omega arith), same 8 (omega arith), same 12 (omega arith), same 16 (omega arith))
+
+-- the data r of an item's cell have its 20 bytes
+pub sk-long : (r : List ℕ) → isSk r ≡ true → 20 ≤ length r
+sk-long r e = leb-true 20 _ (and-inv (leb 20 (length r)) _ e .0)
 
 -- an item that passes
 pub record Passes (d m : List ℕ) (o : Offset) : Type 0 where
@@ -52,13 +56,9 @@ module _ (d m : List ℕ) (o : Offset) where
   item-missing e = rw (cell-flawed Map d m o e)
 
   module _ {c : Cell} (e : cellOf Map d m o ≡ Named c) where
-    pub item-short : length (dataOf d c) < 20 → isItem d m o ≡ false
+    pub item-by : isItem d m o ≡ isSk (dataOf d c)
     unfolding isItem
-    item-short h = rw (cell-sound Map d m o e, ← cell-data-at Map d m o e, lt-leb 20 (length (dataOf d c)) h)
-
-    pub item-by : 20 ≤ length (dataOf d c) → isItem d m o ≡ standsAt (dataOf d c) 0 (115 ∷ 107 ∷ [])
-    unfolding isItem
-    item-by h = rw (cell-sound Map d m o e, ← cell-data-at Map d m o e, le-leb 20 (length (dataOf d c)) h)
+    item-by = rw (cell-sound Map d m o e, cell-data-at Map d m o e)
 
   pub item-facts : isItem d m o ≡ true → Passes d m o
   unfolding isItem
@@ -89,11 +89,11 @@ module _ (d m : List ℕ) (o : Offset) where
 -- room
 module _ (d : List ℕ) (o : Offset) where
   pub room-facts : hasRoom d o ≡ true → Roomy d o
-  unfolding hasRoom
+  unfolding hasRoom itemOf
   room-facts e = leb-true _ _ e
 
   pub facts-room : Roomy d o → hasRoom d o ≡ true
-  unfolding hasRoom
+  unfolding hasRoom itemOf
   facts-room h = le-leb _ _ h
 
 module _ (d m : List ℕ) (o : Offset) where

@@ -3,3 +3,4 @@ pub mod Ring
 pub mod Gathers
 pub mod Exactly
 pub mod Tells
+pub mod Descriptor

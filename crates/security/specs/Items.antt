@@ -19,10 +19,13 @@ use Rattle.records.specs.Offsets.{offsetAt}
 use Rattle.records.specs.Keys.{securityOf}
 use Rattle.security.specs.declared.Item.{Item}
 
+-- the data r of a cell hold an item: ""sk" and all 20 bytes before the descriptor"
+abbrev pub isSk : List ℕ → Bool
+isSk r = leb 20 (length r) && standsAt r 0 (115 ∷ 107 ∷ [])
+
 -- an offset names an item: "a cell in use with "sk" and all 20 bytes before the descriptor"
 unfoldable pub isItem : List ℕ → List ℕ → Offset → Bool
-isItem d m o =
-    isSound (cellFault Map d m o) && (leb 20 (length (dataAt d o)) && standsAt (dataAt d o) 0 (115 ∷ 107 ∷ []))
+isItem d m o = isSound (cellFault Map d m o) && isSk (dataAt d o)
 
 -- the fields of the item r: "Flink" at 4, "Blink" at 8, "Reference count" at 12, "Security descriptor size" at 16
 unfoldable pub itemIn : List ℕ → Item
@@ -32,9 +35,12 @@ itemIn r = record { forward = offsetAt r 4; backward = offsetAt r 8; count = u32
 unfoldable pub itemOf : List ℕ → Offset → Item
 itemOf d o = itemIn (dataAt d o)
 
--- "its descriptor's room"
+-- "its descriptor's room", in the item r
+abbrev pub isRoomy : List ℕ → Bool
+isRoomy r = leb (20 + itemIn r .size) (length r)
+
 unfoldable pub hasRoom : List ℕ → Offset → Bool
-hasRoom d o = leb (20 + itemOf d o .size) (length (dataAt d o))
+hasRoom d o = isRoomy (dataAt d o)
 
 -- its forward link: "each naming an item whose backward link names it back"
 unfoldable pub isLinked : List ℕ → List ℕ → Offset → Bool

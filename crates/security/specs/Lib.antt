@@ -1,4 +1,5 @@
 pub mod Items
 pub mod Stands
 pub mod Refused
+pub mod Descriptor
 pub mod Steps

@@ -1,14 +1,18 @@
 // The ring of security items: "Read `sk` records as source document 003 lays them out".
 use cells::Found;
 use cells::Rule;
+use fields::Fault;
+use fields::Flaw;
 use fields::Offset;
+use fields::Place;
 ghost use mathlib.Core.Path.{_≡_};
 ghost use mathlib.Core.Bool.{true};
 ghost use Prim.Native.Nat.{_≤_};
 ghost use lib.ListN.{length};
 ghost use Rattle.cells.specs.Named.{dataAt};
 ghost use Rattle.chains.specs.Chains.{Chained};
-ghost use Rattle.security.specs.Items.{isItem, itemIn, itemOf, hasRoom, isLinked, isJoined};
+ghost use Rattle.security.specs.Items.{isSk, isItem, itemIn, itemOf, hasRoom, isLinked, isJoined};
+ghost use Rattle.security.specs.Descriptor.{isDescribed, descriptorFault, described, descriptorPlace};
 ghost use Rattle.security.specs.Steps.{gathered, taken, HoldsFrom, Empty};
 
 // "forward and backward offsets, reference count, descriptor size": the fields of an item.
@@ -19,19 +23,23 @@ pub struct Item {
     pub size: u32,
 }
 
+// Whether a cell's data hold an item: ""sk" and all 20 bytes before the descriptor".
+fn is_sk(r: &[u8]) -> bool
+    ensures { λ b. ⌜ b ≡ isSk (now (r .entry)) ⌝ }
+{
+    if r.len() < 20 {
+        return false;
+    }
+    fields::stands_at(r, 0, b"sk")
+}
+
 // Whether an offset names an item: "a cell in use with "sk" and all 20 bytes before the descriptor".
 pub fn is_item(bins: &[u8], map: &[u8], o: Offset) -> bool
     ensures { λ r. ⌜ r ≡ isItem (now (bins .entry)) (now (map .entry)) o ⌝ }
 {
     match cells::find_cell(bins, map, Rule::Map, o) {
         Found::Missing(_) => false,
-        Found::Named(c) => {
-            let r = cells::cell_data(bins, c);
-            if r.len() < 20 {
-                return false;
-            }
-            fields::stands_at(r, 0, b"sk")
-        }
+        Found::Named(c) => is_sk(cells::cell_data(bins, c)),
     }
 }
 
@@ -133,4 +141,45 @@ pub fn gather(
         at = next;
     }
     Batch::More(n, at)
+}
+
+pub enum Described {
+    Whole(Item),
+    Flawed(Flaw),
+}
+
+// Whether a cell's data hold an item and its descriptor, with no sum that wraps.
+fn is_described(r: &[u8]) -> bool
+    ensures { λ b. ⌜ b ≡ isDescribed (now (r .entry)) ⌝ }
+{
+    if !is_sk(r) {
+        return false;
+    }
+    20 + fields::u32_at(r, 16) as usize <= r.len()
+}
+
+// The item that an offset names, with its descriptor: its cell, then its record. Neither links nor count are asked.
+pub fn described_at(bins: &[u8], map: &[u8], rule: Rule, o: Offset) -> Described
+    ensures { λ r. ⌜ r ≡ described (descriptorFault rule (now (bins .entry)) (now (map .entry)) o) (itemOf (now (bins .entry)) o) ⌝ }
+{
+    match cells::find_cell(bins, map, rule, o) {
+        Found::Missing(f) => Described::Flawed(f),
+        Found::Named(c) => {
+            let r = cells::cell_data(bins, c);
+            if !is_described(r) {
+                return Described::Flawed(Flaw {
+                    fault: Fault::Record,
+                    place: o,
+                });
+            }
+            Described::Whole(item_in(r))
+        }
+    }
+}
+
+// Where in the file the descriptor of an item lies.
+pub fn descriptor_place(o: Offset, item: Item) -> Place
+    ensures { λ p. ⌜ p ≡ descriptorPlace o item ⌝ }
+{
+    cells::part_place(o, 20, item.size as usize)
 }

@@ -4,7 +4,7 @@ use mathlib.Core.Path.{_≡_, sym, ap, _∙_}
 use lib.ListN.{length}
 use Rattle.fields.proofs.Bools.{never}
 use Rattle.cells.proofs.Naming.{inside, data-length, cell-data-at}
-use Rattle.security.specs.Items.{hasRoom}
+use Rattle.security.specs.Items.{itemOf, hasRoom}
 use Rattle.security.proofs.Items.{item-missing}
 use Rattle.security.proofs.has_room.Statement.{statement}
 use Rattle.security.proofs.has_room.Tie as tie
@@ -15,7 +15,7 @@ returns c =
     absurd (never _ (p .0) (item-missing _ _ _ (sym (c .before .before .find-cell .ensures) ∙ c .enum-told .given .1)))
 
 returns-2 : tie.Need-returns-2
-unfolding hasRoom
+unfolding hasRoom itemOf
 returns-2 c =
     let p = c .before .before .before .before .before .before .before .pre in
     let e = sym (c .before .before .before .before .find-cell .ensures) ∙ c .before .before .c .given .1 in

@@ -1,13 +1,11 @@
 use borrow.Author.Needs.{needs}
 use denote.Ref.{now}
-use native.Mathlib.Omega.{arith}
-use mathlib.Core.Path.{_≡_, sym, ap, _∙_}
-use lib.ListN.{length}
+use mathlib.Core.Path.{_≡_, sym, _∙_}
 use Rattle.cells.specs.declared.Found.the-variants.{Named}
 use Rattle.cells.specs.declared.Rule.the-variants.{Map}
 use Rattle.cells.specs.Named.{cellOf}
 use Rattle.cells.proofs.Naming.{inside}
-use Rattle.security.proofs.Items.{item-missing, item-short, item-by}
+use Rattle.security.proofs.Items.{item-missing, item-by}
 use Rattle.security.proofs.is_item.Statement.{statement}
 use Rattle.security.proofs.is_item.Tie as tie
 
@@ -20,15 +18,10 @@ cell-data-requires : tie.Need-cell-data-requires
 cell-data-requires c κs = inside _ _ _ _ (found c)
 
 returns : tie.Need-returns
-returns c = sym (item-short _ _ _ (found (c .before .before)) (rw (c .before .cell-data .ensures) at (c .if1 .taken)))
+returns c = sym (item-missing _ _ _ (sym (c .before .before .find-cell .ensures) ∙ c .enum-told .given .1))
 
 returns-2 : tie.Need-returns-2
-returns-2 c = sym (item-missing _ _ _ (sym (c .before .before .find-cell .ensures) ∙ c .enum-told .given .1))
-
-returns-3 : tie.Need-returns-3
-returns-3 c =
-    let e = c .before .before .before .cell-data .ensures in
-    (rw e at (c .stands-at .ensures)) ∙ sym (item-by _ _ _ (found (c .before .before .before .before)) (rw e at (c .before .before .if1 .left)))
+returns-2 c = (rw (c .before .cell-data .ensures) at (c .is-sk .ensures)) ∙ sym (item-by _ _ _ (found (c .before .before)))
 
 pub is-item-spec : {M : Type 1} → statement M
 is-item-spec =
@@ -38,8 +31,6 @@ is-item-spec =
     (λ c. search needs)
     (λ c. search needs)
     cell-data-requires
-    returns
-    (λ c. search needs)
     (λ c κs. search needs)
-    returns-2
-    returns-3)
+    returns
+    returns-2)
