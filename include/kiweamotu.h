@@ -225,6 +225,19 @@ HIVE_ASSERT(offsetof(HiveKey, length) == 56);
 HIVE_ASSERT(offsetof(HiveKey, narrow) == 64);
 HIVE_ASSERT(sizeof(HiveKey) == 72);
 
+/* Bytes of the hive that a key names. at: the place in the file where they lie, so hive + at in memory. length: how many; all of
+ * them lie in the hive, whatever it holds. A key without a class name has at 0 and length 0.
+ */
+typedef struct {
+    HiveAnswer answer;
+    uint64_t at;
+    uint64_t length;
+} HivePiece;
+HIVE_ASSERT(offsetof(HivePiece, answer) == 0);
+HIVE_ASSERT(offsetof(HivePiece, at) == 16);
+HIVE_ASSERT(offsetof(HivePiece, length) == 24);
+HIVE_ASSERT(sizeof(HivePiece) == 32);
+
 /* A step of a walk over all keys. state: HIVE_REFUSED; HIVE_OVER: no key is open; HIVE_OPENS or HIVE_CLOSES: a key, and answer.value is its
  * offset. depth: how many keys are open after it. name, length, narrow: where a key opens as of a HiveMember, else 0.
  */
@@ -473,6 +486,18 @@ HiveCopy hive_copy_at(const uint8_t *hive, size_t hive_len, uint32_t value, uint
 
 /* What the record of the key at an offset says of it. Refuses 1 to 7, then 11 and 12 of the key. */
 HiveKey hive_key_at(const uint8_t *hive, size_t hive_len, uint32_t key);
+
+/* Where the class name of the key at an offset lies, and how long it is; length 0 where it has none. Windows stores UTF-16LE there;
+ * what it holds is not judged, and hive_check reads no class names. Its cell is tested as one of a value's data. Refuses 1 to 7, 11
+ * and 12 of the key, then 11 and 12 of the class name's cell.
+ */
+HivePiece hive_key_class(const uint8_t *hive, size_t hive_len, uint32_t key);
+
+/* Where the security descriptor of the key at an offset lies, and how long it is: that of the security item that the key names. On
+ * a hive that hive_check accepts every key has one. What it says is not judged; the item's links and count are hive_check's. Refuses
+ * 1 to 7, 11 and 12 of the key, then 11 and 12 of the item.
+ */
+HivePiece hive_key_security(const uint8_t *hive, size_t hive_len, uint32_t key);
 
 /* Starts a walk over all keys, each before those below it: opens the root. levels is a cursor that the caller lends, three words for
  * each open key: its offset, the number of the leaf of its list and of the element in it that come next. 1,539 words are enough for

@@ -17,6 +17,7 @@ use Rattle.paths.proofs.Refusals.{find-refuses}
 use Rattle.lookup.proofs.Agree.{refused-untouched}
 use Rattle.lookup.proofs.Refusals.{info-refuses, view-refuses, copy-refuses}
 use Rattle.listing.proofs.Any.{subkey-refuses, value-refuses, info-refuses as at-refuses, copy-refuses as copy-at-refuses, copy-stays as copy-at-stays, facts-refuses}
+use Rattle.listing.proofs.Any_pieces.{class-refuses, security-refuses}
 use Rattle.recovery.specs.declared.Marked.the-variants as marked
 use Rattle.recovery.specs.declared.Stepped.the-variants as stepped
 use Rattle.recovery.specs.Calls.{pageAnswer, pageHive, closeAnswer, closeHive}
@@ -110,6 +111,8 @@ demand1 =
       at-place = λ h v r e. at-refuses h v e;
       copy-at-place = λ h v n r e. copy-at-refuses h v n e;
       facts-place = λ h o r e. facts-refuses h o e;
+      class-place = λ h o r e. class-refuses h o e;
+      security-place = λ h o r e. security-refuses h o e;
       begin-place = λ h ws r e. begin-refuses h ws e;
       step-place = λ h ws n r e. step-refuses h ws n e;
       frame-place = λ h m n room r e. frame-refuses h m n room e;

@@ -23,9 +23,13 @@ use Rattle.lookup.specs.declared.Spot.the-variants as spot
 use Rattle.lookup.specs.declared.ValueFound.the-variants as value
 use Rattle.lookup.specs.Answers.{valueLookBy, infoBy, viewBy, viewBytesBy, copyBy}
 use Rattle.lookup.proofs.Agree.{refused-untouched}
+use Rattle.listing.specs.declared.KeyClass.the-variants as class
 use Rattle.listing.specs.declared.KeyFacts.the-variants as facts
+use Rattle.listing.specs.declared.KeySecurity.the-variants as security
 use Rattle.listing.specs.declared.Member.the-variants as member
 use Rattle.listing.specs.Members.{subkeyAnswer, valueAnswer, infoAt, copyAt, factsAnswer}
+use Rattle.listing.specs.Pieces.{classAnswer, securityAnswer}
+use Rattle.listing.proofs.Pieces.{given-base, class-stop, security-stop}
 use Rattle.listing.proofs.Any.{copy-stays}
 use Rattle.recovery.specs.declared.Started.the-variants as started
 use Rattle.recovery.specs.Calls.{startAnswer}
@@ -86,6 +90,12 @@ module _ (d : List ℕ) (f : Flaw) (e : baseFault d ≡ Flawed f) where
   unfolding factsAnswer
   key-facts o = rw (stop (baseFault d) _ e)
 
+  key-class : (o : Offset) → classAnswer d o ≡ class.Refused (refusalOf noKey f)
+  key-class o = class-stop d o (given-base d o e)
+
+  key-security : (o : Offset) → securityAnswer d o ≡ security.Refused (refusalOf noKey f)
+  key-security o = security-stop d o (given-base d o e)
+
   unread : Unread d (refusalOf noKey f)
   unread =
       record {
@@ -105,6 +115,8 @@ module _ (d : List ℕ) (f : Flaw) (e : baseFault d ≡ Flawed f) where
         info-at = at;
         copy-at = λ v out. (copy-at v out, copy-stays d v out (copy-at v out));
         key-facts = key-facts;
+        key-class = key-class;
+        key-security = key-security;
         walk-begin = λ ws. begin-stop d ws e;
         walk-step = λ ws i. step-stop d ws i e;
         export-step = λ m i out. let s = survey-front d m (front-base d (length m) e) in step-unread d m (check-refused d m (s .0) refl) i out;

@@ -2,7 +2,7 @@
 --
 -- Every public call's contract is an equation, for all lists of bytes and with no condition on them: what it answers is `checkAnswer h m`, `findAnswer h us`,
 -- `infoAnswer h us x`, `viewAnswer h us x`, `copyAnswer h us x n`, `quickAnswer h us`, `quickInfo h us x`, `quickView h us x`, `quickCopy h us x n`,
--- `subkeyAnswer h o n`, `valueAnswer h o n`, `infoAt h v`, `copyAt h v n`, `factsAnswer h o`, `beginAnswer h ws`, `stepAnswer h ws n`, `stepAnswer h m n room`,
+-- `subkeyAnswer h o n`, `valueAnswer h o n`, `infoAt h v`, `copyAt h v n`, `factsAnswer h o`, `classAnswer h o`, `securityAnswer h o`, `beginAnswer h ws`, `stepAnswer h ws n`, `stepAnswer h m n room`,
 -- `beginAnswer h m ws` and `runAnswer h ws c room` of an export, `measureAnswer s n` and `buildAnswer s sd room` of a stream, `remnantAnswer h from`,
 -- `rowsAnswer h from n`,
 -- `settleAnswer h`, `compare a b` of two names,
@@ -35,10 +35,13 @@ use Rattle.lookup.specs.declared.Copied.the-variants as copied
 use Rattle.lookup.specs.declared.ValueFound.the-variants as value
 use Rattle.lookup.specs.Answers.{infoAnswer, viewAnswer, copyAnswer, copyOut, quickInfo, quickView, quickCopy, quickOut}
 use Rattle.lookup.specs.Refused.{OfValue, OfView, OfCopy, OfValueBy, OfViewBy, OfCopyBy}
+use Rattle.listing.specs.declared.KeyClass.the-variants as class
 use Rattle.listing.specs.declared.KeyFacts.the-variants as facts
+use Rattle.listing.specs.declared.KeySecurity.the-variants as security
 use Rattle.listing.specs.declared.Member.the-variants as member
 use Rattle.listing.specs.Members.{subkeyAnswer, valueAnswer, infoAt, copyAt, outAt, factsAnswer}
-use Rattle.listing.specs.Refused.{OfSubkey, OfNth, OfInfo, OfCopied, OfFacts}
+use Rattle.listing.specs.Pieces.{classAnswer, securityAnswer}
+use Rattle.listing.specs.Refused.{OfSubkey, OfNth, OfInfo, OfCopied, OfFacts, OfClass, OfSecurity}
 use Rattle.walk.specs.declared.Walked.the-variants as walked
 use Rattle.walk.specs.Steps.{beginAnswer, beginLevels, stepAnswer, stepLevels}
 use Rattle.walk.specs.Refused.{OfBegin, OfStep}
@@ -90,6 +93,8 @@ pub record Demand1 : Type 0 where
   pub at-place : (h : List ℕ) (v : Offset) (r : Refusal) → infoAt h v ≡ value.Refused r → Keyless (OfInfo h v) r
   pub copy-at-place : (h : List ℕ) (v : Offset) (n : ℕ) (r : Refusal) → copyAt h v n ≡ copied.Refused r → Keyless (OfCopied h v n) r
   pub facts-place : (h : List ℕ) (o : Offset) (r : Refusal) → factsAnswer h o ≡ facts.Refused r → Keyless (OfFacts h o) r
+  pub class-place : (h : List ℕ) (o : Offset) (r : Refusal) → classAnswer h o ≡ class.Refused r → Because (OfClass h o) r
+  pub security-place : (h : List ℕ) (o : Offset) (r : Refusal) → securityAnswer h o ≡ security.Refused r → Because (OfSecurity h o) r
   pub begin-place : (h ws : List ℕ) (r : Refusal) → beginAnswer h ws ≡ walked.Refused r → Keyless (OfBegin h ws) r
   pub step-place : (h ws : List ℕ) (n : ℕ) (r : Refusal) → stepAnswer h ws n ≡ walked.Refused r → Because (OfStep h ws n) r
   pub frame-place : (h m : List ℕ) (n room : ℕ) (r : Refusal) → frameAnswer h m n room ≡ frame.Refused r → Because (OfFrame h m n room) r

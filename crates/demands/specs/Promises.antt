@@ -13,9 +13,12 @@ use Rattle.paths.specs.Answers.{findAnswer, quickAnswer}
 use Rattle.lookup.specs.declared.ValueFound.{ValueFound}
 use Rattle.lookup.specs.declared.Copied.{Copied}
 use Rattle.lookup.specs.Answers.{infoAnswer, viewAnswer, viewStart, viewBytes, copyAnswer, copyOut, quickInfo, quickView, quickViewStart, quickViewBytes, quickCopy, quickOut}
+use Rattle.listing.specs.declared.KeyClass.{KeyClass}
 use Rattle.listing.specs.declared.KeyFacts.{KeyFacts}
+use Rattle.listing.specs.declared.KeySecurity.{KeySecurity}
 use Rattle.listing.specs.declared.Member.{Member}
 use Rattle.listing.specs.Members.{subkeyAnswer, valueAnswer, infoAt, copyAt, outAt, factsAnswer}
+use Rattle.listing.specs.Pieces.{classAnswer, securityAnswer}
 use Rattle.walk.specs.declared.Walked.{Walked}
 use Rattle.walk.specs.Steps.{beginAnswer, beginLevels, stepAnswer, stepLevels}
 use Rattle.export.specs.declared.Begun.{Begun}
@@ -118,6 +121,8 @@ pub record Unique : Type 0 where
   pub info-at : (h : List ℕ) (v : Offset) (r r′ : ValueFound) → r ≡ infoAt h v → r′ ≡ infoAt h v → r ≡ r′
   pub copy-at : (h : List ℕ) (v : Offset) (out : List ℕ) → Determines (CopiesAt h v out)
   pub key-facts : (h : List ℕ) (o : Offset) (r r′ : KeyFacts) → r ≡ factsAnswer h o → r′ ≡ factsAnswer h o → r ≡ r′
+  pub key-class : (h : List ℕ) (o : Offset) (r r′ : KeyClass) → r ≡ classAnswer h o → r′ ≡ classAnswer h o → r ≡ r′
+  pub key-security : (h : List ℕ) (o : Offset) (r r′ : KeySecurity) → r ≡ securityAnswer h o → r′ ≡ securityAnswer h o → r ≡ r′
   pub walk-begin : (h ws : List ℕ) → Determines (Begins h ws)
   pub walk-step : (h ws : List ℕ) (n : ℕ) → Determines (Steps h ws n)
   pub export-step : (h m : List ℕ) (n : ℕ) (out : List ℕ) → Determines (Frames h m n out)

@@ -18,9 +18,12 @@ use Rattle.paths.specs.Answers.{findAnswer, quickAnswer}
 use Rattle.lookup.specs.declared.Copied.the-variants as copied
 use Rattle.lookup.specs.declared.ValueFound.the-variants as value
 use Rattle.lookup.specs.Answers.{infoAnswer, viewAnswer, viewBytes, copyAnswer, copyOut, quickInfo, quickView, quickViewBytes, quickCopy, quickOut}
+use Rattle.listing.specs.declared.KeyClass.the-variants as class
 use Rattle.listing.specs.declared.KeyFacts.the-variants as facts
+use Rattle.listing.specs.declared.KeySecurity.the-variants as security
 use Rattle.listing.specs.declared.Member.the-variants as member
 use Rattle.listing.specs.Members.{subkeyAnswer, valueAnswer, infoAt, copyAt, outAt, factsAnswer}
+use Rattle.listing.specs.Pieces.{classAnswer, securityAnswer}
 use Rattle.export.specs.declared.Begun.the-variants as begun
 use Rattle.export.specs.declared.Cursor.{Cursor}
 use Rattle.export.specs.declared.Ran.the-variants as ran
@@ -56,6 +59,8 @@ pub record Unread (d : List ℕ) (r : Refusal) : Type 0 where
   pub info-at : (v : Offset) → infoAt d v ≡ value.Refused r
   pub copy-at : (v : Offset) (out : List ℕ) → (copyAt d v (length out) ≡ copied.Refused r) × (outAt d v out ≡ out)
   pub key-facts : (o : Offset) → factsAnswer d o ≡ facts.Refused r
+  pub key-class : (o : Offset) → classAnswer d o ≡ class.Refused r
+  pub key-security : (o : Offset) → securityAnswer d o ≡ security.Refused r
   pub walk-begin : (ws : List ℕ) → (beginAnswer d ws ≡ walked.Refused r) × (beginLevels d ws ≡ ws)
   pub walk-step : (ws : List ℕ) (i : ℕ) → (stepAnswer d ws i ≡ walked.Refused r) × (stepLevels d ws i ≡ ws)
   pub export-step : (m : List ℕ) (i : ℕ) (out : List ℕ) → (frameAnswer d m i (length out) ≡ frame.Refused r) × (stepOut d m i out ≡ out)

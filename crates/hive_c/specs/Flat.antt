@@ -16,8 +16,12 @@ use Rattle.lookup.specs.declared.ValueFound.{ValueFound}
 use Rattle.lookup.specs.declared.ValueFound.the-variants as value
 use Rattle.lookup.specs.declared.Copied.{Copied}
 use Rattle.lookup.specs.declared.Copied.the-variants as copy
+use Rattle.listing.specs.declared.KeyClass.{KeyClass}
+use Rattle.listing.specs.declared.KeyClass.the-variants as class
 use Rattle.listing.specs.declared.KeyFacts.{KeyFacts}
 use Rattle.listing.specs.declared.KeyFacts.the-variants as facts
+use Rattle.listing.specs.declared.KeySecurity.{KeySecurity}
+use Rattle.listing.specs.declared.KeySecurity.the-variants as security
 use Rattle.listing.specs.declared.Member.{Member}
 use Rattle.listing.specs.declared.Member.the-variants as member
 use Rattle.walk.specs.declared.Walked.{Walked}
@@ -54,6 +58,7 @@ use Rattle.hive_c.specs.declared.HiveValue.{HiveValue}
 use Rattle.hive_c.specs.declared.HiveCopy.{HiveCopy}
 use Rattle.hive_c.specs.declared.HiveKey.{HiveKey}
 use Rattle.hive_c.specs.declared.HiveMember.{HiveMember}
+use Rattle.hive_c.specs.declared.HivePiece.{HivePiece}
 use Rattle.hive_c.specs.declared.HiveWalk.{HiveWalk}
 use Rattle.hive_c.specs.declared.HiveFrame.{HiveFrame}
 use Rattle.hive_c.specs.declared.HiveExport.{HiveExport}
@@ -128,6 +133,19 @@ factsIn (facts.At k) =
     let e = k .entry in
     keyWith (granted (e .at .0)) (k .stamp) (k .parent .0) (k .subkeys) (k .values) (e .name .0) (e .len) (narrowIn (e .narrow))
 factsIn (facts.Refused f) = keyWith (refused f) 0 0 0 0 0 0 0
+
+abbrev pub pieceWith : HiveAnswer → ℕ → ℕ → HivePiece
+pieceWith a at len = record { answer = a; at = at; length = len }
+
+-- a key without a class name: at 0, length 0
+abbrev pub classIn : KeyClass → HivePiece
+classIn class.None = pieceWith (granted 0) 0 0
+classIn (class.At p) = pieceWith (granted 0) (p .at .0) (p .len)
+classIn (class.Refused f) = pieceWith (refused f) 0 0
+
+abbrev pub securityIn : KeySecurity → HivePiece
+securityIn (security.At p) = pieceWith (granted 0) (p .at .0) (p .len)
+securityIn (security.Refused f) = pieceWith (refused f) 0 0
 
 abbrev pub walkWith : HiveAnswer → ℕ → ℕ → ℕ → ℕ → ℕ → HiveWalk
 walkWith a s n name len narrow = record { answer = a; state = s; depth = n; name = name; length = len; narrow = narrow }

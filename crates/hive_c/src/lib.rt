@@ -28,8 +28,11 @@ use fields::Offset;
 use fields::Refusal;
 use listing::Entry;
 use listing::Facts;
+use listing::KeyClass;
 use listing::KeyFacts;
+use listing::KeySecurity;
 use listing::Member;
+use listing::Piece;
 use lookup::Copied;
 use lookup::Info;
 use lookup::ValueFound;
@@ -57,6 +60,7 @@ ghost use Rattle.tree.specs.Tree.{checkAnswer};
 ghost use Rattle.paths.specs.Answers.{findAnswer, quickAnswer};
 ghost use Rattle.lookup.specs.Answers.{infoAnswer, viewAnswer, copyAnswer, copyOut, quickInfo, quickView, quickCopy, quickOut};
 ghost use Rattle.listing.specs.Members.{subkeyAnswer, valueAnswer, infoAt, copyAt, outAt, factsAnswer};
+ghost use Rattle.listing.specs.Pieces.{classAnswer, securityAnswer};
 ghost use Rattle.walk.specs.Events.{keepsCount};
 ghost use Rattle.walk.specs.Steps.{beginAnswer, beginLevels, stepAnswer, stepLevels};
 ghost use Rattle.export.specs.Answers.{stepAnswer as frameAnswer, stepOut, beginAnswer as exportAnswer, beginLevels as exportLevels, runAnswer, runOut, runLevels};
@@ -65,7 +69,7 @@ ghost use Rattle.recovery.specs.Calls.{startAnswer, pageAnswer, pageHive, close
 ghost use Rattle.recovery.specs.AtOnce.{allAnswer, allHive, markAnswer, markedAnswer, markedMap, factsAnswer as logAnswer};
 ghost use Rattle.recovery.specs.Settling.{settleAnswer, settleHive};
 ghost use Rattle.remnants.specs.Remnants.{kindWord, remnantAnswer, rowsAnswer, rowsOut};
-ghost use Rattle.hive_c.specs.Flat.{remnantIn, rowsIn, walkWith, walkIn, frameIn, exportWith, begunIn, exportIn, cursorAt, builtIn, granted as grantedOf, refused as refusedOf, reportIn, keyIn, formOf, valueIn, copyIn, narrowIn, memberIn, factsIn, startIn, stepIn, pageIn, markIn, mapIn, logIn, orderIn};
+ghost use Rattle.hive_c.specs.Flat.{remnantIn, rowsIn, walkWith, walkIn, frameIn, exportWith, begunIn, exportIn, cursorAt, builtIn, granted as grantedOf, refused as refusedOf, reportIn, keyIn, formOf, valueIn, copyIn, narrowIn, memberIn, factsIn, pieceWith, classIn, securityIn, startIn, stepIn, pageIn, markIn, mapIn, logIn, orderIn};
 
 // The states of all answers, each with a number of its own: refused; nothing is to be done, or it is done; a list or an export has no
 // more, or something is there; a walk is over, or a key opens or closes; frames were written.
@@ -177,6 +181,15 @@ pub struct HiveKey {
     pub name: u64,
     pub length: u64,
     pub narrow: u64,
+}
+
+// Bytes of the hive that a key names. at: the place in the file where they lie, so hive + at in memory. length: how many; all of
+// them lie in the hive, whatever it holds. A key without a class name has at 0 and length 0.
+#[repr(C)]
+pub struct HivePiece {
+    pub answer: HiveAnswer,
+    pub at: u64,
+    pub length: u64,
 }
 
 // A step of a walk over all keys. state: HIVE_REFUSED; HIVE_OVER: no key is open; HIVE_OPENS or HIVE_CLOSES: a key, and answer.value is its
@@ -634,6 +647,65 @@ pub extern "C" fn hive_key_at(hive: &[u8], key: u32) -> HiveKey
     ensures { λ r. ⌜ r ≡ factsIn (factsAnswer (now (hive .entry)) (record { 0 = key })) ⌝ }
 {
     key_told(listing::key_facts(hive, Offset(key)))
+}
+
+fn piece(p: Piece) -> HivePiece
+    ensures { λ r. ⌜ r ≡ pieceWith (grantedOf 0) (p .at .0) (p .len) ⌝ }
+{
+    HivePiece {
+        answer: granted(0),
+        at: p.at.0 as u64,
+        length: p.len as u64,
+    }
+}
+
+fn no_piece(answer: HiveAnswer) -> HivePiece
+    ensures { λ r. ⌜ r ≡ pieceWith answer 0 0 ⌝ }
+{
+    HivePiece {
+        answer,
+        at: 0,
+        length: 0,
+    }
+}
+
+fn class_told(c: KeyClass) -> HivePiece
+    ensures { λ r. ⌜ r ≡ classIn c ⌝ }
+{
+    match c {
+        KeyClass::None => no_piece(granted(0)),
+        KeyClass::At(p) => piece(p),
+        KeyClass::Refused(f) => no_piece(refused(f)),
+    }
+}
+
+// Where the class name of the key at an offset lies, and how long it is; length 0 where it has none. Windows stores UTF-16LE there;
+// what it holds is not judged, and hive_check reads no class names. Its cell is tested as one of a value's data. Refuses 1 to 7, 11
+// and 12 of the key, then 11 and 12 of the class name's cell.
+#[no_mangle]
+pub extern "C" fn hive_key_class(hive: &[u8], key: u32) -> HivePiece
+    ensures { λ r. ⌜ r ≡ classIn (classAnswer (now (hive .entry)) (record { 0 = key })) ⌝ }
+{
+    class_told(listing::key_class(hive, Offset(key)))
+}
+
+fn security_told(s: KeySecurity) -> HivePiece
+    ensures { λ r. ⌜ r ≡ securityIn s ⌝ }
+{
+    match s {
+        KeySecurity::At(p) => piece(p),
+        KeySecurity::Refused(f) => no_piece(refused(f)),
+    }
+}
+
+// Where the security descriptor of the key at an offset lies, and how long it is: that of the security item that the key names. On
+// a hive that hive_check accepts every key has one. What it says is not judged; the item's links and count are hive_check's. Refuses
+// 1 to 7, 11 and 12 of the key, then 11 and 12 of the item.
+#[no_mangle]
+pub extern "C" fn hive_key_security(hive: &[u8], key: u32) -> HivePiece
+    ensures { λ r. ⌜ r ≡ securityIn (securityAnswer (now (hive .entry)) (record { 0 = key })) ⌝ }
+{
+    security_told(listing::key_security(hive, Offset(key)))
 }
 
 fn opening(e: Entry, depth: usize) -> HiveWalk
