@@ -156,6 +156,10 @@ class _Key(ctypes.Structure):
                 ("name", c_uint64), ("length", c_uint64), ("narrow", c_uint64)]
 
 
+class _Piece(ctypes.Structure):
+    _fields_ = [("answer", _Answer), ("at", c_uint64), ("length", c_uint64)]
+
+
 class _Walk(ctypes.Structure):
     _fields_ = [("answer", _Answer), ("state", c_uint64), ("depth", c_uint64), ("name", c_uint64), ("length", c_uint64), ("narrow", c_uint64)]
 
@@ -197,6 +201,8 @@ _CALLS = {
     "hive_value_at": (_Value, _MEMORY + [c_uint32]),
     "hive_copy_at": (_Copy, _MEMORY + [c_uint32] + _MEMORY),
     "hive_key_at": (_Key, _MEMORY + [c_uint32]),
+    "hive_key_class": (_Piece, _MEMORY + [c_uint32]),
+    "hive_key_security": (_Piece, _MEMORY + [c_uint32]),
     "hive_walk_step": (_Walk, _MEMORY * 2 + [c_size_t]),
     "hive_export_begin": (_Export, _MEMORY * 3),
     "hive_export_run": (_Export, _MEMORY * 2 + [c_size_t] * 2 + _MEMORY),
@@ -659,6 +665,21 @@ class Key:
             return datetime.datetime(1601, 1, 1, tzinfo=datetime.timezone.utc) + datetime.timedelta(microseconds=self.stamp // 10)
         except OverflowError:
             return None
+
+    @property
+    def class_name(self) -> Optional[bytes]:
+        """Its class name as it is stored, mostly UTF-16LE; None where it has none. The check reads no class names, so this may be Refused in a sound hive."""
+        return self._piece(_library.hive_key_class) or None
+
+    @property
+    def security(self) -> bytes:
+        """Its security descriptor, self-relative. In a hive that the check accepts every key has one, and keys may share it."""
+        return self._piece(_library.hive_key_security)
+
+    def _piece(self, call: Callable[..., _Piece]) -> bytes:
+        piece = call(*self._hive._memory, self.offset)
+        _allow(piece.answer)
+        return bytes(self._hive._view[piece.at:piece.at + piece.length])
 
     @property
     def subkeys(self) -> Iterator["Key"]:

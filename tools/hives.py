@@ -212,7 +212,7 @@ class Reader:
         if codes is None or not 1 <= len(codes) <= 255 or BACKSLASH in codes:
             raise Refused(12, at, self.examined)
         return {"at": at, "name": codes, "parent": u32(d, 16), "subkeys": u32(d, 20), "list": u32(d, 28),
-                "values": u32(d, 36), "value_list": u32(d, 40), "security": u32(d, 44)}
+                "values": u32(d, 36), "value_list": u32(d, 40), "security": u32(d, 44), "class": (u32(d, 48), u16(d, 74))}
 
     def list_of(self, at, allowed):
         """A list's signature and its elements: (offset, what stands beside it). 12 at the list (13)."""
@@ -833,6 +833,26 @@ def nth_value(hive, at, n):
     return reader.value(offsets[n])["at"] if n < len(offsets) else None
 
 
+def key_class(hive, at):
+    """Where the class name of the key at an offset lies in the file, and its length: "48 class name offset", "74 class name length" (003). None of length
+    0, and then the offset is not read. Its cell is tested as a value's data cell is (132)."""
+    reader, k = given_key(hive, at)
+    cell, length = k["class"]
+    if length == 0:
+        return None
+    reader.room(cell, length)
+    return BASE + cell + 4, length
+
+
+def key_security(hive, at):
+    """The same of its descriptor: the cell that the key names, "sk" and 20 bytes, and room for what its size says, 12 at the item (133)."""
+    reader, k = given_key(hive, at)
+    d = reader.cell(k["security"])
+    if len(d) < 20 or d[0:2] != b"sk" or 20 + u32(d, 16) > len(d):
+        raise Refused(12, k["security"], reader.examined)
+    return BASE + k["security"] + 4 + 20, u32(d, 16)
+
+
 # ---- the model: logs by themselves
 
 # What a log says: its first and last number; how many entries count, and where the last of them ends (of an old log, where they would start: 512); the bins size that 24 reads;
@@ -1086,12 +1106,12 @@ class Item:
 
 class Key:
     """A key of a tree. `lists` says how the subkeys are listed: a signature for one leaf, or a list of
-    (signature, count) for leaves below an `ri`. `item` is one of the builder's; None: its first."""
+    (signature, count) for leaves below an `ri`. `item` is one of the builder's; None: its first. `class_name`: its bytes."""
 
-    def __init__(self, name, subkeys=(), values=(), lists="lh", wide=None, item=None, stamp=0):
+    def __init__(self, name, subkeys=(), values=(), lists="lh", wide=None, item=None, stamp=0, class_name=b""):
         self.name, self.subkeys, self.values, self.lists = units(name), list(subkeys), list(values), lists
         self.wide = any(c > 255 for c in self.name) if wide is None else wide
-        self.item, self.stamp, self.at = item, stamp, None
+        self.item, self.stamp, self.class_name, self.at = item, stamp, class_name, None
 
 
 class Builder:
@@ -1175,6 +1195,10 @@ class Builder:
         struct.pack_into("<H", d, 72, len(name))
         kinds = [(0, 2, "sign"), (2, 2, "flags"), (16, 4, "offset"), (20, 4, "count"), (28, 4, "offset"), (36, 4, "count"),
                  (40, 4, "offset"), (44, 4, "offset"), (72, 2, "count"), (76, 1, "name"), (76 + len(name) - 1, 1, "name")]
+        if k.class_name:
+            struct.pack_into("<I", d, 48, self.store(k.class_name))
+            struct.pack_into("<H", d, 74, len(k.class_name))
+            kinds += [(48, 4, "offset"), (74, 2, "count")]
         self.put(k.at, d + name, kinds)
         self.keys.append(k)
 

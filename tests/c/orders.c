@@ -266,6 +266,27 @@ static void settled(size_t length)
     printf(" settled hive: %u\n", sum(copy, length));
 }
 
+static void say_piece(const char *before, HivePiece p)
+{
+    if (p.answer.number != 0)
+        say(before, p.answer);
+    else if (p.at == 0)
+        printf("%snone\n", before);
+    else
+        printf("%sat %llu length %llu\n", before, (unsigned long long)p.at, (unsigned long long)p.length);
+}
+
+/* The class name and the descriptor of the root and of some other keys. */
+static void pieces(size_t length)
+{
+    uint32_t at = root_of(length);
+    dice = sum(hive, length);
+    for (int n = 0; n <= WILD; n++, at = some_offset(length)) {
+        say_piece(" class: ", hive_key_class(hive, length, at));
+        say_piece(" security: ", hive_key_security(hive, length, at));
+    }
+}
+
 static void on_hive(size_t length)
 {
     memcpy(hive, payload, length);
@@ -286,6 +307,7 @@ static void on_hive(size_t length)
     members(" value: ", hive_nth_value, root);
     say(" root: ", hive_key_at(hive, length, root).answer);
     settled(length);
+    pieces(length);
 }
 
 /* What the log says by itself: its facts, its pages all at once, and one by one with their places. */

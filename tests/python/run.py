@@ -184,6 +184,20 @@ def words():
 
 
 @test
+def pieces():
+    """a key's class name and its descriptor"""
+    items = [hives.Item(b"one"), hives.Item(bytes(range(40)))]
+    below = [hives.Key("a", item=items[1], class_name=b"S\0h\0"), hives.Key("b", item=items[0])]
+    made = hives.Builder(hives.Key("R", below, item=items[0]), items=items).hive
+    expect(Hive(bytes(made)).check().keys, 3)
+    expect([(k.class_name, k.security) for k in Hive(bytes(made)).keys()], [(None, b"one"), (b"S\0h\0", bytes(range(40))), (None, b"one")])
+    at = below[0].at
+    struct.pack_into("<II", made, hives.BASE + 4 + at + 44, 12, 4)
+    key = Hive(bytes(made)).key("a")
+    expect((refusal(lambda: key.class_name), refusal(lambda: key.security)), ((11, 4, at), (11, 12, at)))
+
+
+@test
 def as_the_tool():
     """every key and value is the tool's"""
     for file in ("sample", "letters", "texts", "sources"):
