@@ -28,6 +28,6 @@ abbrev pub described : Verdict → Item → Described
 described Sound i = answer.Whole i
 described (Flawed f) i = answer.Flawed f
 
--- where in the file the descriptor of the item at an offset lies: "20 .. Security descriptor"
+-- where in the file the descriptor of the item at an offset lies: "Security descriptor" at 20
 unfoldable pub descriptorPlace : Offset → Item → Place
 descriptorPlace o i = partPlace o 20 (i .size)

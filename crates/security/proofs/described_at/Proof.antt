@@ -37,7 +37,8 @@ returns-3 : tie.Need-returns-3
 unfolding descriptorFault itemOf
 returns-3 c = rw (
   record-good isDescribed _ _ _ _ (found (c .before .before .before .before))
-      (ap isDescribed (sym (c .before .before .before .cell-data .ensures)) ∙ sym (c .before .before .is-described .ensures) ∙ not-false _ (c .before .if1 .left)),
+      (ap isDescribed (sym (c .before .before .before .cell-data .ensures)) ∙ sym (c .before .before .is-described .ensures)
+      ∙ not-false _ (c .before .if1 .left)),
   ← cell-data-at _ _ _ _ (found (c .before .before .before .before)),
   ← c .before .before .before .cell-data .ensures,
   c .item-in .ensures,
