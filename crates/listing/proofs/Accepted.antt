@@ -2,10 +2,9 @@
 -- and the key has a descriptor.
 use Prim.Native.Nat.{ℕ, zero, suc, _+_, _-_, _<_, _≤_}
 use native.Mathlib.Omega.{arith}
-use mathlib.Core.Path.{_≡_, refl, sym, ap, _∙_, subst}
+use mathlib.Core.Path.{_≡_, refl, sym, ap, _∙_}
 use mathlib.Core.Bool.{Bool, true, false}
-use mathlib.Core.Logic.{⊎-elim}
-use mathlib.Core.List.{List, [], _∷_, _++_, List·Memᴰ, List·Memᴰ·head, List·Memᴰ·tail, List·Memᴰ·cases-cons}
+use mathlib.Core.List.{List, [], _∷_, _++_, List·Memᴰ, List·Memᴰ·head, List·Memᴰ·tail}
 use lib.Dec.{eqb, leb}
 use lib.ListN.{length, getD, length-append, List·getD-append}
 use borrow.Author.Tests.{eqb-false, leb-true, leb-false, le-leb, lt-leb}
@@ -30,14 +29,13 @@ use Rattle.security.proofs.Descriptor.{descriptor-exactly}
 use Rattle.values.specs.Records.{valueOf}
 use Rattle.values.specs.Lists.{valuesOf}
 use Rattle.tree.specs.declared.Hive.{Hive}
-use Rattle.records.specs.Listed.{keysIn}
 use Rattle.records.proofs.Elements.{at-in}
-use Rattle.records.proofs.Listed.{in-joined}
 use Rattle.tree.specs.Tree.{levels, hiveOf, keysOf}
 use Rattle.tree.specs.WellFormed.{KeyStands, TreeStands, key, CleanAndWellFormed}
 use Rattle.search.specs.declared.Look.{Look}
 use Rattle.search.specs.declared.Look.the-variants.{Found, Missing}
 use Rattle.search.proofs.Finds.{key-good, list-head, leaves-good}
+use Rattle.paths.proofs.Listed.{listed-tree}
 use Rattle.lookup.specs.declared.ValueFound.the-variants as value
 use Rattle.lookup.specs.Answers.{infoOf}
 use Rattle.lookup.proofs.ValueFinds.{list-good, each-good, value-good}
@@ -114,14 +112,6 @@ module _ (d : List ℕ) (hive : Hive) (tiles : BinsTile d 0) where
           let l = s .lists (eqb-false _ _ e) in
           rw (e, list-head d hive tiles (keyOf d o .list) l) (nth-none d (leavesOf d (keyOf d o .list)) (leaves-good d hive tiles (keyOf d o .list) l) n (rw e at p))
 
-  -- the keys below a listed key form a tree
-  listed-tree : (n : ℕ) (at : Offset) → TreeStands d hive n at → (k : Offset) → List·Memᴰ k (keysIn d n at) → (m : ℕ) × TreeStands d hive (suc m) k
-  unfolding keysIn
-  listed-tree (suc n) at (key s a ch tree) k i =
-      ⊎-elim (λ e. (n, subst (λ (o : Offset). TreeStands d hive (suc n) o) (sym e) (key s a ch tree)))
-      (λ j. let x = in-joined (keysIn d n) (children d at) k j in listed-tree n (x .0 .at) (tree (x .0) (x .1)) k (x .2))
-      (List·Memᴰ·cases-cons i)
-
   stands : (m : ℕ) (o : Offset) → TreeStands d hive (suc m) o → KeyStands d (hive .minor) o
   stands m o (key s a ch tree) = s
 
@@ -131,7 +121,7 @@ module _ (d : List ℕ) (hive : Hive) (tiles : BinsTile d 0) where
 -- the theorems: h is an accepted hive and o a key that its tree holds
 module _ (h : List ℕ) (w : CleanAndWellFormed h) (o : Offset) (i : List·Memᴰ o (keysOf h)) where
   tree-of : (m : ℕ) × TreeStands (binsData h) (hiveOf h) (suc m) o
-  tree-of = listed-tree (binsData h) (hiveOf h) (w .formed .tiled) levels (hiveOf h .root) (w .formed .tree) o i
+  tree-of = listed-tree (binsData h) (hiveOf h) levels (hiveOf h .root) (w .formed .tree) o i
 
   base : baseFault h ≡ Sound
   base = facts-base h (w .is-clean) (w .inside)

@@ -6,3 +6,4 @@ pub mod ValueFinds
 pub mod In_accepted
 pub mod Refusals
 pub mod Quick
+pub mod Spots

@@ -12,20 +12,21 @@ use Rattle.fields.specs.declared.Offset.{Offset}
 use Rattle.fields.specs.declared.Refusal.{Refusal}
 use Rattle.fields.specs.declared.Verdict.{Verdict}
 use Rattle.fields.specs.declared.Verdict.the-variants.{Sound, Flawed}
-use Rattle.fields.specs.Faults.{flaw, nowhere, refusalOf, Because, _next_}
+use Rattle.fields.specs.Faults.{flaw, nowhere, noKey, refusalOf, Because, _next_}
 use Rattle.fields.proofs.Every.{Every, every-sound, every-flaw, every-next}
-use Rattle.base.specs.Block.{sector, minorOf, binsData}
+use Rattle.base.specs.Block.{sector, minorOf, binsData, baseFault}
+use Rattle.base.proofs.Refusals.{base-refuses}
 use Rattle.cells.specs.declared.Rule.the-variants.{Header}
 use Rattle.cells.proofs.Refusals.{Ruled, by-header}
 use Rattle.names.specs.Comparison.{sameName}
-use Rattle.records.specs.Keys.{keyOf, codesOf}
+use Rattle.records.specs.Keys.{keyFault, keyOf, codesOf}
 use Rattle.values.specs.declared.ValueData.{ValueData}
 use Rattle.values.specs.declared.ValueData.the-variants.{Inline, OneCell, Segments}
 use Rattle.values.specs.Records.{valueFault, dataIn, valueOf}
 use Rattle.values.specs.Segments.{dataFault}
 use Rattle.values.specs.Lists.{valuesOf, valueListFault}
-use Rattle.values.specs.Refused.{one-of}
-use Rattle.values.proofs.Refusals.{value-fit, value-unfit, value-list-unfit, value-named, data-unfit}
+use Rattle.values.specs.Refused.{one-of, Among, Values}
+use Rattle.values.proofs.Refusals.{key-fit, key-unfit, value-fit, value-unfit, value-list-unfit, value-named, data-unfit}
 use Rattle.paths.specs.declared.KeyFound.{KeyFound}
 use Rattle.paths.specs.declared.KeyFound.the-variants.{At, Refused}
 use Rattle.search.specs.declared.How.{How}
@@ -40,12 +41,15 @@ use Rattle.search.proofs.Refusals.{Each, each-found, each-missing, each-cond, e
 use Rattle.paths.proofs.Refusals.{look-each}
 use Rattle.lookup.specs.declared.Copied.the-variants.{Refused as Uncopied}
 use Rattle.lookup.specs.declared.Info.{Info}
+use Rattle.lookup.specs.declared.Spot.{Spot}
 use Rattle.lookup.specs.declared.Spot.the-variants as spot
+use Rattle.lookup.specs.declared.Spotted.the-variants.{Refused as Spotless}
 use Rattle.lookup.specs.declared.ValueFound.{ValueFound}
 use Rattle.lookup.specs.declared.ValueFound.the-variants.{At as ValueAt, Refused as Unvalued}
 use Rattle.lookup.specs.Search.{valueNamed, lookupValue}
 use Rattle.lookup.specs.Answers.{inKey, onKey, valueLookBy, viewFault, infoWhere, valueFound, infoBy, viewBy, copiedTo, keyAsked, copyBy}
-use Rattle.lookup.specs.Refused.{FindsBy, OfValueBy, of-key, of-values, of-data, no-value, OfViewBy, as-value, segmented, OfCopyBy, as-info, too-short}
+use Rattle.lookup.specs.Spots.{spotAfter, spotIn, spotOf, spotted, spotAnswer}
+use Rattle.lookup.specs.Refused.{FindsBy, OfValueBy, of-key, of-values, of-data, no-value, OfViewBy, as-value, segmented, OfCopyBy, as-info, too-short, OfSpot, by-base, by-given, by-values, no-spot}
 use Rattle.lookup.proofs.ValueFinds.{found-first}
 use Rattle.lookup.proofs.Answered.{info-answered, found-key}
 use Rattle.lookup.proofs.Value_searches.{value-below, value-key, value-facts}
@@ -63,19 +67,25 @@ copied-refuses P k n (ValueAt i) p s {r} q = cut (leb (i .len) n) refl
         (k, flaw OutputShort nowhere, let z : refusalOf k (flaw OutputShort nowhere) ≡ r = cc in sym z, s i refl (leb-false _ _ e))
 
 -- ---- the searches
+
+-- the faults among the values of a key
+values-each : (h x : List ℕ) (k : Offset) (P : Flaw → Type 0) → ((f : Flaw) → Among Header (binsData h) (Values Header (binsData h) k) f → P f)
+    → Each P (lookupValue (binsData h) (minorOf (sector h)) x (keyOf (binsData h) k))
+unfolding lookupValue valueNamed
+values-each h x k P why =
+    let d = binsData h in
+    let ruled = by-header d [] in
+    each-sound P (valueListFault Header d [] (keyOf d k)) _ (λ f e. why f (value-list-unfit Header d [] ruled k f e))
+    (λ s. each-first P (valueNamed d (minorOf (sector h)) x) (valuesOf d (keyOf d k))
+    (λ v i. each-sound P (valueFault Header d [] v) _ (λ f e. why f (one-of (value-named Header d [] ruled k v s i) (value-unfit Header d [] ruled v f e)))
+    (λ t. each-cond P (sameName (codesOf d (valueOf d (minorOf (sector h)) v .name)) x) (Found v) Missing (λ y. each-found P v) (λ y. each-missing P))))
+
 module _ (how : How) (h us x : List ℕ) where
   ruled : Ruled Header (binsData h) []
   ruled = by-header (binsData h) []
 
   value-each : (k : Offset) → findBy how h us ≡ At k → Each (OfValueBy how h us x k) (lookupValue (binsData h) (minorOf (sector h)) x (keyOf (binsData h) k))
-  unfolding lookupValue valueNamed
-  value-each k w =
-      let d = binsData h in
-      let P = OfValueBy how h us x k in
-      each-sound P (valueListFault Header d [] (keyOf d k)) _ (λ f e. of-values w (value-list-unfit Header d [] ruled k f e))
-      (λ s. each-first P (valueNamed d (minorOf (sector h)) x) (valuesOf d (keyOf d k))
-      (λ v i. each-sound P (valueFault Header d [] v) _ (λ f e. of-values w (one-of (value-named Header d [] ruled k v s i) (value-unfit Header d [] ruled v f e)))
-      (λ t. each-cond P (sameName (codesOf d (valueOf d (minorOf (sector h)) v .name)) x) (Found v) Missing (λ y. each-found P v) (λ y. each-missing P))))
+  value-each k w = values-each h x k (OfValueBy how h us x k) (λ f. of-values w)
 
   -- the value that is found
   finds : {k v : Offset} → valueLookBy how h us x ≡ spot.Found k v → FindsBy how h us x k v
@@ -150,3 +160,28 @@ module _ (how : How) (h us x : List ℕ) where
   copy-refuses n =
       copied-refuses (OfCopyBy how h us x n) (keyAsked (findBy how h us)) n (infoBy how h us x) (λ g p. let w = info-refuses p in (w .0, w .1, w .2, as-info (w .3)))
       (λ i p s. too-short (copy-key p) p s)
+
+-- ---- value_of
+
+-- all refusals of a spot
+module _ (P : Offset → Flaw → Type 0) where
+  after-refuses : (v : Verdict) (s : Spot) → Every (P noKey) v → (r : Refusal) → (v ≡ Sound → spotted s ≡ Spotless r → Because P r)
+      → spotted (spotAfter v s) ≡ Spotless r → Because P r
+  after-refuses Sound s p r q e = q refl e
+  after-refuses (Flawed g) s p r q e = (noKey, g, let z : refusalOf noKey g ≡ r = cc in sym z, p g refl)
+
+  in-refuses : (k : Offset) (l : Look) → Each (P k) l → (l ≡ Missing → P k (flaw NoValue nowhere)) → (r : Refusal) → spotted (inKey k l) ≡ Spotless r
+      → Because P r
+  in-refuses k (Found v) p s r e = absurd (let z : _≡_ {A = ℕ} 0 1 = cc in omega arith)
+  in-refuses k Missing p s r e = (k, flaw NoValue nowhere, let z : refusalOf k (flaw NoValue nowhere) ≡ r = cc in sym z, s refl)
+  in-refuses k (Faulty g) p s r e = (k, g, let z : refusalOf k g ≡ r = cc in sym z, p g refl)
+
+pub spot-refuses : (h : List ℕ) (o : Offset) (x : List ℕ) {r : Refusal} → spotAnswer h o x ≡ Spotless r → Because (OfSpot h o x) r
+unfolding spotAnswer spotOf spotIn
+spot-refuses h o x {r} =
+    let P = OfSpot h o x in
+    let d = binsData h in
+    after-refuses P (baseFault h) _ (λ f e. by-base (base-refuses h f e)) r
+    (λ a. after-refuses P (keyFault Header d [] o) _ (λ f e. by-given (key-unfit Header d [] (by-header d []) o f e)) r
+    (λ b. let g = key-fit Header d [] (by-header d []) o b in
+    in-refuses P o (lookupValue d (minorOf (sector h)) x (keyOf d o)) (values-each h x o (P o) (λ f. by-values g)) (λ e. no-spot g e) r))

@@ -6,14 +6,15 @@ use mathlib.Core.List.{List}
 use Rattle.fields.specs.declared.Fault.the-variants.{NoValue, Segmented, OutputShort}
 use Rattle.fields.specs.declared.Flaw.{Flaw}
 use Rattle.fields.specs.declared.Offset.{Offset}
-use Rattle.fields.specs.Faults.{flaw, nowhere}
+use Rattle.fields.specs.Faults.{flaw, nowhere, noKey}
 use Rattle.base.specs.Block.{sector, minorOf, binsData}
+use Rattle.base.specs.Refused.{OfBase}
 use Rattle.cells.specs.declared.Rule.the-variants.{Header}
 use Rattle.records.specs.Keys.{keyOf}
 use Rattle.values.specs.declared.ValueData.the-variants.{Segments}
 use Rattle.values.specs.Records.{dataIn}
 use Rattle.values.specs.Lists.{valuesOf}
-use Rattle.values.specs.Refused.{a-value, Fit, Among, Values, Data}
+use Rattle.values.specs.Refused.{a-key, a-value, Fit, Unfit, Among, Values, Data}
 use Rattle.search.specs.declared.How.{How}
 use Rattle.search.specs.declared.How.the-variants.{InTurn}
 use Rattle.paths.specs.declared.KeyFound.the-variants.{At}
@@ -64,3 +65,13 @@ pub data OfCopyBy (how : How) (h us x : List ℕ) (room : ℕ) : Offset → Flaw
 
 abbrev pub OfCopy : List ℕ → List ℕ → List ℕ → ℕ → Offset → Flaw → Type 0
 OfCopy h us x room = OfCopyBy InTurn h us x room
+
+-- value_of of the key at an offset, which is then the key under examination
+pub data OfSpot (h : List ℕ) (o : Offset) (x : List ℕ) : Offset → Flaw → Type 0 where
+  by-base : {f : Flaw} → OfBase h f → OfSpot h o x noKey f
+  -- 11 and 12: of that key, with no key yet; of its value list and its values
+  by-given : {f : Flaw} → Unfit Header (binsData h) a-key o f → OfSpot h o x noKey f
+  by-values : {f : Flaw} → Fit Header (binsData h) a-key o → Among Header (binsData h) (Values Header (binsData h) o) f → OfSpot h o x o f
+  -- 18: "no such value"
+  no-spot : Fit Header (binsData h) a-key o → lookupValue (binsData h) (minorOf (sector h)) x (keyOf (binsData h) o) ≡ Missing
+      → OfSpot h o x o (flaw NoValue nowhere)

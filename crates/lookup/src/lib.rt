@@ -6,8 +6,10 @@ use fields::Offset;
 use fields::Place;
 use fields::Refusal;
 use fields::Verdict;
+use paths::KeyFound;
 use paths::Way;
 use records::Key;
+use records::Keyed;
 use search::How;
 use search::Look;
 use values::Entered;
@@ -28,7 +30,9 @@ ghost use Rattle.values.specs.Steps.{Room, Lies};
 ghost use Rattle.values.specs.Records.{valueOf};
 ghost use Rattle.values.specs.Segments.{dataFault, lengthOf};
 ghost use Rattle.values.specs.Lists.{wholeValueFault};
+ghost use Rattle.paths.specs.Steps.{childAnswer, quickChild};
 ghost use Rattle.lookup.specs.Search.{valueNamed, searchValues, lookupValue};
+ghost use Rattle.lookup.specs.Spots.{spotIn, spotOf, spotAnswer};
 ghost use Rattle.fields.specs.declared.Fault.the-variants.{NoValue};
 ghost use Rattle.fields.specs.Faults.{flaw, nowhere, refusalOf};
 ghost use Rattle.lookup.specs.Answers.{inKey, valueLookBy, infoOf, viewFault, viewedFault, infoWhere, infoBy, infoAnswer, quickInfo, viewBy, viewAnswer, quickView, viewStartBy, viewStart, quickViewStart, viewBytesBy, viewBytes, quickViewBytes, copiedTo, copyBy, copyAnswer, quickCopy, written, copyOutBy, copyOut, quickOut};
@@ -342,4 +346,54 @@ pub fn quick_copy(hive: &[u8], path: &[u16], name: &[u16], out: &mut [u8]) -> Co
     ensures { λ _. ⌜ now (out .exit) ≡ quickOut (now (hive .entry)) (now (path .entry)) (now (name .entry)) (now (out .entry)) ⌝ }
 {
     copy_by(hive, path, name, out, How::Halving)
+}
+
+// One step of a path: the child of the key at an offset by its name.
+pub fn child_of(hive: &[u8], key: Offset, name: &[u16]) -> KeyFound
+    ensures { λ r. ⌜ r ≡ childAnswer (now (hive .entry)) key (now (name .entry)) ⌝ }
+{
+    paths::child_by(hive, key, name, How::InTurn)
+}
+
+// The same by halves.
+pub fn quick_child_of(hive: &[u8], key: Offset, name: &[u16]) -> KeyFound
+    ensures { λ r. ⌜ r ≡ quickChild (now (hive .entry)) key (now (name .entry)) ⌝ }
+{
+    paths::child_by(hive, key, name, How::Halving)
+}
+
+// The given key's own record is tested before it is under examination.
+fn spot_in(bins: &[u8], minor: u32, key: Offset, name: &[u16]) -> Spot
+    ensures { λ r. ⌜ r ≡ spotIn (now (bins .entry)) minor key (now (name .entry)) ⌝ }
+{
+    match records::key_at(bins, b"", Rule::Header, key) {
+        Keyed::Flawed(f) => Spot::Faulty(fields::refused(Offset(fields::NO_KEY), f)),
+        Keyed::Whole(k) => in_key(key, lookup_value(bins, minor, name, k)),
+    }
+}
+
+fn spot_of(hive: &[u8], key: Offset, name: &[u16]) -> Spot
+    ensures { λ r. ⌜ r ≡ spotOf (now (hive .entry)) key (now (name .entry)) ⌝ }
+{
+    match base::base_flaw(hive) {
+        Verdict::Flawed(f) => Spot::Faulty(fields::refused(Offset(fields::NO_KEY), f)),
+        Verdict::Sound => spot_in(base::bins_of(hive), base::minor_of(hive), key, name),
+    }
+}
+
+// A value by its offset.
+pub enum Spotted {
+    At(Offset),
+    Refused(Refusal),
+}
+
+// The first value of that name of the key at an offset.
+pub fn value_of(hive: &[u8], key: Offset, name: &[u16]) -> Spotted
+    ensures { λ r. ⌜ r ≡ spotAnswer (now (hive .entry)) key (now (name .entry)) ⌝ }
+{
+    match spot_of(hive, key, name) {
+        Spot::Found(_, v) => Spotted::At(v),
+        Spot::Missing(k) => Spotted::Refused(no_value(k)),
+        Spot::Faulty(r) => Spotted::Refused(r),
+    }
 }

@@ -4,6 +4,7 @@ pub mod Parts
 pub mod Passes
 pub mod Descents
 pub mod Opens
+pub mod StepTests
 pub mod Held
 pub mod Exact
 pub mod Listed
@@ -11,3 +12,5 @@ pub mod Each
 pub mod In_accepted
 pub mod Refusals
 pub mod Quick
+pub mod Steps
+pub mod Child

@@ -38,6 +38,15 @@ listed-named d (suc n) at k i =
     (nameAt d (x .0 .at) ∷ r .0, child (x .1) (r .1), omega arith))
     (List·Memᴰ·cases-cons i)
 
+-- the keys below a listed key form a tree
+pub listed-tree : (d : List ℕ) (hive : Hive) (n : ℕ) (at : Offset) → TreeStands d hive n at → (k : Offset) → List·Memᴰ k (keysIn d n at)
+    → (m : ℕ) × TreeStands d hive (suc m) k
+unfolding keysIn
+listed-tree d hive (suc n) at (key s a ch tree) k i =
+    ⊎-elim (λ e. (n, subst (λ (o : Offset). TreeStands d hive (suc n) o) (sym e) (key s a ch tree)))
+    (λ j. let x = in-joined (keysIn d n) (children d at) k j in listed-tree d hive n (x .0 .at) (tree (x .0) (x .1)) k (x .2))
+    (List·Memᴰ·cases-cons i)
+
 -- names lead where they are compared
 pub named-holds : {d : List ℕ} {o e : Offset} {xs : List (List ℕ)} → Named d o xs e → Holds d o xs e
 named-holds itself = here

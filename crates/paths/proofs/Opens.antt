@@ -1,12 +1,11 @@
 -- 1 to 7, 16, and the key: a law for each way out, and what is known where a key is found.
 use Prim.Native.Nat.{ℕ}
-use mathlib.Core.Path.{_≡_, _∙_}
-use mathlib.Core.Bool.{true, false}
+use mathlib.Core.Path.{_≡_, refl, sym, _∙_}
+use mathlib.Core.Bool.{Bool, true, false}
 use mathlib.Core.List.{List, []}
-use Rattle.fields.specs.declared.Fault.the-variants.{PathParts, NoKey}
+use Rattle.fields.specs.declared.Fault.the-variants.{PathParts}
 use Rattle.fields.specs.declared.Flaw.{Flaw}
 use Rattle.fields.specs.declared.Offset.{Offset}
-use Rattle.fields.specs.declared.Refusal.{Refusal}
 use Rattle.fields.specs.declared.Verdict.the-variants.{Sound, Flawed}
 use Rattle.fields.specs.Faults.{flaw, nowhere, noKey, refusalOf}
 use Rattle.fields.proofs.Firsts.{on, stop, both, sound, held, holds, fails}
@@ -15,29 +14,42 @@ use Rattle.cells.specs.declared.Rule.the-variants.{Header}
 use Rattle.records.specs.Keys.{keyFault}
 use Rattle.tree.specs.Tree.{hiveOf}
 use Rattle.search.specs.declared.How.{How}
-use Rattle.paths.specs.declared.KeyFound.the-variants.{At, Refused}
-use Rattle.paths.specs.declared.Way.the-variants.{Found, Missing, Faulty}
+use Rattle.paths.specs.declared.KeyFound.the-variants.{At}
+use Rattle.paths.specs.declared.Way.the-variants.{Found, Faulty}
 use Rattle.paths.specs.Paths.{partsOf, isPath, pathFault}
 use Rattle.paths.specs.Descent.{lookupKeyBy}
-use Rattle.paths.specs.Answers.{openFault, keyLookBy, findBy}
+use Rattle.paths.specs.Answers.{askFault, openFault, keyLookBy, findBy}
 use Rattle.paths.proofs.Descents.{opened-found, lookup-tested}
 
+-- 1 to 7, then 16
+module _ (h : List ℕ) (t : Bool) where
+  pub ask-base : {f : Flaw} → baseFault h ≡ Flawed f → askFault h t ≡ Flawed f
+  unfolding askFault
+  ask-base e = stop _ _ e
+
+  pub ask-good : baseFault h ≡ Sound → t ≡ true → askFault h t ≡ Sound
+  unfolding askFault
+  ask-good e p = sound _ _ e (holds _ p)
+
+  pub ask-bad : baseFault h ≡ Sound → t ≡ false → askFault h t ≡ Flawed (flaw PathParts nowhere)
+  unfolding askFault
+  ask-bad e p = on _ _ e ∙ fails _ p
+
+  pub ask-facts : askFault h t ≡ Sound → (baseFault h ≡ Sound) × (t ≡ true)
+  unfolding askFault
+  ask-facts e = let b = both (baseFault h) _ e in (b .0, held t (flaw PathParts nowhere) (b .1))
+
+-- of a path
 module _ (h us : List ℕ) where
+  pub open-is : openFault h us ≡ askFault h (isPath us)
+  unfolding openFault pathFault askFault
+  open-is = refl
+
   pub open-base : {f : Flaw} → baseFault h ≡ Flawed f → openFault h us ≡ Flawed f
-  unfolding openFault
-  open-base e = stop _ _ e
-
-  pub open-path : baseFault h ≡ Sound → isPath us ≡ true → openFault h us ≡ Sound
-  unfolding openFault pathFault
-  open-path e p = sound _ _ e (holds _ p)
-
-  pub open-bad : baseFault h ≡ Sound → isPath us ≡ false → openFault h us ≡ Flawed (flaw PathParts nowhere)
-  unfolding openFault pathFault
-  open-bad e p = on _ _ e ∙ fails _ p
+  open-base e = open-is ∙ ask-base h (isPath us) e
 
   pub open-facts : openFault h us ≡ Sound → (baseFault h ≡ Sound) × (isPath us ≡ true)
-  unfolding openFault pathFault
-  open-facts e = let b = both (baseFault h) _ e in (b .0, held (isPath us) (flaw PathParts nowhere) (b .1))
+  open-facts e = ask-facts h (isPath us) (sym open-is ∙ e)
 
 -- the key, by either search
 module _ (how : How) (h us : List ℕ) where
@@ -60,11 +72,3 @@ module _ (how : How) (h us : List ℕ) where
   pub find-at : {o : Offset} → keyLookBy how h us ≡ Found o → findBy how h us ≡ At o
   unfolding findBy
   find-at e = rw e
-
-  pub find-missing : {k : Offset} → keyLookBy how h us ≡ Missing k → findBy how h us ≡ Refused (refusalOf k (flaw NoKey nowhere))
-  unfolding findBy
-  find-missing e = rw e
-
-  pub find-faulty : {r : Refusal} → keyLookBy how h us ≡ Faulty r → findBy how h us ≡ Refused r
-  unfolding findBy
-  find-faulty e = rw e

@@ -38,7 +38,7 @@ use Rattle.paths.proofs.Descents.{opened-found}
 use Rattle.paths.proofs.Exact.{found-look-is}
 
 -- a part of a list of bytes
-part-bytes : (s : List ℕ) (k n : ℕ) → ((i : ℕ) → getD s i 0 < 256) → (i : ℕ) → getD (take n (drop k s)) i 0 < 256
+pub part-bytes : (s : List ℕ) (k n : ℕ) → ((i : ℕ) → getD s i 0 < 256) → (i : ℕ) → getD (take n (drop k s)) i 0 < 256
 part-bytes s k n bytes i = by (ltb i n) refl
   where
     by : (t : Bool) → ltb i n ≡ t → getD (take n (drop k s)) i 0 < 256
@@ -49,7 +49,7 @@ part-bytes s k n bytes i = by (ltb i n) refl
 
 -- ---- along a path, in a tree that stands
 module _ (d : List ℕ) (bytes : (i : ℕ) → getD d i 0 < 256) (hive : Hive) (tiles : BinsTile d 0) where
-  quick-descends : (n : ℕ) (o : Offset) (xs : List (List ℕ)) → TreeStands d hive n o → descendBy Halving d o xs ≡ descendBy InTurn d o xs
+  pub quick-descends : (n : ℕ) (o : Offset) (xs : List (List ℕ)) → TreeStands d hive n o → descendBy Halving d o xs ≡ descendBy InTurn d o xs
   unfolding descendBy belowBy onFound
   quick-descends n o [] t = refl
   quick-descends (suc n) o (x ∷ xs) (key s a ch tree) =

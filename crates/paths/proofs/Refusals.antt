@@ -31,8 +31,9 @@ use Rattle.paths.specs.declared.Way.{Way}
 use Rattle.paths.specs.declared.Way.the-variants as way
 use Rattle.paths.specs.Paths.{isPath, pathFault, partsOf}
 use Rattle.paths.specs.Descent.{onFound, descendBy, opened, lookupKeyBy}
-use Rattle.paths.specs.Answers.{openFault, keyLookBy, keyFound, findBy}
-use Rattle.paths.specs.Refused.{OnWay, the-root, a-child, OfKeyBy, of-base, no-path, of-root, of-lists, no-key}
+use Rattle.paths.specs.Answers.{askFault, openFault, keyLookBy, keyFound, findBy}
+use Rattle.paths.specs.Steps.{isStep, childLookBy, childBy}
+use Rattle.paths.specs.Refused.{OnWay, the-root, a-child, OfKeyBy, of-base, no-path, of-root, of-lists, no-key, OfChildBy, by-base, no-step, by-given, by-lists, no-child}
 
 -- ---- all refusals of a way
 module _ (P : Offset → Flaw → Type 0) where
@@ -88,3 +89,22 @@ module _ (how : How) (h us : List ℕ) where
   pub find-refuses : {r : Refusal} → findBy how h us ≡ Refused r → Because (OfKeyBy how h us) r
   unfolding findBy
   find-refuses {r} = look-each r
+
+-- ---- a step
+module _ (how : How) (h : List ℕ) (o : Offset) (x : List ℕ) where
+  ask-each : Every (OfChildBy how h o x noKey) (askFault h (isStep x))
+  unfolding askFault
+  ask-each =
+      every-next (OfChildBy how h o x noKey) (baseFault h) _ (λ f e. by-base (base-refuses h f e))
+      (λ s. every-unless (OfChildBy how h o x noKey) (isStep x) _ (λ e. no-step e))
+
+  -- child_of and quick_child_of
+  pub child-refuses : {r : Refusal} → childBy how h o x ≡ Refused r → Because (OfChildBy how h o x) r
+  unfolding childBy childLookBy lookupKeyBy descendBy
+  child-refuses {r} =
+      let P = OfChildBy how h o x in
+      let d = binsData h in
+      ends-opened P (askFault h (isStep x)) _ ask-each
+      (λ a. ends-opened P (keyFault Header d [] o) _ (λ f e. by-given (key-unfit Header d [] (by-header d []) o f e))
+      (λ b. let g = key-fit Header d [] (by-header d []) o b in
+      ends-on P o (belowBy how d x (keyOf d o)) _ (λ f e. by-lists g (by-each d x how o f e)) (λ e. no-child g e) (λ c e. ends-found P c))) r

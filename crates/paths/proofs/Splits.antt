@@ -26,7 +26,7 @@ or-false : (a b : Bool) → (a || b) ≡ false → (a ≡ false) × (b ≡ false
 or-false true b e = absurd (let z : _≡_ {A = ℕ} 0 1 = cc in omega arith)
 or-false false b e = (refl, e)
 
-split-last : (x : List ℕ) → hasCode backslash x ≡ false → split x ≡ x ∷ []
+pub split-last : (x : List ℕ) → hasCode backslash x ≡ false → split x ≡ x ∷ []
 unfolding split hasCode
 split-last [] e = refl
 split-last (u ∷ x) e =

@@ -1,10 +1,11 @@
 -- The answers of the calls for a key: "Order: 1 to 7; 16; then the records in list order up to the first match [..]; 17", each with the key under
 -- examination; and the same by halving. h is the hive, us the path.
 use Prim.Native.Nat.{ℕ}
+use mathlib.Core.Bool.{Bool}
 use mathlib.Core.List.{List}
 use Rattle.fields.specs.declared.Verdict.{Verdict}
-use Rattle.fields.specs.declared.Fault.the-variants.{NoKey}
-use Rattle.fields.specs.Faults.{flaw, nowhere, _next_, refusalOf}
+use Rattle.fields.specs.declared.Fault.the-variants.{PathParts, NoKey}
+use Rattle.fields.specs.Faults.{flaw, nowhere, unless, _next_, refusalOf}
 use Rattle.base.specs.Block.{binsData, baseFault}
 use Rattle.tree.specs.Tree.{hiveOf}
 use Rattle.search.specs.declared.How.{How}
@@ -15,6 +16,10 @@ use Rattle.paths.specs.declared.Way.{Way}
 use Rattle.paths.specs.declared.Way.the-variants.{Found, Missing, Faulty}
 use Rattle.paths.specs.Paths.{partsOf, pathFault}
 use Rattle.paths.specs.Descent.{opened, lookupKeyBy}
+
+-- 1 to 7, then 16 where what is asked for is not good
+unfoldable pub askFault : List ℕ → Bool → Verdict
+askFault h good = baseFault h next unless good (flaw PathParts nowhere)
 
 -- 1 to 7, then 16
 unfoldable pub openFault : List ℕ → List ℕ → Verdict

@@ -23,6 +23,7 @@ use Rattle.search.specs.declared.How.the-variants.{InTurn}
 use Rattle.search.specs.declared.Look.the-variants.{Missing}
 use Rattle.search.specs.Quick.{belowBy}
 use Rattle.paths.specs.Paths.{partsOf, isPath}
+use Rattle.paths.specs.Steps.{isStep}
 
 -- the keys on the way of a path, each with the parts that are still to go
 pub data OnWay (h us : List ℕ) : List (List ℕ) → Offset → Type 0 where
@@ -45,3 +46,17 @@ pub data OfKeyBy (how : How) (h us : List ℕ) : Offset → Flaw → Type 0 wher
 
 abbrev pub OfKey : List ℕ → List ℕ → Offset → Flaw → Type 0
 OfKey h us = OfKeyBy InTurn h us
+
+-- child_of and quick_child_of of the key at an offset, which is then the key under examination
+pub data OfChildBy (how : How) (h : List ℕ) (o : Offset) (x : List ℕ) : Offset → Flaw → Type 0 where
+  by-base : {f : Flaw} → OfBase h f → OfChildBy how h o x noKey f
+  -- 16: "empty part, part over 255 units", or a backslash: no part of a path has one
+  no-step : isStep x ≡ false → OfChildBy how h o x noKey (flaw PathParts nowhere)
+  -- 11 and 12: of that key, with no key yet; of what it lists
+  by-given : {f : Flaw} → Unfit Header (binsData h) a-key o f → OfChildBy how h o x noKey f
+  by-lists : {f : Flaw} → Fit Header (binsData h) a-key o → Among Header (binsData h) (Lists Header (binsData h) o) f → OfChildBy how h o x o f
+  -- 17: "no such key"
+  no-child : Fit Header (binsData h) a-key o → belowBy how (binsData h) x (keyOf (binsData h) o) ≡ Missing → OfChildBy how h o x o (flaw NoKey nowhere)
+
+abbrev pub OfChild : List ℕ → Offset → List ℕ → Offset → Flaw → Type 0
+OfChild h o x = OfChildBy InTurn h o x

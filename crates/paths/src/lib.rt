@@ -18,7 +18,8 @@ ghost use Rattle.cells.specs.declared.Rule.the-variants.{Header};
 ghost use Rattle.records.specs.Keys.{keyFault};
 ghost use Rattle.paths.specs.Paths.{firstPart, partsOf, isPath};
 ghost use Rattle.paths.specs.Descent.{descendBy, lookupKeyBy};
-ghost use Rattle.paths.specs.Answers.{openFault, keyLookBy, findBy, findAnswer, quickAnswer};
+ghost use Rattle.paths.specs.Answers.{askFault, keyLookBy, keyFound, findBy, findAnswer, quickAnswer};
+ghost use Rattle.paths.specs.Steps.{isStep, childLookBy, childBy};
 
 const BACKSLASH: u16 = 92;
 
@@ -116,14 +117,14 @@ fn lookup_key(bins: &[u8], root: Offset, path: &[u16], how: How) -> Way
     }
 }
 
-// 1 to 7, then 16.
-fn open_flaw(hive: &[u8], path: &[u16]) -> Verdict
-    ensures { λ r. ⌜ r ≡ openFault (now (hive .entry)) (now (path .entry)) ⌝ }
+// 1 to 7, then 16 where a path, or a name for a step, is not good.
+fn ask_flaw(hive: &[u8], good: bool) -> Verdict
+    ensures { λ r. ⌜ r ≡ askFault (now (hive .entry)) good ⌝ }
 {
     match base::base_flaw(hive) {
         Verdict::Flawed(f) => Verdict::Flawed(f),
         Verdict::Sound => {
-            if is_path(path) {
+            if good {
                 Verdict::Sound
             } else {
                 fields::flawed(Fault::PathParts, Offset(0))
@@ -136,7 +137,7 @@ fn open_flaw(hive: &[u8], path: &[u16]) -> Verdict
 pub fn key_look(hive: &[u8], path: &[u16], how: How) -> Way
     ensures { λ r. ⌜ r ≡ keyLookBy how (now (hive .entry)) (now (path .entry)) ⌝ }
 {
-    match open_flaw(hive, path) {
+    match ask_flaw(hive, is_path(path)) {
         Verdict::Flawed(f) => Way::Faulty(fields::refused(Offset(fields::NO_KEY), f)),
         Verdict::Sound => lookup_key(base::bins_of(hive), base::root_of(hive), path, how),
     }
@@ -147,10 +148,11 @@ pub enum KeyFound {
     Refused(Refusal),
 }
 
-fn key_by(hive: &[u8], path: &[u16], how: How) -> KeyFound
-    ensures { λ r. ⌜ r ≡ findBy how (now (hive .entry)) (now (path .entry)) ⌝ }
+// "17: no such key", with the last key that the way stood on.
+fn key_on(w: Way) -> KeyFound
+    ensures { λ r. ⌜ r ≡ keyFound w ⌝ }
 {
-    match key_look(hive, path, how) {
+    match w {
         Way::Found(o) => KeyFound::At(o),
         Way::Missing(key) => KeyFound::Refused(fields::refused(
             key,
@@ -161,6 +163,12 @@ fn key_by(hive: &[u8], path: &[u16], how: How) -> KeyFound
         )),
         Way::Faulty(r) => KeyFound::Refused(r),
     }
+}
+
+fn key_by(hive: &[u8], path: &[u16], how: How) -> KeyFound
+    ensures { λ r. ⌜ r ≡ findBy how (now (hive .entry)) (now (path .entry)) ⌝ }
+{
+    key_on(key_look(hive, path, how))
 }
 
 // The offset of the key under a path.
@@ -176,4 +184,34 @@ pub fn quick_key(hive: &[u8], path: &[u16]) -> KeyFound
     ensures { λ r. ⌜ r ≡ quickAnswer (now (hive .entry)) (now (path .entry)) ⌝ }
 {
     key_by(hive, path, How::Halving)
+}
+
+// A name that a path can have as one part.
+fn is_step(name: &[u16]) -> bool
+    ensures { λ r. ⌜ r ≡ isStep (now (name .entry)) ⌝ }
+{
+    if name.len() == 0 {
+        return false;
+    }
+    if 255 < name.len() {
+        return false;
+    }
+    part_end(name, 0) == name.len()
+}
+
+// A step is a path of one part, from any key.
+fn child_look(hive: &[u8], key: Offset, name: &[u16], how: How) -> Way
+    ensures { λ r. ⌜ r ≡ childLookBy how (now (hive .entry)) key (now (name .entry)) ⌝ }
+{
+    match ask_flaw(hive, is_step(name)) {
+        Verdict::Flawed(f) => Way::Faulty(fields::refused(Offset(fields::NO_KEY), f)),
+        Verdict::Sound => lookup_key(base::bins_of(hive), key, name, how),
+    }
+}
+
+// The child of the key at an offset by its name, by either search.
+pub fn child_by(hive: &[u8], key: Offset, name: &[u16], how: How) -> KeyFound
+    ensures { λ r. ⌜ r ≡ childBy how (now (hive .entry)) key (now (name .entry)) ⌝ }
+{
+    key_on(child_look(hive, key, name, how))
 }
