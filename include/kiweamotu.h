@@ -121,8 +121,9 @@ enum {
 #define HIVE_NO_KEY 0xffffffffu
 
 /* Part of every answer. number: 0, or the refusal's number. place: the refusal's place. key: the refusal's key, else
- * HIVE_NO_KEY. value: the offset of the key or value that hive_find_key, hive_quick_key, hive_nth_subkey, hive_nth_value,
- * hive_key_at or hive_next_remnant found, or of the key that hive_walk_begin or hive_walk_step opens or closes, else 0.
+ * HIVE_NO_KEY. value: the offset of the key or value that hive_find_key, hive_quick_key, hive_child_of, hive_quick_child_of,
+ * hive_value_of, hive_nth_subkey, hive_nth_value, hive_key_at or hive_next_remnant found, or of the key that hive_walk_begin or
+ * hive_walk_step opens or closes, else 0.
  * Where number is not 0, every other field of the answer but place, key, a walk's depth, an export's depth and due and a
  * HiveBuilt's at is 0.
  */
@@ -462,6 +463,25 @@ HiveValue hive_quick_view(const uint8_t *hive, size_t hive_len, const uint16_t *
 
 /* As hive_value_copy, of the key that hive_quick_key finds. A refusal leaves `out` as it was. */
 HiveCopy hive_quick_copy(const uint8_t *hive, size_t hive_len, const uint16_t *path, size_t path_len, const uint16_t *name, size_t name_len, uint8_t *out, size_t out_len);
+
+/* One step of a path: finds the child of that name of the key at an offset and answers its offset in `value`, so that a caller who holds a
+ * key need not give its path again. The name is that of one part: of 1 to 255 units with no backslash among them, else 16. Names are
+ * compared as hive_find_key does, which answers for a path as a step for each of its parts, one after the other. Any offset can be asked,
+ * and a hive that the check refuses too. Refuses 1 to 7, 16, 11 and 12 of the given key, then with it as the key 11 and 12 of the records
+ * on the way, 17.
+ */
+HiveAnswer hive_child_of(const uint8_t *hive, size_t hive_len, uint32_t key, const uint16_t *name, size_t name_len);
+
+/* As hive_child_of, by halving, as hive_quick_key does it. In a hive that hive_check accepts the two answer the same for every key of its
+ * tree; else hive_quick_key says how they may differ.
+ */
+HiveAnswer hive_quick_child_of(const uint8_t *hive, size_t hive_len, uint32_t key, const uint16_t *name, size_t name_len);
+
+/* Finds the first value of that name of the key at an offset and answers its offset in `value`, which hive_value_at and hive_copy_at take:
+ * the two calls answer as hive_value_info and hive_value_copy do of a path that leads to that key. The name is of any units; one of none is
+ * the unnamed value. Refuses 1 to 7, 11 and 12 of the given key, then with it as the key 11 and 12 of its value list and its values, 18.
+ */
+HiveAnswer hive_value_of(const uint8_t *hive, size_t hive_len, uint32_t key, const uint16_t *name, size_t name_len);
 
 /* Subkey n, from 0 on, of the key at an offset, in the order of its lists. Start with 0, and go on with n + 1 until
  * HIVE_NO_MORE. A hive that the check refuses can be asked too, and any offset. Refuses 1 to 7, then 11 and 12 of the records on

@@ -13,9 +13,9 @@ use Rattle.tree.proofs.Tells.{check-tells}
 use Rattle.tree.proofs.Examines.{check-examines}
 use Rattle.tree.proofs.Maps.{map-untouched, map-zero, map-complete, map-accepted, map-beyond}
 use Rattle.search.specs.declared.How.the-variants.{InTurn, Halving}
-use Rattle.paths.proofs.Refusals.{find-refuses}
+use Rattle.paths.proofs.Refusals.{find-refuses, child-refuses}
 use Rattle.lookup.proofs.Agree.{refused-untouched}
-use Rattle.lookup.proofs.Refusals.{info-refuses, view-refuses, copy-refuses}
+use Rattle.lookup.proofs.Refusals.{info-refuses, view-refuses, copy-refuses, spot-refuses}
 use Rattle.listing.proofs.Any.{subkey-refuses, value-refuses, info-refuses as at-refuses, copy-refuses as copy-at-refuses, copy-stays as copy-at-stays, facts-refuses}
 use Rattle.listing.proofs.Any_pieces.{class-refuses, security-refuses}
 use Rattle.recovery.specs.declared.Marked.the-variants as marked
@@ -106,6 +106,9 @@ demand1 =
       quick-info-place = λ h us x r e. info-refuses Halving h us x e;
       quick-view-place = λ h us x r e. view-refuses Halving h us x e;
       quick-copy-place = λ h us x n r e. copy-refuses Halving h us x n e;
+      child-place = λ h o x r e. child-refuses InTurn h o x e;
+      quick-child-place = λ h o x r e. child-refuses Halving h o x e;
+      spot-place = λ h o x r e. spot-refuses h o x e;
       subkey-place = λ h o n r e. subkey-refuses h o n e;
       nth-place = λ h o n r e. value-refuses h o n e;
       at-place = λ h v r e. at-refuses h v e;

@@ -7,3 +7,4 @@ pub mod Honest
 pub mod Listing
 pub mod Export
 pub mod Build
+pub mod Steps

@@ -1,6 +1,6 @@
 -- Demand 3 is met.
 use Prim.Native.Nat.{ℕ}
-use mathlib.Core.Path.{_≡_, refl}
+use mathlib.Core.Path.{_≡_, refl, ap}
 use mathlib.Core.List.{List, []}
 use lib.ListN.{length}
 use Rattle.fields.specs.declared.Flaw.{Flaw}
@@ -16,14 +16,19 @@ use Rattle.search.specs.declared.How.{How}
 use Rattle.search.specs.declared.How.the-variants.{InTurn, Halving}
 use Rattle.paths.specs.declared.KeyFound.the-variants as key
 use Rattle.paths.specs.declared.Way.the-variants as way
-use Rattle.paths.specs.Answers.{keyLookBy, findBy}
-use Rattle.paths.proofs.Opens.{open-base, look-stop}
+use Rattle.paths.specs.Answers.{keyLookBy, keyFound, findBy}
+use Rattle.paths.specs.Steps.{isStep, childBy}
+use Rattle.paths.proofs.Opens.{ask-base, open-base, look-stop}
+use Rattle.paths.proofs.StepTests.{child-stop}
 use Rattle.lookup.specs.declared.Copied.the-variants as copied
 use Rattle.lookup.specs.declared.Spot.the-variants as spot
 use Rattle.lookup.specs.declared.ValueFound.the-variants as value
 use Rattle.lookup.specs.Answers.{valueLookBy, infoBy, viewBy, viewBytesBy, copyBy}
+use Rattle.lookup.specs.declared.Spotted.the-variants as spotted
+use Rattle.lookup.specs.Spots.{spotted as told, spotAnswer}
 use Rattle.lookup.proofs.Agree.{refused-untouched}
 use Rattle.listing.specs.declared.KeyClass.the-variants as class
+use Rattle.lookup.proofs.Spots.{spot-stop}
 use Rattle.listing.specs.declared.KeyFacts.the-variants as facts
 use Rattle.listing.specs.declared.KeySecurity.the-variants as security
 use Rattle.listing.specs.declared.Member.the-variants as member
@@ -70,6 +75,14 @@ module _ (d : List ℕ) (f : Flaw) (e : baseFault d ≡ Flawed f) where
   unfolding copyBy
   copy how us x out = rw (info how us x)
 
+  child : (how : How) (o : Offset) (x : List ℕ) → childBy how d o x ≡ key.Refused (refusalOf noKey f)
+  unfolding childBy
+  child how o x = ap keyFound (child-stop how d o x (ask-base d (isStep x) e))
+
+  value-of : (o : Offset) (x : List ℕ) → spotAnswer d o x ≡ spotted.Refused (refusalOf noKey f)
+  unfolding spotAnswer
+  value-of o x = ap told (spot-stop d o x e)
+
   subkey : (o : Offset) (i : ℕ) → subkeyAnswer d o i ≡ member.Refused (refusalOf noKey f)
   unfolding subkeyAnswer
   subkey o i = rw e
@@ -110,6 +123,9 @@ module _ (d : List ℕ) (f : Flaw) (e : baseFault d ≡ Flawed f) where
         quick-view-info = view Halving;
         quick-view = no-view Halving;
         quick-copy = λ us x out. (copy Halving us x out, refused-untouched Halving d us x out (copy Halving us x out));
+        child-of = child InTurn;
+        quick-child-of = child Halving;
+        value-of = value-of;
         nth-subkey = subkey;
         nth-value = nth-value;
         info-at = at;

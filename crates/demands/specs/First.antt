@@ -2,6 +2,7 @@
 --
 -- Every public call's contract is an equation, for all lists of bytes and with no condition on them: what it answers is `checkAnswer h m`, `findAnswer h us`,
 -- `infoAnswer h us x`, `viewAnswer h us x`, `copyAnswer h us x n`, `quickAnswer h us`, `quickInfo h us x`, `quickView h us x`, `quickCopy h us x n`,
+-- `childAnswer h o x`, `quickChild h o x`, `spotAnswer h o x`,
 -- `subkeyAnswer h o n`, `valueAnswer h o n`, `infoAt h v`, `copyAt h v n`, `factsAnswer h o`, `classAnswer h o`, `securityAnswer h o`, `beginAnswer h ws`, `stepAnswer h ws n`, `stepAnswer h m n room`,
 -- `beginAnswer h m ws` and `runAnswer h ws c room` of an export, `measureAnswer s n` and `buildAnswer s sd room` of a stream, `remnantAnswer h from`,
 -- `rowsAnswer h from n`,
@@ -30,11 +31,14 @@ use Rattle.tree.specs.Told.{Told, Examined, mapBytes}
 use Rattle.search.specs.declared.How.the-variants.{Halving}
 use Rattle.paths.specs.declared.KeyFound.the-variants as key
 use Rattle.paths.specs.Answers.{findAnswer, quickAnswer}
-use Rattle.paths.specs.Refused.{OfKey, OfKeyBy}
+use Rattle.paths.specs.Steps.{childAnswer, quickChild}
+use Rattle.paths.specs.Refused.{OfKey, OfKeyBy, OfChild, OfChildBy}
 use Rattle.lookup.specs.declared.Copied.the-variants as copied
 use Rattle.lookup.specs.declared.ValueFound.the-variants as value
 use Rattle.lookup.specs.Answers.{infoAnswer, viewAnswer, copyAnswer, copyOut, quickInfo, quickView, quickCopy, quickOut}
-use Rattle.lookup.specs.Refused.{OfValue, OfView, OfCopy, OfValueBy, OfViewBy, OfCopyBy}
+use Rattle.lookup.specs.declared.Spotted.the-variants as spot
+use Rattle.lookup.specs.Spots.{spotAnswer}
+use Rattle.lookup.specs.Refused.{OfValue, OfView, OfCopy, OfValueBy, OfViewBy, OfCopyBy, OfSpot}
 use Rattle.listing.specs.declared.KeyClass.the-variants as class
 use Rattle.listing.specs.declared.KeyFacts.the-variants as facts
 use Rattle.listing.specs.declared.KeySecurity.the-variants as security
@@ -88,6 +92,10 @@ pub record Demand1 : Type 0 where
   pub quick-info-place : (h us x : List ℕ) (r : Refusal) → quickInfo h us x ≡ value.Refused r → Because (OfValueBy Halving h us x) r
   pub quick-view-place : (h us x : List ℕ) (r : Refusal) → quickView h us x ≡ value.Refused r → Because (OfViewBy Halving h us x) r
   pub quick-copy-place : (h us x : List ℕ) (n : ℕ) (r : Refusal) → quickCopy h us x n ≡ copied.Refused r → Because (OfCopyBy Halving h us x n) r
+  -- one step of a path, and the first value of a name, from a key's offset
+  pub child-place : (h : List ℕ) (o : Offset) (x : List ℕ) (r : Refusal) → childAnswer h o x ≡ key.Refused r → Because (OfChild h o x) r
+  pub quick-child-place : (h : List ℕ) (o : Offset) (x : List ℕ) (r : Refusal) → quickChild h o x ≡ key.Refused r → Because (OfChildBy Halving h o x) r
+  pub spot-place : (h : List ℕ) (o : Offset) (x : List ℕ) (r : Refusal) → spotAnswer h o x ≡ spot.Refused r → Because (OfSpot h o x) r
   pub subkey-place : (h : List ℕ) (o : Offset) (n : ℕ) (r : Refusal) → subkeyAnswer h o n ≡ member.Refused r → Because (OfSubkey h o) r
   pub nth-place : (h : List ℕ) (o : Offset) (n : ℕ) (r : Refusal) → valueAnswer h o n ≡ member.Refused r → Because (OfNth h o) r
   pub at-place : (h : List ℕ) (v : Offset) (r : Refusal) → infoAt h v ≡ value.Refused r → Keyless (OfInfo h v) r

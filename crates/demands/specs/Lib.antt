@@ -6,3 +6,4 @@ pub mod Frauds
 pub mod Listing
 pub mod Export
 pub mod Build
+pub mod Steps

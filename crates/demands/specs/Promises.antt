@@ -10,6 +10,9 @@ use Rattle.tree.specs.declared.Checked.{Checked}
 use Rattle.tree.specs.Tree.{checkAnswer}
 use Rattle.paths.specs.declared.KeyFound.{KeyFound}
 use Rattle.paths.specs.Answers.{findAnswer, quickAnswer}
+use Rattle.paths.specs.Steps.{childAnswer, quickChild}
+use Rattle.lookup.specs.declared.Spotted.{Spotted}
+use Rattle.lookup.specs.Spots.{spotAnswer}
 use Rattle.lookup.specs.declared.ValueFound.{ValueFound}
 use Rattle.lookup.specs.declared.Copied.{Copied}
 use Rattle.lookup.specs.Answers.{infoAnswer, viewAnswer, viewStart, viewBytes, copyAnswer, copyOut, quickInfo, quickView, quickViewStart, quickViewBytes, quickCopy, quickOut}
@@ -116,6 +119,9 @@ pub record Unique : Type 0 where
   pub quick-view-info : (h us x : List ℕ) (r r′ : ValueFound) → r ≡ quickView h us x → r′ ≡ quickView h us x → r ≡ r′
   pub quick-view : (h us x : List ℕ) (hive : ℕ × ℕ) → Determines (QuickViews h us x hive)
   pub quick-copy : (h us x out : List ℕ) → Determines (QuickCopies h us x out)
+  pub child-of : (h : List ℕ) (o : Offset) (x : List ℕ) (r r′ : KeyFound) → r ≡ childAnswer h o x → r′ ≡ childAnswer h o x → r ≡ r′
+  pub quick-child-of : (h : List ℕ) (o : Offset) (x : List ℕ) (r r′ : KeyFound) → r ≡ quickChild h o x → r′ ≡ quickChild h o x → r ≡ r′
+  pub value-of : (h : List ℕ) (o : Offset) (x : List ℕ) (r r′ : Spotted) → r ≡ spotAnswer h o x → r′ ≡ spotAnswer h o x → r ≡ r′
   pub nth-subkey : (h : List ℕ) (o : Offset) (n : ℕ) (r r′ : Member) → r ≡ subkeyAnswer h o n → r′ ≡ subkeyAnswer h o n → r ≡ r′
   pub nth-value : (h : List ℕ) (o : Offset) (n : ℕ) (r r′ : Member) → r ≡ valueAnswer h o n → r′ ≡ valueAnswer h o n → r ≡ r′
   pub info-at : (h : List ℕ) (v : Offset) (r r′ : ValueFound) → r ≡ infoAt h v → r′ ≡ infoAt h v → r ≡ r′

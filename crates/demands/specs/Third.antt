@@ -15,6 +15,9 @@ use Rattle.tree.specs.declared.Checked.the-variants as checked
 use Rattle.tree.specs.Tree.{checkAnswer}
 use Rattle.paths.specs.declared.KeyFound.the-variants as key
 use Rattle.paths.specs.Answers.{findAnswer, quickAnswer}
+use Rattle.paths.specs.Steps.{childAnswer, quickChild}
+use Rattle.lookup.specs.declared.Spotted.the-variants as spot
+use Rattle.lookup.specs.Spots.{spotAnswer}
 use Rattle.lookup.specs.declared.Copied.the-variants as copied
 use Rattle.lookup.specs.declared.ValueFound.the-variants as value
 use Rattle.lookup.specs.Answers.{infoAnswer, viewAnswer, viewBytes, copyAnswer, copyOut, quickInfo, quickView, quickViewBytes, quickCopy, quickOut}
@@ -54,6 +57,9 @@ pub record Unread (d : List ℕ) (r : Refusal) : Type 0 where
   pub quick-view-info : (us x : List ℕ) → quickView d us x ≡ value.Refused r
   pub quick-view : (us x : List ℕ) → quickViewBytes d us x ≡ []
   pub quick-copy : (us x out : List ℕ) → (quickCopy d us x (length out) ≡ copied.Refused r) × (quickOut d us x out ≡ out)
+  pub child-of : (o : Offset) (x : List ℕ) → childAnswer d o x ≡ key.Refused r
+  pub quick-child-of : (o : Offset) (x : List ℕ) → quickChild d o x ≡ key.Refused r
+  pub value-of : (o : Offset) (x : List ℕ) → spotAnswer d o x ≡ spot.Refused r
   pub nth-subkey : (o : Offset) (i : ℕ) → subkeyAnswer d o i ≡ member.Refused r
   pub nth-value : (o : Offset) (i : ℕ) → valueAnswer d o i ≡ member.Refused r
   pub info-at : (v : Offset) → infoAt d v ≡ value.Refused r

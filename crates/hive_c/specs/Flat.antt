@@ -14,6 +14,8 @@ use Rattle.paths.specs.declared.KeyFound.{KeyFound}
 use Rattle.paths.specs.declared.KeyFound.the-variants as key
 use Rattle.lookup.specs.declared.ValueFound.{ValueFound}
 use Rattle.lookup.specs.declared.ValueFound.the-variants as value
+use Rattle.lookup.specs.declared.Spotted.{Spotted}
+use Rattle.lookup.specs.declared.Spotted.the-variants as spot
 use Rattle.lookup.specs.declared.Copied.{Copied}
 use Rattle.lookup.specs.declared.Copied.the-variants as copy
 use Rattle.listing.specs.declared.KeyClass.{KeyClass}
@@ -90,6 +92,11 @@ reportIn (checked.Refused f) = reportWith (refused f) 0 0 0 0 0
 abbrev pub keyIn : KeyFound → HiveAnswer
 keyIn (key.At o) = granted (o .0)
 keyIn (key.Refused f) = refused f
+
+-- the value's
+abbrev pub spottedIn : Spotted → HiveAnswer
+spottedIn (spot.At v) = granted (v .0)
+spottedIn (spot.Refused f) = refused f
 
 -- "data are inline, in one cell or in segments"
 abbrev pub formOf : ValueData → ℕ

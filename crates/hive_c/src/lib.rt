@@ -35,6 +35,7 @@ use listing::Member;
 use listing::Piece;
 use lookup::Copied;
 use lookup::Info;
+use lookup::Spotted;
 use lookup::ValueFound;
 use names::Order;
 use paths::KeyFound;
@@ -59,6 +60,8 @@ ghost use Rattle.names.specs.Comparison.{compare};
 ghost use Rattle.tree.specs.Tree.{checkAnswer};
 ghost use Rattle.paths.specs.Answers.{findAnswer, quickAnswer};
 ghost use Rattle.lookup.specs.Answers.{infoAnswer, viewAnswer, copyAnswer, copyOut, quickInfo, quickView, quickCopy, quickOut};
+ghost use Rattle.paths.specs.Steps.{childAnswer, quickChild};
+ghost use Rattle.lookup.specs.Spots.{spotAnswer};
 ghost use Rattle.listing.specs.Members.{subkeyAnswer, valueAnswer, infoAt, copyAt, outAt, factsAnswer};
 ghost use Rattle.listing.specs.Pieces.{classAnswer, securityAnswer};
 ghost use Rattle.walk.specs.Events.{keepsCount};
@@ -69,7 +72,7 @@ ghost use Rattle.recovery.specs.Calls.{startAnswer, pageAnswer, pageHive, close
 ghost use Rattle.recovery.specs.AtOnce.{allAnswer, allHive, markAnswer, markedAnswer, markedMap, factsAnswer as logAnswer};
 ghost use Rattle.recovery.specs.Settling.{settleAnswer, settleHive};
 ghost use Rattle.remnants.specs.Remnants.{kindWord, remnantAnswer, rowsAnswer, rowsOut};
-ghost use Rattle.hive_c.specs.Flat.{remnantIn, rowsIn, walkWith, walkIn, frameIn, exportWith, begunIn, exportIn, cursorAt, builtIn, granted as grantedOf, refused as refusedOf, reportIn, keyIn, formOf, valueIn, copyIn, narrowIn, memberIn, factsIn, pieceWith, classIn, securityIn, startIn, stepIn, pageIn, markIn, mapIn, logIn, orderIn};
+ghost use Rattle.hive_c.specs.Flat.{remnantIn, rowsIn, walkWith, walkIn, frameIn, exportWith, begunIn, exportIn, cursorAt, builtIn, granted as grantedOf, refused as refusedOf, reportIn, keyIn, spottedIn, formOf, valueIn, copyIn, narrowIn, memberIn, factsIn, pieceWith, classIn, securityIn, startIn, stepIn, pageIn, markIn, mapIn, logIn, orderIn};
 
 // The states of all answers, each with a number of its own: refused; nothing is to be done, or it is done; a list or an export has no
 // more, or something is there; a walk is over, or a key opens or closes; frames were written.
@@ -114,8 +117,9 @@ const AFTER: u32 = 3;
 const NO_KEY: u32 = 0xffff_ffff;
 
 // Part of every answer. number: 0, or the refusal's number. place: the refusal's place. key: the refusal's key, else
-// HIVE_NO_KEY. value: the offset of the key or value that hive_find_key, hive_quick_key, hive_nth_subkey, hive_nth_value,
-// hive_key_at or hive_next_remnant found, or of the key that hive_walk_begin or hive_walk_step opens or closes, else 0.
+// HIVE_NO_KEY. value: the offset of the key or value that hive_find_key, hive_quick_key, hive_child_of, hive_quick_child_of,
+// hive_value_of, hive_nth_subkey, hive_nth_value, hive_key_at or hive_next_remnant found, or of the key that hive_walk_begin or
+// hive_walk_step opens or closes, else 0.
 // Where number is not 0, every other field of the answer but place, key, a walk's depth, an export's depth and due and a
 // HiveBuilt's at is 0.
 #[repr(C)]
@@ -527,6 +531,46 @@ pub extern "C" fn hive_quick_copy(
     ensures { λ _. ⌜ now (out .exit) ≡ quickOut (now (hive .entry)) (now (path .entry)) (now (name .entry)) (now (out .entry)) ⌝ }
 {
     copied(lookup::quick_copy(hive, path, name, out))
+}
+
+// One step of a path: finds the child of that name of the key at an offset and answers its offset in `value`, so that a caller who holds a
+// key need not give its path again. The name is that of one part: of 1 to 255 units with no backslash among them, else 16. Names are
+// compared as hive_find_key does, which answers for a path as a step for each of its parts, one after the other. Any offset can be asked,
+// and a hive that the check refuses too. Refuses 1 to 7, 16, 11 and 12 of the given key, then with it as the key 11 and 12 of the records
+// on the way, 17.
+#[no_mangle]
+pub extern "C" fn hive_child_of(hive: &[u8], key: u32, name: &[u16]) -> HiveAnswer
+    ensures { λ r. ⌜ r ≡ keyIn (childAnswer (now (hive .entry)) (record { 0 = key }) (now (name .entry))) ⌝ }
+{
+    key_answer(lookup::child_of(hive, Offset(key), name))
+}
+
+// As hive_child_of, by halving, as hive_quick_key does it. In a hive that hive_check accepts the two answer the same for every key of its
+// tree; else hive_quick_key says how they may differ.
+#[no_mangle]
+pub extern "C" fn hive_quick_child_of(hive: &[u8], key: u32, name: &[u16]) -> HiveAnswer
+    ensures { λ r. ⌜ r ≡ keyIn (quickChild (now (hive .entry)) (record { 0 = key }) (now (name .entry))) ⌝ }
+{
+    key_answer(lookup::quick_child_of(hive, Offset(key), name))
+}
+
+fn spot_answer(s: Spotted) -> HiveAnswer
+    ensures { λ r. ⌜ r ≡ spottedIn s ⌝ }
+{
+    match s {
+        Spotted::At(v) => granted(v.0),
+        Spotted::Refused(f) => refused(f),
+    }
+}
+
+// Finds the first value of that name of the key at an offset and answers its offset in `value`, which hive_value_at and hive_copy_at take:
+// the two calls answer as hive_value_info and hive_value_copy do of a path that leads to that key. The name is of any units; one of none is
+// the unnamed value. Refuses 1 to 7, 11 and 12 of the given key, then with it as the key 11 and 12 of its value list and its values, 18.
+#[no_mangle]
+pub extern "C" fn hive_value_of(hive: &[u8], key: u32, name: &[u16]) -> HiveAnswer
+    ensures { λ r. ⌜ r ≡ spottedIn (spotAnswer (now (hive .entry)) (record { 0 = key }) (now (name .entry))) ⌝ }
+{
+    spot_answer(lookup::value_of(hive, Offset(key), name))
 }
 
 fn narrow_of(narrow: bool) -> u64
