@@ -196,6 +196,9 @@ _CALLS = {
     "hive_quick_info": (_Value, _MEMORY * 3),
     "hive_quick_view": (_Value, _MEMORY * 3),
     "hive_quick_copy": (_Copy, _MEMORY * 4),
+    "hive_child_of": (_Answer, _MEMORY + [c_uint32] + _MEMORY),
+    "hive_quick_child_of": (_Answer, _MEMORY + [c_uint32] + _MEMORY),
+    "hive_value_of": (_Answer, _MEMORY + [c_uint32] + _MEMORY),
     "hive_nth_subkey": (_Member, _MEMORY + [c_uint32, c_size_t]),
     "hive_nth_value": (_Member, _MEMORY + [c_uint32, c_size_t]),
     "hive_value_at": (_Value, _MEMORY + [c_uint32]),
@@ -700,9 +703,23 @@ class Key:
         """A key below this one, by the rest of its path. `quick`: see Hive.key."""
         return self._hive.key(self._below(path) if path != "" else self.path, quick=quick)
 
+    def child(self, name: str, *, quick: bool = False) -> "Key":
+        """The key of that name directly below this one, by this key's offset: no path is followed again. The name is one part of a path, so an empty
+        one, one over 255 units and one with a backslash are Refused with 16. `quick`: see Hive.key.
+
+        >>> Hive("sample").key("a").child("K7").path
+        'a\\\\K7'
+        """
+        find = _library.hive_quick_child_of if quick else _library.hive_child_of
+        answer = find(*self._hive._memory, self.offset, *_units(name))
+        _allow(answer)
+        return Key(self._hive, answer.value, self._below(name))
+
     def value(self, name: str = "", *, quick: bool = False) -> Value:
-        """Its first value of that name. `quick`: see Hive.key."""
-        return self._hive.value(self.path, name, quick=quick)
+        """Its first value of that name, by this key's offset: no path is followed, so that `quick` makes no difference."""
+        answer = _library.hive_value_of(*self._hive._memory, self.offset, *_units(name))
+        _allow(answer)
+        return self._hive._value_at(answer.value, name, self.offset)
 
     def walk(self) -> Iterator["Key"]:
         """This key and all below it: each key before those below it, in the order of the lists. It ends on any bytes: a key whose parent is another,
@@ -766,10 +783,12 @@ class Hive:
             yield member
             n += 1
 
-    def _value_at(self, offset: int, name: str) -> Value:
+    def _value_at(self, offset: int, name: str, key: int = NO_KEY) -> Value:
+        """The value at an offset; a refusal is told in the examination of that key."""
         found = _library.hive_value_at(*self._memory, _offset(offset))
+        found.answer.key = key
         _allow(found.answer)
-        return Value(self, name, found, lambda: _Answer(SEGMENTED, offset, NO_KEY, 0),
+        return Value(self, name, found, lambda: _Answer(SEGMENTED, offset, key, 0),
                      lambda out: _library.hive_copy_at(*self._memory, offset, *out))
 
     def check(self) -> Report:

@@ -853,6 +853,27 @@ def key_security(hive, at):
     return BASE + k["security"] + 4 + 20, u32(d, 16)
 
 
+def child_of(hive, at, name, how=in_turn):
+    """The offset of the child of that name of the key at an offset, or Refused: one step of a path."""
+    open_hive(hive)
+    if len(path_parts(name)) != 1:
+        raise Refused(16)
+    reader, k = given_key(hive, at)
+    child = how(reader, k, name)
+    if child is None:
+        raise Refused(17, 0, at)
+    return child["at"]
+
+
+def value_of(hive, at, name):
+    """The offset of the first value of that name of the key at an offset, or Refused."""
+    reader, k = given_key(hive, at)
+    for v in map(reader.value, reader.value_offsets(k)):
+        if folded(v["name"]) == folded(name):
+            return v["at"]
+    raise Refused(18, 0, at)
+
+
 # ---- the model: logs by themselves
 
 # What a log says: its first and last number; how many entries count, and where the last of them ends (of an old log, where they would start: 512); the bins size that 24 reads;

@@ -1,6 +1,7 @@
 /* orders <STREAM: the frames of the test program answered by the C face. A refusal's line says the key under examination too, and lines that start
    with a space say what the other calls answer, what deletion left, a walk, the tree as frames, the hive settled, and the order of names.
    tools/compare --keys compares them with the model. */
+#include <stdbool.h>
 #include <stdio.h>
 #include <string.h>
 #include <unistd.h>
@@ -287,6 +288,53 @@ static void pieces(size_t length)
     }
 }
 
+/* The name of a key or a value at or behind some place, mostly; sometimes with one unit more, or none, or one that is too long. */
+static size_t some_name(size_t length, uint16_t *units)
+{
+    uint32_t at = some_offset(length);
+    bool value = throw(2) != 0;
+    size_t start = 4096 + (size_t)at + 4 + (value ? 20 : 76), n = start + 8 > length ? 0 : throw(4) == 0 ? 1 + throw(6) : hive[start - (value ? 18 : 4)] % 8;
+    for (size_t i = 0; i < n; i++)
+        units[i + 1] = hive[start + i];
+    uint32_t kind = throw(12), longest = kind == 2 ? 254 + throw(4) : 0;
+    for (size_t i = 0; i < longest; i++)
+        units[i] = 'x';
+    units[0] = kind == 1 ? '\\' : units[0];
+    if (kind != 1 && kind != 2)
+        memmove(units, units + 1, n * sizeof units[0]);
+    return kind == 0 ? 0 : kind == 1 ? n + 1 : kind == 2 ? longest : n;
+}
+
+/* Steps and values from keys that lie somewhere. */
+static void steps(size_t length)
+{
+    dice = sum(hive, length);
+    for (int n = 0; n < WILD; n++) {
+        uint16_t name[300] = {0};
+        uint32_t at = some_offset(length);
+        size_t units = some_name(length, name);
+        say(" child: ", hive_child_of(hive, length, at, name, units));
+        say(" quick child: ", hive_quick_child_of(hive, length, at, name, units));
+        say(" value of: ", hive_value_of(hive, length, at, name, units));
+    }
+}
+
+/* The parts of a path, one after the other from the root, up to a refusal; then the value named v. */
+static void step_by_step(const uint16_t *units, size_t n, const uint16_t *name)
+{
+    HiveAnswer a = {.value = root_of(hive_length)};
+    for (size_t start = 0; start < n && a.number == 0;) {
+        size_t end = start;
+        while (end < n && units[end] != '\\')
+            end++;
+        say(" quick step: ", hive_quick_child_of(hive, hive_length, a.value, units + start, end - start));
+        say(" step to: ", a = hive_child_of(hive, hive_length, a.value, units + start, end - start));
+        start = end + 1;
+    }
+    if (a.number == 0)
+        say(" value of: ", hive_value_of(hive, hive_length, a.value, name, 1));
+}
+
 static void on_hive(size_t length)
 {
     memcpy(hive, payload, length);
@@ -308,6 +356,7 @@ static void on_hive(size_t length)
     say(" root: ", hive_key_at(hive, length, root).answer);
     settled(length);
     pieces(length);
+    steps(length);
 }
 
 /* What the log says by itself: its facts, its pages all at once, and one by one with their places. */
@@ -388,6 +437,7 @@ static void on_path(size_t length)
     say(" quick view: ", hive_quick_view(hive, hive_length, units, n, name, 1).answer);
     say(" quick copy: ", hive_quick_copy(hive, hive_length, units, n, name, 1, out, ROOM).answer);
     ordered(units, n);
+    step_by_step(units, n, name);
 }
 
 int main(void)

@@ -330,6 +330,31 @@ def quickly():
 
 
 @test
+def steps():
+    """a child and a value from a key's offset: as the plain reading, and as the calls by path"""
+    for seed in range(60):
+        dice = random.Random(seed)
+        keys = [hives.Key("k%02d" % i, [hives.Key("x")] if i % 5 == 0 else [], [hives.Value(n, b"d") for n in ("v", "a\\b", "")[:i % 4]]) for i in range(dice.randrange(1, 30))]
+        made = hives.Builder(hives.Key("root", keys))
+        file = bytearray(made.hive)
+        offsets = [place for place, _width, what in made.fields if what == "offset"]
+        for _ in range(dice.randrange(4)):
+            one, other = dice.choice(offsets), dice.choice(offsets)
+            file[one:one + 4], file[other:other + 4] = file[other:other + 4], file[one:one + 4]
+        hive = Hive(file)
+        for key in [k for k in [told(hive.key, "")] + [told(hive.key, "k%02d" % i) for i in range(len(keys))] if isinstance(k, kiweamotu.Key)]:
+            for name in ("K00", "k07", "k29", "X", "", "a\\b", "x" * 255, "x" * 256):
+                units = hives.units(name)
+                expect(told(lambda: key.child(name).offset), told(hives.child_of, file, key.offset, units))
+                expect(told(lambda: key.child(name, quick=True).offset), told(hives.child_of, file, key.offset, units, hives.halving))
+                expect(told(lambda: key.value(name).data), told(lambda: hives.value_info(file, hives.units(key.path), units)[1]))
+    hive = Hive("sample")
+    value = hive.key(PRINT).value("Large")
+    expect((value.data, refusal(lambda: value.view)), (hive.value(PRINT, "Large").data, refusal(lambda: hive.value(PRINT, "Large").view)))
+    expect([hive.root.child("a").child("K7").path, hive.root.child("A").child("k7").offset], ["a\\K7", hive.key("a\\k7").offset])
+
+
+@test
 def lending():
     """memory is lent and not copied"""
     data = bytes_of("sample")
