@@ -55,7 +55,7 @@ pub fn stored_checksum(s: &[u8]) -> u32
     as_stored(xor_of(s))
 }
 
-fn is_summed(s: &[u8]) -> bool
+fn checksum_matches(s: &[u8]) -> bool
     requires { ⌜ 512 ≤ length (now s) ⌝ }
     ensures { λ r. ⌜ r ≡ isSummed (now (s .entry)) ⌝ }
 {
@@ -105,7 +105,7 @@ fn block_flaw(s: &[u8], kind: u32) -> Verdict
     if !is_regf(s) {
         return fields::flawed(Fault::NoRegf, Offset(0));
     }
-    if !is_summed(s) {
+    if !checksum_matches(s) {
         return fields::flawed(Fault::Checksum, Offset(0));
     }
     if !is_version(s, kind) {
@@ -137,7 +137,7 @@ pub fn bins_size(s: &[u8]) -> usize
 }
 
 // Whether the two sequence numbers are equal.
-pub fn is_settled(s: &[u8]) -> bool
+pub fn sequences_equal(s: &[u8]) -> bool
     requires { ⌜ 512 ≤ length (now s) ⌝ }
     ensures { λ r. ⌜ r ≡ isSettled (now (s .entry)) ⌝ }
 {
@@ -151,7 +151,7 @@ pub fn clean(s: &[u8]) -> bool
     if !usable(s, 0) {
         return false;
     }
-    is_settled(s)
+    sequences_equal(s)
 }
 
 // The reader's tests 1 to 7.
@@ -168,7 +168,7 @@ pub fn base_flaw(hive: &[u8]) -> Verdict
             if hive.len() - 4096 < bins_size(s) {
                 return fields::flawed(Fault::BinsCut, Offset(0));
             }
-            if !is_settled(s) {
+            if !sequences_equal(s) {
                 return fields::flawed(Fault::Sequences, Offset(0));
             }
             Verdict::Sound

@@ -13,18 +13,18 @@ use Rattle.forest.specs.Parse.{forestIn}
 use Rattle.forest.proofs.ReadBack.{read-as}
 use Rattle.layout.specs.Layout.{sizeOf, builtHive}
 use Rattle.layout.proofs.Base.{built-length}
-use Rattle.laying.specs.Steps.{Planned}
-use Rattle.intake.specs.declared.Whole.{Whole}
-use Rattle.intake.specs.Steps.{FitsAs}
-use Rattle.intake.proofs.Sizes.{cap-small}
-use Rattle.intake.proofs.Entire.{fits-any}
-use Rattle.answers.specs.declared.Built.{Built}
-use Rattle.answers.specs.declared.Built.the-variants.{Done, Refused}
-use Rattle.answers.specs.declared.Unbuilt.{Unbuilt}
-use Rattle.answers.specs.Answers.{unbuilt, tooLong, measureAnswer, buildAnswer, buildOut}
-use Rattle.answers.proofs.Cases.{within-limit, measured-exactly, build-wrong}
-use Rattle.answers.proofs.Hives.{measured-builds, measured-long, refused-builds, refused-leaves, written}
-use Rattle.build.specs.Steps.{PutFits, withHive}
+use Rattle.build_write.specs.Contracts.{Planned}
+use Rattle.build_measure.specs.declared.Whole.{Whole}
+use Rattle.build_measure.specs.Contracts.{FitsAs}
+use Rattle.build_measure.proofs.Sizes.{cap-small}
+use Rattle.build_measure.proofs.Entire.{fits-any}
+use Rattle.build_answers.specs.declared.Built.{Built}
+use Rattle.build_answers.specs.declared.Built.the-variants.{Done, Refused}
+use Rattle.build_answers.specs.declared.Unbuilt.{Unbuilt}
+use Rattle.build_answers.specs.Answers.{unbuilt, tooLong, measureAnswer, buildAnswer, buildOut}
+use Rattle.build_answers.proofs.Cases.{within-limit, measured-exactly, build-wrong}
+use Rattle.build_answers.proofs.Hives.{measured-builds, measured-long, refused-builds, refused-leaves, written}
+use Rattle.build.specs.Contracts.{PutFits, withHive}
 
 module _ (s sd : List ℕ) where
   -- the second pass, of the forest that the stream says

@@ -7,13 +7,13 @@ use Rattle.base.specs.Block.{binsLimit}
 use Rattle.forest.specs.Forest.{Forest}
 use Rattle.layout.specs.Layout.{sizeOf, binsFor}
 use Rattle.layout.proofs.Sizes.{cell-room}
-use Rattle.intake.specs.declared.Whole.{Whole}
-use Rattle.intake.specs.Steps.{cap, FitsAs}
-use Rattle.intake.proofs.Sizes.{cap-told, cap-past}
-use Rattle.answers.specs.declared.Built.the-variants.{Done}
-use Rattle.answers.specs.Answers.{tooLarge, sizeAnswer, measureAnswer}
-use Rattle.answers.proofs.Cases.{size-large, size-done, measure-as}
-use Rattle.build.specs.Steps.{binsSize}
+use Rattle.build_measure.specs.declared.Whole.{Whole}
+use Rattle.build_measure.specs.Contracts.{cap, FitsAs}
+use Rattle.build_measure.proofs.Sizes.{cap-told, cap-past}
+use Rattle.build_answers.specs.declared.Built.the-variants.{Done}
+use Rattle.build_answers.specs.Answers.{tooLarge, sizeAnswer, measureAnswer}
+use Rattle.build_answers.proofs.Cases.{size-large, size-done, measure-as}
+use Rattle.build.specs.Contracts.{binsSize}
 
 -- ---- sizes
 

@@ -1,20 +1,20 @@
 // A hive from frames: how long it will be, or why there is none. The frames are tested and measured, and nothing is written.
-use answers::Built;
-use answers::Spot;
-use answers::Unbuilt;
+use build_answers::Built;
+use build_answers::Spot;
+use build_answers::Unbuilt;
+use build_measure::Judged;
+use build_measure::Whole;
 use fields::Fault;
 use fields::Flaw;
 use fields::Offset;
-use intake::Judged;
-use intake::Whole;
 ghost use mathlib.Core.Path.{_≡_};
 ghost use Prim.Native.Nat.{ℕ, _≤_};
 ghost use Rattle.fields.specs.Faults.{flaw, nowhere};
 ghost use Rattle.base.specs.Block.{binsLimit};
 ghost use lib.ListN.{length};
-ghost use Rattle.intake.specs.Steps.{cap, FitsAs};
-ghost use Rattle.answers.specs.Answers.{unbuilt, sizeAnswer, measureAnswer, buildAnswer, buildOut};
-ghost use Rattle.build.specs.Steps.{binsSize, PutFits, withHive};
+ghost use Rattle.build_measure.specs.Contracts.{cap, FitsAs};
+ghost use Rattle.build_answers.specs.Answers.{unbuilt, sizeAnswer, measureAnswer, buildAnswer, buildOut};
+ghost use Rattle.build.specs.Contracts.{binsSize, PutFits, withHive};
 
 // A refusal: "The key of ticket 9 is 0xFFFFFFFF here."
 fn refuse(f: Flaw, at: usize) -> Built
@@ -42,7 +42,7 @@ fn bins_size(size: usize, n: usize) -> usize
     requires { ⌜ (size ≤ binsLimit) × (n ≤ binsLimit) ⌝ }
     ensures { λ r. ⌜ r ≡ binsSize size n ⌝ }
 {
-    (32 + size + shapes::cell_size(20 + n) + 4095) / 4096 * 4096
+    (32 + size + build_frames::cell_size(20 + n) + 4095) / 4096 * 4096
 }
 
 // The length of the hive, by the sizes of the cells of its keys, a sum that may have stopped above the limit, and by the descriptor's length.
@@ -66,8 +66,8 @@ fn size_answer(size: usize, n: usize) -> Built
 pub fn measure(stream: &[u8], descriptor_len: usize) -> Built
     ensures { λ r. ⌜ r ≡ measureAnswer (now (stream .entry)) «descriptor_len» ⌝ }
 {
-    match intake::measure_stream(stream) {
-        Judged::Amiss(x) => {
+    match build_measure::measure_stream(stream) {
+        Judged::Flawed(x) => {
             let f = x.flaw;
             refuse(f, x.at)
         }
@@ -80,7 +80,7 @@ fn put_hive(stream: &[u8], descriptor: &[u8], out: &mut [u8], keys: usize, size:
     requires { ⌜ PutFits (now stream) (now descriptor) (length (now out)) keys size ⌝ }
     ensures { λ _. ⌜ now (out .exit) ≡ withHive (now (stream .entry)) (now (descriptor .entry)) (now (out .entry)) ⌝ }
 {
-    laying::put_hive(stream, descriptor, keys, size, out);
+    build_write::put_hive(stream, descriptor, keys, size, out);
 }
 
 // A stream without a fault: 39, then 20, and then the hive is written.
@@ -106,8 +106,8 @@ pub fn build(stream: &[u8], descriptor: &[u8], out: &mut [u8]) -> Built
     ensures { λ r. ⌜ r ≡ buildAnswer (now (stream .entry)) (now (descriptor .entry)) (length (now (out .entry))) ⌝ }
     ensures { λ _. ⌜ now (out .exit) ≡ buildOut (now (stream .entry)) (now (descriptor .entry)) (now (out .entry)) ⌝ }
 {
-    match intake::measure_stream(stream) {
-        Judged::Amiss(x) => {
+    match build_measure::measure_stream(stream) {
+        Judged::Flawed(x) => {
             let f = x.flaw;
             refuse(f, x.at)
         }

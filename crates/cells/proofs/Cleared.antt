@@ -9,7 +9,7 @@ use lib.ListN.{length, drop, replicate, length-replicate, length-append, length-
 use lib.Seq.{drop-at}
 use borrow.Author.Tests.{ltb-true, ltb-false, eqb-true, eqb-false}
 use Rattle.cells.specs.declared.Surveyed.{Surveyed}
-use Rattle.cells.specs.declared.Surveyed.the-variants.{Tiled, Refused}
+use Rattle.cells.specs.declared.Surveyed.the-variants.{Tiled, Flawed}
 use Rattle.cells.specs.Tiling.{Tiling, tiling, rowOf, binSize, Layout, last, badBin, bin, layoutN, layout}
 use Rattle.bitmap.specs.Bits.{zeros}
 use Rattle.cells.specs.Map.{marks, isBad, marksAll, mapAfter}
@@ -66,7 +66,7 @@ module _ (d : List ℕ) (s : Surveyed) where
     where
       by : (r : Surveyed) → mapAfter d r a ≡ mapAfter d r b
       by (Tiled t) = rw e
-      by (Refused f) = rw e
+      by (Flawed f) = rw e
 
   module _ (m : List ℕ) (le : length d ≤ length d / 64 * 64) where
     pub after-beyond : drop (length d / 64) (mapAfter d s m) ≡ drop (length d / 64) m
@@ -78,7 +78,7 @@ module _ (d : List ℕ) (s : Surveyed) where
 
         by : (r : Surveyed) → drop (length d / 64) (mapAfter d r m) ≡ drop (length d / 64) m
         by (Tiled t) = beyond (length d / 64) d (zeros (length d / 64) m) le ∙ zeroed
-        by (Refused f) = zeroed
+        by (Flawed f) = zeroed
 
     -- so a second pass leaves it as it is
     pub again : mapAfter d s (mapAfter d s m) ≡ mapAfter d s m
@@ -103,4 +103,4 @@ module _ (d : List ℕ) (s : Surveyed) where
 
         by : (r : Surveyed) → length (mapAfter d r m) ≡ length m
         by (Tiled t) = length-all (layout d 0) (zeros (length d / 64) m) ∙ zeroed
-        by (Refused f) = zeroed
+        by (Flawed f) = zeroed

@@ -14,9 +14,9 @@ use Rattle.fields.proofs.Firsts.{on, stop, both, held, holds, fails}
 use Rattle.base.specs.Block.{sector, binsOf, baseFault, binsData}
 use Rattle.base.proofs.Laws.{base-facts}
 use Rattle.cells.specs.declared.Surveyed.{Surveyed}
-use Rattle.cells.specs.declared.Surveyed.the-variants.{Refused}
+use Rattle.cells.specs.declared.Surveyed.the-variants.{Flawed as Refused}
 use Rattle.cells.specs.Tiling.{layout, surveyOf}
-use Rattle.cells.specs.Steps.{Pages, Data}
+use Rattle.cells.specs.Contracts.{Pages, Data}
 use Rattle.cells.specs.Map.{mapAfter}
 use Rattle.cells.specs.Survey.{frontFault, surveyAnswer, mapLeft}
 

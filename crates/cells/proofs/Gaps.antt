@@ -18,7 +18,7 @@ use Rattle.cells.proofs.Tiles.{of-header, of-header-some}
 use Rattle.cells.specs.declared.Gap.{Gap}
 use Rattle.cells.specs.Free.{Span, freeIn, freeCells}
 use Rattle.cells.specs.Named.{dataTo}
-use Rattle.cells.specs.Steps.{Bin, Without, Stands, freeFrom, gapOf, NextFree}
+use Rattle.cells.specs.Contracts.{Bin, Without, Stands, freeFrom, gapOf, NextFree}
 
 abbrev gap : ℕ → ℕ → ℕ → Gap
 gap at end bin = record { at = at; end = end; bin = bin }

@@ -17,13 +17,13 @@ use Rattle.fields.specs.Faults.{flaw}
 use Rattle.fields.proofs.Bools.{and-inv}
 use Rattle.cells.specs.declared.Cell.{Cell}
 use Rattle.cells.specs.declared.Found.{Found}
-use Rattle.cells.specs.declared.Found.the-variants.{Named, Missing}
+use Rattle.cells.specs.declared.Found.the-variants.{Named, Flawed as Missing}
 use Rattle.cells.specs.declared.Rule.{Rule}
 use Rattle.cells.specs.declared.Rule.the-variants.{Map, Header}
 use Rattle.cells.specs.Tiling.{goodSize}
 use Rattle.cells.specs.Map.{isMarked}
 use Rattle.cells.specs.Named.{isNamed, cellAt, byHeader, cellOf, cellFault, dataOf, dataAt}
-use Rattle.cells.specs.Steps.{lengthNamed, lengthBy, Inside}
+use Rattle.cells.specs.Contracts.{lengthNamed, lengthBy, Inside}
 use Rattle.cells.specs.Tiled.{Good}
 use Rattle.cells.proofs.Steps.{good}
 

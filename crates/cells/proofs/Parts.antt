@@ -17,7 +17,7 @@ use Rattle.fields.specs.Position.{placeOf}
 use Rattle.base.specs.Block.{sector, binsOf, binsData, baseFault}
 use Rattle.base.proofs.Laws.{base-facts}
 use Rattle.cells.specs.Named.{dataAt, dataOf, partIn, partPlace}
-use Rattle.cells.specs.Steps.{PartIn}
+use Rattle.cells.specs.Contracts.{PartIn}
 
 pub part-length : (d : List ℕ) (at len : ℕ) → at + len ≤ length d → length (take len (drop at d)) ≡ len
 part-length d at len h = simp (length-take, length-drop) (omega arith)

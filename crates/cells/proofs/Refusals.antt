@@ -19,12 +19,12 @@ use Rattle.fields.proofs.Every.{Every, every-next, every-unless}
 use Rattle.base.specs.Block.{sector, binsOf, baseFault, binsData}
 use Rattle.base.proofs.Refusals.{base-refuses, base-number}
 use Rattle.cells.specs.declared.Cell.{Cell}
-use Rattle.cells.specs.declared.Found.the-variants.{Named, Missing}
+use Rattle.cells.specs.declared.Found.the-variants.{Named, Flawed as Missing}
 use Rattle.cells.specs.declared.Row.{Row}
-use Rattle.cells.specs.declared.Row.the-variants.{Counted, Bad}
+use Rattle.cells.specs.declared.Row.the-variants.{Counted, Flawed as Bad}
 use Rattle.cells.specs.declared.Rule.{Rule}
 use Rattle.cells.specs.declared.Rule.the-variants as rule
-use Rattle.cells.specs.declared.Surveyed.the-variants.{Refused}
+use Rattle.cells.specs.declared.Surveyed.the-variants.{Flawed as Refused}
 use Rattle.cells.specs.Tiling.{goodSize, tiling, rowOf, binSize, layout, addRow, surveyOf}
 use Rattle.cells.specs.Survey.{frontFault, tested, surveyAnswer}
 use Rattle.cells.specs.Named.{isNamed, cellAt, byHeader, cellOf, verdictOf, cellFault}

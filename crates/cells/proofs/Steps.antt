@@ -94,7 +94,7 @@ unfolding markAt
 length-mark m at = length-set m _ _
 
 -- what the loop of `tile` keeps: what is left, with the counts and the map so far, gives what the whole gives
-pub record Walked (h map₀ : List ℕ) (start stop : ℕ) (map : List ℕ) (at used free : ℕ) : Type 0 where
+pub record TilesLeft (h map₀ : List ℕ) (start stop : ℕ) (map : List ℕ) (at used free : ℕ) : Type 0 where
   pub before-end : at ≤ stop
   pub eights : at % 8 ≡ 0
   pub small : used + free ≤ at
@@ -102,7 +102,7 @@ pub record Walked (h map₀ : List ℕ) (start stop : ℕ) (map : List ℕ) (at 
   pub counts : rowOf (tiling h start stop) 0 0 ≡ rowOf (tiling h at stop) used free
   pub bits : marks (tiling h start stop) map₀ ≡ marks (tiling h at stop) map
 
-module _ {h map₀ : List ℕ} {start stop : ℕ} {map : List ℕ} {at used free : ℕ} (w : Walked h map₀ start stop map at used free)
+module _ {h map₀ : List ℕ} {start stop : ℕ} {map : List ℕ} {at used free : ℕ} (w : TilesLeft h map₀ start stop map at used free)
     (lt : at < stop) {z : Size} (is : z ≡ sizeAt h at) where
   bytes-is : z .bytes ≡ sizeAt h at .bytes
   bytes-is = ap (λ (y : Size). y .bytes) is
@@ -114,7 +114,7 @@ module _ {h map₀ : List ℕ} {start stop : ℕ} {map : List ℕ} {at used free
   steps g = rw is (step h at stop lt (rw is at g))
 
   pub walked-used : goodSize (z .bytes) (stop - at) ≡ true → z .used ≡ true
-      → Walked h map₀ start stop (markAt map at) (at + z .bytes) (used + z .bytes) free
+      → TilesLeft h map₀ start stop (markAt map at) (at + z .bytes) (used + z .bytes) free
   unfolding rowOf marks
   walked-used g u =
       let f = fits g in
@@ -128,7 +128,7 @@ module _ {h map₀ : List ℕ} {start stop : ℕ} {map : List ℕ} {at used free
       }
 
   pub walked-free : goodSize (z .bytes) (stop - at) ≡ true → z .used ≡ false
-      → Walked h map₀ start stop map (at + z .bytes) used (free + z .bytes)
+      → TilesLeft h map₀ start stop map (at + z .bytes) used (free + z .bytes)
   unfolding rowOf marks
   walked-free g u =
       let f = fits g in

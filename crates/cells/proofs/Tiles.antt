@@ -14,7 +14,7 @@ use Rattle.fields.specs.Number.{u32At, sizeAt}
 use Rattle.fields.specs.Bytes.{standsAt}
 use Rattle.fields.proofs.Bools.{and-inv}
 use Rattle.cells.specs.declared.Row.{Row}
-use Rattle.cells.specs.declared.Row.the-variants.{Counted, Bad}
+use Rattle.cells.specs.declared.Row.the-variants.{Counted, Flawed}
 use Rattle.cells.specs.declared.Tally.{Tally}
 use Rattle.cells.specs.declared.Surveyed.the-variants.{Tiled}
 use Rattle.cells.specs.Tiling.{goodSize, whole, tiling, rowOf, binSize, bin, layout, addRow, surveyOf}
@@ -153,7 +153,7 @@ module _ (d : List ℕ) where
           let w = rw (bins-fault d at (ltb-true at (length d) x) (eqb-true n 0 g)) at e in
           let z : _≡_ {A = ℕ} 0 1 = cc in
           absurd (omega arith)
-      by true x false g (Bad flaw) s ih =
+      by true x false g (Flawed flaw) s ih =
           let w = rw (bins-step d at (ltb-true at (length d) x) (eqb-false n 0 g), s) at e in
           let z : _≡_ {A = ℕ} 0 1 = cc in
           absurd (omega arith)

@@ -1,4 +1,4 @@
--- The layout's three cases, and what a turn of `walk` keeps.
+-- The layout's three cases, and what a turn of `tile_bins` keeps.
 use Prim.Native.Nat.{ℕ, zero, suc, _+_, _-_, _%_, _≤_, _<_}
 use native.Mathlib.Omega.{arith}
 use mathlib.Core.Path.{_≡_, refl, sym, ap, _∙_}
@@ -10,8 +10,8 @@ use borrow.Author.Tests.{lt-ltb, le-ltb, ltb-true, ltb-false, leb-true, eqb-true
 use Rattle.fields.specs.declared.Flaw.{Flaw}
 use Rattle.fields.specs.Number.{u32At}
 use Rattle.fields.specs.Bytes.{standsAt}
-use Rattle.cells.specs.declared.Row.the-variants.{Counted, Bad}
-use Rattle.cells.specs.declared.Surveyed.the-variants.{Refused}
+use Rattle.cells.specs.declared.Row.the-variants.{Counted, Flawed}
+use Rattle.cells.specs.declared.Surveyed.the-variants.{Flawed as Refused}
 use Rattle.cells.specs.Tiling.{tiling, rowOf, binSize, last, badBin, bin, layoutN, layout, addRow, surveyOf}
 use Rattle.cells.specs.Map.{marks, isBad, marksAll}
 use Rattle.cells.proofs.Total.{sum, length-marks}
@@ -97,8 +97,8 @@ module _ (d : List ℕ) (at : ℕ) where
       ap (λ (f : ℕ). layoutN f d at) s ∙ stepN k d at lt e
       ∙ ap (bin at (tiling d (at + 32) (at + n))) (enough k (length d - (at + n)) d (at + n) (omega arith) (omega arith))
 
--- what the loop of `walk` keeps: what is left, with the counts and the map so far, gives what the whole gives
-pub record Walked (d map₀ map : List ℕ) (at count used free : ℕ) : Type 0 where
+-- what the loop of `tile_bins` keeps: what is left, with the counts and the map so far, gives what the whole gives
+pub record TilesLeft (d map₀ map : List ℕ) (at count used free : ℕ) : Type 0 where
   pub before-end : at ≤ length d
   pub pages : at % 4096 ≡ 0
   pub few : count ≤ at
@@ -107,7 +107,7 @@ pub record Walked (d map₀ map : List ℕ) (at count used free : ℕ) : Type 0 
   pub counts : surveyOf (layout d 0) 0 0 0 ≡ surveyOf (layout d at) count used free
   pub bits : marksAll (layout d 0) map₀ ≡ marksAll (layout d at) map
 
-module _ {d map₀ map : List ℕ} {at count used free : ℕ} (w : Walked d map₀ map at count used free) (lt : at < length d) {n : ℕ}
+module _ {d map₀ map : List ℕ} {at count used free : ℕ} (w : TilesLeft d map₀ map at count used free) (lt : at < length d) {n : ℕ}
     (is : n ≡ binSize d at) where
   pub fits : Sized n (length d - at)
   fits = rw is (sized d at)
@@ -116,7 +116,7 @@ module _ {d map₀ map : List ℕ} {at count used free : ℕ} (w : Walked d map�
   steps ne = rw is (step d at lt (rw is at ne))
 
   pub walked : (n ≡ 0 → ⊥) → {u f : ℕ} → rowOf (tiling d (at + 32) (at + n)) 0 0 ≡ Counted u f
-      → Walked d map₀ (marks (tiling d (at + 32) (at + n)) map) (at + n) (count + 1) (used + u) (free + f)
+      → TilesLeft d map₀ (marks (tiling d (at + 32) (at + n)) map) (at + n) (count + 1) (used + u) (free + f)
   unfolding surveyOf marksAll addRow isBad
   walked ne {u} {f} e =
       let g = fits in
@@ -131,7 +131,7 @@ module _ {d map₀ map : List ℕ} {at count used free : ℕ} (w : Walked d map�
         bits = w .bits ∙ rw (steps ne, e);
       }
 
-  pub refused : (n ≡ 0 → ⊥) → {f : Flaw} → rowOf (tiling d (at + 32) (at + n)) 0 0 ≡ Bad f
+  pub refused : (n ≡ 0 → ⊥) → {f : Flaw} → rowOf (tiling d (at + 32) (at + n)) 0 0 ≡ Flawed f
       → (surveyOf (layout d 0) 0 0 0 ≡ Refused f) × (marksAll (layout d 0) map₀ ≡ marks (tiling d (at + 32) (at + n)) map)
   unfolding surveyOf marksAll addRow isBad
   refused ne e = (w .counts ∙ rw (steps ne, e), w .bits ∙ rw (steps ne, e))

@@ -7,9 +7,9 @@ use lib.Dec.{eqb}
 use lib.ListN.{length, getD, set}
 use Rattle.bitmap.specs.Bits.{zeros, isMarked as isSet}
 use Rattle.cells.specs.declared.Row.{Row}
-use Rattle.cells.specs.declared.Row.the-variants.{Counted, Bad}
+use Rattle.cells.specs.declared.Row.the-variants.{Counted, Flawed}
 use Rattle.cells.specs.declared.Surveyed.{Surveyed}
-use Rattle.cells.specs.declared.Surveyed.the-variants.{Tiled, Refused}
+use Rattle.cells.specs.declared.Surveyed.the-variants.{Tiled, Flawed as Refused}
 use Rattle.cells.specs.Tiling.{Tiling, whole, bad, cell, rowOf, Layout, last, badBin, bin, layout}
 
 -- the map with the bit of an offset set
@@ -23,7 +23,7 @@ marks (bad at) m = m
 marks (cell at z t) m = marks t (cond (z .used) (markAt m at) m)
 
 unfoldable pub isBad : Row → Bool
-isBad (Bad f) = true
+isBad (Flawed f) = true
 isBad (Counted u f) = false
 
 unfoldable pub marksAll : Layout → List ℕ → List ℕ

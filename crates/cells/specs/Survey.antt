@@ -9,7 +9,7 @@ use Rattle.fields.specs.declared.Verdict.the-variants.{Sound, Flawed}
 use Rattle.fields.specs.Faults.{flaw, nowhere, unless, _next_}
 use Rattle.base.specs.Block.{sector, binsOf, baseFault, binsData}
 use Rattle.cells.specs.declared.Surveyed.{Surveyed}
-use Rattle.cells.specs.declared.Surveyed.the-variants.{Refused}
+use Rattle.cells.specs.declared.Surveyed.the-variants.{Flawed as Refused}
 use Rattle.cells.specs.Tiling.{layout, surveyOf}
 use Rattle.cells.specs.Map.{mapAfter}
 

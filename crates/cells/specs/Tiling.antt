@@ -10,9 +10,9 @@ use Rattle.fields.specs.Number.{u32At, sizeAt}
 use Rattle.fields.specs.Bytes.{standsAt}
 use Rattle.fields.specs.Faults.{flaw}
 use Rattle.cells.specs.declared.Row.{Row}
-use Rattle.cells.specs.declared.Row.the-variants.{Counted, Bad}
+use Rattle.cells.specs.declared.Row.the-variants.{Counted, Flawed}
 use Rattle.cells.specs.declared.Surveyed.{Surveyed}
-use Rattle.cells.specs.declared.Surveyed.the-variants.{Tiled, Refused}
+use Rattle.cells.specs.declared.Surveyed.the-variants.{Tiled, Flawed as Refused}
 
 -- "the absolute value is a nonzero multiple of 8 and stays inside the bin", of which room bytes are left
 unfoldable pub goodSize : ℕ → ℕ → Bool
@@ -38,7 +38,7 @@ tiling d at end = tilingN (end - at) d at end
 -- the bytes in use and the free bytes, added to those before; or "10: cell size", at the cell
 unfoldable pub rowOf : Tiling → ℕ → ℕ → Row
 rowOf whole used free = Counted used free
-rowOf (bad at) used free = Bad (flaw CellSize (record { 0 = at }))
+rowOf (bad at) used free = Flawed (flaw CellSize (record { 0 = at }))
 rowOf (cell at z t) used free =
     rowOf t (cond (z .used) (used + z .bytes) used) (cond (z .used) free (free + z .bytes))
 
@@ -71,7 +71,7 @@ layout d at = layoutN (length d - at) d at
 
 -- "then 9 and 10, bin by bin, header before cells": the first fault, or the counts, added to those before
 unfoldable pub addRow : Row → ℕ → ℕ → (ℕ → ℕ → Surveyed) → Surveyed
-addRow (Bad f) used free go = Refused f
+addRow (Flawed f) used free go = Refused f
 addRow (Counted u f) used free go = go (used + u) (free + f)
 
 unfoldable pub surveyOf : Layout → ℕ → ℕ → ℕ → Surveyed

@@ -11,7 +11,7 @@ ghost use Prim.Native.Nat.{_+_, _-_, _*_, _/_, _%_, _≤_, _<_};
 ghost use lib.ListN.{length};
 ghost use Rattle.fields.specs.Number.{u32At};
 ghost use Rattle.cells.specs.Tiling.{goodSize, tiling, rowOf, binSize, layout, surveyOf};
-ghost use Rattle.cells.specs.Steps.{Bin, Pages, Data, Without, Stands, NextFree, lengthNamed, lengthBy, Inside, PartIn};
+ghost use Rattle.cells.specs.Contracts.{Bin, Pages, Data, Without, Stands, NextFree, lengthNamed, lengthBy, Inside, PartIn};
 ghost use Rattle.cells.specs.Map.{markAt, marks, marksAll, isMarked, mapAfter};
 ghost use Rattle.cells.specs.Named.{cellOf, dataOf, dataAt, dataTo, partIn, partPlace};
 ghost use Rattle.cells.specs.Survey.{frontFault, surveyAnswer, mapLeft};
@@ -43,7 +43,7 @@ fn mark(map: &mut [u8], at: usize)
 // The cells of one bin: the bytes in use and the free bytes, or the fault.
 enum Row {
     Counted { used: usize, free: usize },
-    Bad(Flaw),
+    Flawed(Flaw),
 }
 
 // Walks the cells from one offset to another, and sets the bit of each cell in use.
@@ -59,7 +59,7 @@ fn tile(bins: &[u8], start: usize, end: usize, map: &mut [u8]) -> Row
         let c = fields::size_at(bins, at);
         let n = c.bytes as usize;
         if !good_size(n, end - at) {
-            return Row::Bad(Flaw {
+            return Row::Flawed(Flaw {
                 fault: Fault::CellSize,
                 place: Offset(at as u32),
             });
@@ -106,11 +106,11 @@ pub struct Tally {
 
 pub enum Surveyed {
     Tiled(Tally),
-    Refused(Flaw),
+    Flawed(Flaw),
 }
 
 // Walks the bins, header before cells, and sets the bit of each cell in use up to the first fault.
-fn walk(bins: &[u8], map: &mut [u8]) -> Surveyed
+fn tile_bins(bins: &[u8], map: &mut [u8]) -> Surveyed
     requires { ⌜ Pages (now bins) ⌝ }
     ensures { λ r. ⌜ r ≡ surveyOf (layout (now (bins .entry)) 0) 0 0 0 ⌝ }
     ensures { λ _. ⌜ now (map .exit) ≡ marksAll (layout (now (bins .entry)) 0) (now (map .entry)) ⌝ }
@@ -122,15 +122,15 @@ fn walk(bins: &[u8], map: &mut [u8]) -> Surveyed
     while at < bins.len() {
         let n = bin_size(bins, at);
         if n == 0 {
-            return Surveyed::Refused(Flaw {
+            return Surveyed::Flawed(Flaw {
                 fault: Fault::BinHeader,
                 place: Offset(at as u32),
             });
         }
         let next = at + n;
         match tile(bins, at + 32, next, map) {
-            Row::Bad(f) => {
-                return Surveyed::Refused(f);
+            Row::Flawed(f) => {
+                return Surveyed::Flawed(f);
             }
             Row::Counted { used: u, free: f } => {
                 used += u;
@@ -153,7 +153,7 @@ pub fn count_tiles(bins: &[u8]) -> Surveyed
     ensures { λ r. ⌜ r ≡ surveyOf (layout (now (bins .entry)) 0) 0 0 0 ⌝ }
 {
     let mut map = [0u8; 1];
-    walk(bins, &mut map)
+    tile_bins(bins, &mut map)
 }
 
 // A free cell from an offset to another, in a bin that ends at `bin`; or none, at the end of the bins data.
@@ -203,10 +203,10 @@ pub fn scan(bins: &[u8], map: &mut [u8]) -> Surveyed
 {
     let n = bins.len() / 64;
     bitmap::clear(map, n);
-    let r = walk(bins, map);
+    let r = tile_bins(bins, map);
     match r {
         Surveyed::Tiled(_) => {}
-        Surveyed::Refused(_) => {
+        Surveyed::Flawed(_) => {
             bitmap::clear(map, n);
         }
     }
@@ -234,7 +234,7 @@ pub fn survey(hive: &[u8], map: &mut [u8]) -> Surveyed
     ensures { λ _. ⌜ now (map .exit) ≡ mapLeft (now (hive .entry)) (now (map .entry)) ⌝ }
 {
     match front_flaw(hive, map.len()) {
-        Verdict::Flawed(f) => Surveyed::Refused(f),
+        Verdict::Flawed(f) => Surveyed::Flawed(f),
         Verdict::Sound => scan(base::bins_of(hive), map),
     }
 }
@@ -250,7 +250,7 @@ pub struct Cell {
 
 pub enum Found {
     Named(Cell),
-    Missing(Flaw),
+    Flawed(Flaw),
 }
 
 // How long the cell is that an offset names by its own header, or 0 where it names none. A number comes back in a register, a `Found` does not.
@@ -317,7 +317,7 @@ pub fn find_cell(bins: &[u8], map: &[u8], rule: Rule, o: Offset) -> Found
 {
     let n = named_length(bins, map, rule, o);
     if n == 0 {
-        return Found::Missing(Flaw {
+        return Found::Flawed(Flaw {
             fault: Fault::NoCell,
             place: o,
         });

@@ -26,10 +26,10 @@ use Rattle.recovery.specs.AtOnce.{allAnswer, allHive, markedAnswer, markedMap}
 use Rattle.recovery.proofs.Settles.{settle-refuses, settle-stays}
 use Rattle.walk.proofs.Refusals.{begin-refuses, step-refuses, begin-stays, step-stays}
 use Rattle.export.proofs.Refusals.{step-refuses as frame-refuses, step-leaves, begin-refuses as export-refuses, begin-leaves, run-refuses, run-leaves}
-use Rattle.answers.proofs.Refusals.{measure-refuses, build-refuses}
-use Rattle.answers.proofs.Hives.{refused-leaves}
+use Rattle.build_answers.proofs.Refusals.{measure-refuses, build-refuses}
+use Rattle.build_answers.proofs.Hives.{refused-leaves}
 use Rattle.remnants.proofs.Refusals.{next-refuses as remnant-refuses, rows-refuse, rows-stay}
-use Rattle.demands.specs.First.{Demand1}
+use Rattle.demands.specs.AnyBytes.{Demand1}
 use Rattle.demands.proofs.As_check.{refuses-as-check}
 
 listed : (f : Fault) → (1 ≤ numberOf f) × (numberOf f ≤ 39)

@@ -25,7 +25,7 @@ use Rattle.remnants.proofs.Refusals.{same-tests, next-stops, next-tests}
 
 module _ (h m : List ℕ) where
   -- the survey's numbers are 1 to 10
-  early : {f : Flaw} → surveyAnswer h (length m) ≡ survey.Refused f → numberOf (f .fault) ≤ 10
+  early : {f : Flaw} → surveyAnswer h (length m) ≡ survey.Flawed f → numberOf (f .fault) ≤ 10
   early {f} e = by (frontFault h (length m)) refl
     where
       by : (v : Verdict) → frontFault h (length m) ≡ v → numberOf (f .fault) ≤ 10
@@ -43,7 +43,7 @@ module _ (h m : List ℕ) where
   module _ (from : ℕ) (room : binsOf (sector h) / 64 ≤ length m) (r : Refusal) where
     by-survey : (s : Surveyed) → surveyAnswer h (length m) ≡ s
         → (remnantAnswer h from ≡ remnant.Refused r) ↔ ((checkAnswer h m ≡ checked.Refused r) × (numberOf (r .fault) ≤ 10))
-    by-survey (survey.Refused f) e = (to, back)
+    by-survey (survey.Flawed f) e = (to, back)
       where
         tests : tilesFault h ≡ Flawed f
         tests = same-tests h (length m) room ∙ ap flawIn e

@@ -31,18 +31,18 @@ use Rattle.forest.proofs.Unique.{forest-unique}
 use Rattle.layout.specs.Layout.{padOf, itemAt, binsFor, itemRecord, binsOf, builtHive}
 use Rattle.layout.proofs.Base.{built-length, built-hive, built-data}
 use Rattle.layout.proofs.Built.{item-placed}
-use Rattle.built.specs.Read.{forestOf}
-use Rattle.built.proofs.Accepted.{built-accepted}
-use Rattle.built.proofs.Counts.{root-counted}
-use Rattle.built.proofs.Exports.{built-laid, built-exports}
-use Rattle.built.proofs.Builds.{accepted-forest, export-builds}
-use Rattle.answers.specs.declared.Built.{Built}
-use Rattle.answers.specs.declared.Built.the-variants.{Done}
-use Rattle.answers.specs.declared.Unbuilt.{Unbuilt}
-use Rattle.answers.specs.Answers.{unbuilt, tooLarge, tooLong, numberIn, measureAnswer, buildAnswer, buildOut}
-use Rattle.answers.proofs.Cases.{measured-exactly, build-wrong, Answered, done, long, large, wrong, answered, done-exactly, thirty-nine-exactly, twenty-exactly, wrong-exactly}
-use Rattle.answers.proofs.Hives.{refused-builds, built-there, built-behind}
-use Rattle.answers.proofs.Again.{again-built}
+use Rattle.build_laws.specs.Read.{forestOf}
+use Rattle.build_laws.proofs.Accepted.{built-accepted}
+use Rattle.build_laws.proofs.Counts.{root-counted}
+use Rattle.build_laws.proofs.Exports.{built-laid, built-exports}
+use Rattle.build_laws.proofs.Builds.{accepted-forest, export-builds}
+use Rattle.build_answers.specs.declared.Built.{Built}
+use Rattle.build_answers.specs.declared.Built.the-variants.{Done}
+use Rattle.build_answers.specs.declared.Unbuilt.{Unbuilt}
+use Rattle.build_answers.specs.Answers.{unbuilt, tooLarge, tooLong, numberIn, measureAnswer, buildAnswer, buildOut}
+use Rattle.build_answers.proofs.Cases.{measured-exactly, build-wrong, Answered, done, long, large, wrong, answered, done-exactly, thirty-nine-exactly, twenty-exactly, wrong-exactly}
+use Rattle.build_answers.proofs.Hives.{refused-builds, built-there, built-behind}
+use Rattle.build_answers.proofs.Again.{again-built}
 use Rattle.demands.specs.Build.{Says, AtFault, Answered as Answers, Hive, Again, Building}
 
 -- ---- a stream without a fault has none of 30 to 38

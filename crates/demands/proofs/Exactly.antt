@@ -15,7 +15,7 @@ use Rattle.recovery.proofs.AtOnce.{at-once}
 use lib.ListN.{length}
 use Rattle.base.specs.Block.{binsData}
 use Rattle.tree.specs.Tree.{levels, hiveOf}
-use Rattle.demands.specs.Second.{Demand2}
+use Rattle.demands.specs.Exactly.{Demand2}
 
 pub demand2 : Demand2
 demand2 =

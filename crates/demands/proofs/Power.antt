@@ -17,7 +17,7 @@ use Rattle.search.specs.declared.How.the-variants.{InTurn, Halving}
 use Rattle.paths.specs.declared.KeyFound.the-variants as key
 use Rattle.paths.specs.declared.Way.the-variants as way
 use Rattle.paths.specs.Answers.{keyLookBy, keyFound, findBy}
-use Rattle.paths.specs.Steps.{isStep, childBy}
+use Rattle.paths.specs.Children.{isStep, childBy}
 use Rattle.paths.proofs.Opens.{ask-base, open-base, look-stop}
 use Rattle.paths.proofs.StepTests.{child-stop}
 use Rattle.lookup.specs.declared.Copied.the-variants as copied
@@ -43,15 +43,15 @@ use Rattle.crash.proofs.Barrier.{barrier}
 use Rattle.walk.proofs.Ways.{begin-stop, step-stop}
 use Rattle.export.proofs.Refusals.{step-unread, begin-unread, run-unread}
 use Rattle.remnants.proofs.Refusals.{base-stops, next-stops, rows-stop}
-use Rattle.demands.specs.Third.{Unread, Demand3}
+use Rattle.demands.specs.PowerCuts.{Unread, Demand3}
 
 -- ---- a file that the tests 1 to 7 refuse is refused by every call of the reader
 
 module _ (d : List ℕ) (f : Flaw) (e : baseFault d ≡ Flawed f) where
-  key-look : (how : How) (us : List ℕ) → keyLookBy how d us ≡ way.Faulty (refusalOf noKey f)
+  key-look : (how : How) (us : List ℕ) → keyLookBy how d us ≡ way.Refused (refusalOf noKey f)
   key-look how us = look-stop how d us (open-base d us e)
 
-  value-look : (how : How) (us x : List ℕ) → valueLookBy how d us x ≡ spot.Faulty (refusalOf noKey f)
+  value-look : (how : How) (us x : List ℕ) → valueLookBy how d us x ≡ spot.Refused (refusalOf noKey f)
   unfolding valueLookBy
   value-look how us x = rw (key-look how us)
 

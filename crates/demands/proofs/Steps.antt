@@ -17,7 +17,7 @@ use Rattle.search.specs.declared.Look.the-variants as look
 use Rattle.paths.specs.declared.Way.{Way}
 use Rattle.paths.specs.declared.Way.the-variants as way
 use Rattle.paths.specs.Answers.{keyLookBy, keyFound, findBy}
-use Rattle.paths.specs.Steps.{isStep, childBy}
+use Rattle.paths.specs.Children.{isStep, childBy}
 use Rattle.paths.proofs.Opens.{ask-bad, look-facts}
 use Rattle.paths.proofs.StepTests.{child-stop}
 use Rattle.paths.proofs.Steps.{path-steps, joined-parts, step-last}
@@ -32,7 +32,7 @@ use Rattle.lookup.proofs.Value_answers.{info-found, info-missing, info-faulty}
 use Rattle.lookup.proofs.Value_searches.{value-faulty, value-keyless, value-below}
 use Rattle.listing.specs.Members.{infoAt}
 use Rattle.listing.proofs.Members.{info-in}
-use Rattle.demands.specs.Steps.{infoOn, infoThen, under, StepByStep}
+use Rattle.demands.specs.StepByStep.{infoOn, infoThen, under, StepByStep}
 
 under-where : (k : Offset) (v : Verdict) (i : Info) → under k (infoWhere noKey v i) ≡ infoWhere k v i
 under-where k Sound i = refl
@@ -56,7 +56,7 @@ module _ (how : How) (h us x : List ℕ) where
       info-found how h us x (value-below how h us x p ∙ ap (inKey k) e)
       ∙ sym (ap (under k) (info-in h v (look-facts how h us p .0)) ∙ under-where k t i)
   in-key k p look.Missing e = info-missing how h us x (value-below how h us x p ∙ ap (inKey k) e)
-  in-key k p (look.Faulty f) e = info-faulty how h us x (value-below how h us x p ∙ ap (inKey k) e)
+  in-key k p (look.Flawed f) e = info-faulty how h us x (value-below how h us x p ∙ ap (inKey k) e)
 
   info-steps : infoBy how h us x ≡ infoOn (findBy how h us) (λ k. infoThen (spotAnswer h k x) (facts k))
   unfolding findBy
@@ -67,7 +67,7 @@ module _ (how : How) (h us x : List ℕ) where
           let f = look-facts how h us p in
           in-key k p (found k) refl ∙ sym (ap (λ (s : Spotted). infoThen s (facts k)) (spot-is k (f .0) (f .1)))
       by (way.Missing k) p = info-faulty how h us x (value-keyless how h us x p)
-      by (way.Faulty r) p = info-faulty how h us x (value-faulty how h us x p)
+      by (way.Refused r) p = info-faulty how h us x (value-faulty how h us x p)
 
 pub step-by-step : StepByStep
 unfolding childBy

@@ -19,11 +19,11 @@ use Rattle.forest.specs.Forest.{Forest, keyCount, valueCount, forestFrames}
 use Rattle.forest.specs.Allowed.{AllBelow, OneRoot}
 use Rattle.forest.specs.First.{FirstFault}
 use Rattle.layout.specs.Layout.{itemAt, usedOf, binsFor, builtHive}
-use Rattle.built.specs.Read.{forestOf}
-use Rattle.answers.specs.declared.Built.{Built}
-use Rattle.answers.specs.declared.Built.the-variants.{Done, Refused}
-use Rattle.answers.specs.declared.Unbuilt.{Unbuilt}
-use Rattle.answers.specs.Answers.{unbuilt, tooLarge, tooLong, measureAnswer, buildAnswer, buildOut}
+use Rattle.build_laws.specs.Read.{forestOf}
+use Rattle.build_answers.specs.declared.Built.{Built}
+use Rattle.build_answers.specs.declared.Built.the-variants.{Done, Refused}
+use Rattle.build_answers.specs.declared.Unbuilt.{Unbuilt}
+use Rattle.build_answers.specs.Answers.{unbuilt, tooLarge, tooLong, measureAnswer, buildAnswer, buildOut}
 
 -- the stream is the frames of this forest, which has one root and is within all bounds
 pub record Says (s : List ℕ) (f : Forest) : Type 0 where

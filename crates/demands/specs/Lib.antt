@@ -1,9 +1,9 @@
-pub mod First
-pub mod Second
-pub mod Third
+pub mod AnyBytes
+pub mod Exactly
+pub mod PowerCuts
 pub mod Promises
 pub mod Frauds
 pub mod Listing
 pub mod Export
 pub mod Build
-pub mod Steps
+pub mod StepByStep

@@ -10,7 +10,7 @@ use Rattle.tree.specs.declared.Checked.{Checked}
 use Rattle.tree.specs.Tree.{checkAnswer}
 use Rattle.paths.specs.declared.KeyFound.{KeyFound}
 use Rattle.paths.specs.Answers.{findAnswer, quickAnswer}
-use Rattle.paths.specs.Steps.{childAnswer, quickChild}
+use Rattle.paths.specs.Children.{childAnswer, quickChild}
 use Rattle.lookup.specs.declared.Spotted.{Spotted}
 use Rattle.lookup.specs.Spots.{spotAnswer}
 use Rattle.lookup.specs.declared.ValueFound.{ValueFound}
@@ -23,14 +23,14 @@ use Rattle.listing.specs.declared.Member.{Member}
 use Rattle.listing.specs.Members.{subkeyAnswer, valueAnswer, infoAt, copyAt, outAt, factsAnswer}
 use Rattle.listing.specs.Pieces.{classAnswer, securityAnswer}
 use Rattle.walk.specs.declared.Walked.{Walked}
-use Rattle.walk.specs.Steps.{beginAnswer, beginLevels, stepAnswer, stepLevels}
+use Rattle.walk.specs.Answers.{beginAnswer, beginLevels, stepAnswer, stepLevels}
 use Rattle.export.specs.declared.Begun.{Begun}
 use Rattle.export.specs.declared.Cursor.{Cursor}
 use Rattle.export.specs.declared.Ran.{Ran}
 use Rattle.export.specs.declared.Stepped.{Stepped as Framed}
 use Rattle.export.specs.Answers.{stepAnswer as frameAnswer, stepOut, beginAnswer as exportAnswer, beginLevels as exportLevels, runAnswer, runOut, runLevels}
-use Rattle.answers.specs.declared.Built.{Built}
-use Rattle.answers.specs.Answers.{measureAnswer, buildAnswer, buildOut}
+use Rattle.build_answers.specs.declared.Built.{Built}
+use Rattle.build_answers.specs.Answers.{measureAnswer, buildAnswer, buildOut}
 use Rattle.remnants.specs.declared.Filled.{Filled}
 use Rattle.remnants.specs.declared.Remnant.{Remnant}
 use Rattle.remnants.specs.Remnants.{remnantAnswer, rowsAnswer, rowsOut}

@@ -37,7 +37,7 @@ use Rattle.export.specs.declared.Turn.{Turn}
 use Rattle.export.specs.declared.Turn.the-variants as turn
 use Rattle.export.specs.Due.{words, runFault, bytesDue, dueAt, wordsBehind, cursorBehind}
 use Rattle.export.specs.Answers.{short, start, beginAnswer, beginLevels, packed, runAnswer, runOut, runLevels}
-use Rattle.export.specs.Steps.{turnOf, turnBytes, ranIn, Went, went, steppedOn, steppedBy, bytesBy, rootWords, steppedIn, bytesIn}
+use Rattle.export.specs.Contracts.{turnOf, turnBytes, ranIn, Went, went, steppedOn, steppedBy, bytesBy, rootWords, steppedIn, bytesIn}
 use Rattle.export.proofs.Ways.{due-lies}
 use Rattle.export.proofs.Exports.{put-start}
 

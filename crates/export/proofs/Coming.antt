@@ -35,7 +35,7 @@ use Rattle.walk.specs.declared.Offer.{Offer}
 use Rattle.walk.specs.declared.Offer.the-variants as ahead
 use Rattle.walk.specs.declared.Walked.{Walked}
 use Rattle.walk.specs.declared.Walked.the-variants as walked
-use Rattle.walk.specs.Steps.{keyAt, stepIn, answerOf, levelsAfter, stepAnswer, stepLevels}
+use Rattle.walk.specs.Answers.{keyAt, stepIn, answerOf, levelsAfter, stepAnswer, stepLevels}
 use Rattle.walk.specs.Events.{eventsOver, eventsIn, eventsOf, coming, depthAfter}
 use Rattle.walk.proofs.Lists.{Open, Standing, Stepped, step-gives, set-at, begun, begun-stands, begun-coming}
 use Rattle.walk.proofs.Moves.{moves-below}

@@ -38,7 +38,7 @@ use Rattle.export.specs.declared.Stepped.{Stepped}
 use Rattle.export.specs.declared.Stepped.the-variants.{Written, Done, Refused}
 use Rattle.export.specs.Due.{words, runFault, bytesDue, framedDue, dueAt, wordsBehind, depthBehind, cursorBehind}
 use Rattle.export.specs.Answers.{short, noFrame, fits, stepFrom, onChecked, stepAnswer, outAfter, stepOut, start, beginAnswer, levelsBegun, beginLevels, Packed, none, more, packed, notOne, ranOf, runPacked, onRun, runAnswer, runOut, runLevels}
-use Rattle.export.specs.Steps.{Went, went, steppedBy, bytesBy, rootWords, steppedIn, bytesIn}
+use Rattle.export.specs.Contracts.{Went, went, steppedBy, bytesBy, rootWords, steppedIn, bytesIn}
 use Rattle.export.specs.Coming.{comingFrames}
 use Rattle.export.specs.Runs.{Reached, begins, runs, Goes}
 use Rattle.export.proofs.Ways.{due-over, due-lies}

@@ -34,7 +34,7 @@ use Rattle.tree.proofs.Tells.{check-tells}
 use Rattle.walk.specs.declared.Offer.{Offer}
 use Rattle.walk.specs.declared.Offer.the-variants as ahead
 use Rattle.walk.specs.declared.Walked.the-variants as walked
-use Rattle.walk.specs.Steps.{keyAt, stepIn, answerOf}
+use Rattle.walk.specs.Answers.{keyAt, stepIn, answerOf}
 use Rattle.walk.proofs.Refusals.{in-why}
 use Rattle.stream.specs.Stream.{Framed, framesOf}
 use Rattle.stream.proofs.Whole.{values-many, joined-none}

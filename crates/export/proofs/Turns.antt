@@ -15,7 +15,7 @@ use Rattle.fields.specs.declared.Verdict.the-variants.{Sound}
 use Rattle.cells.specs.declared.Rule.the-variants.{Header}
 use Rattle.records.specs.Keys.{keyFault}
 use Rattle.walk.specs.declared.Offer.the-variants as ahead
-use Rattle.walk.specs.Steps.{keyAt, levelsAfter}
+use Rattle.walk.specs.Answers.{keyAt, levelsAfter}
 use Rattle.stream.specs.Stream.{Framed, joinedFrames}
 use Rattle.stream.proofs.Puts.{put-then, close-length}
 use Rattle.stream.proofs.Laws.{open-some, value-some}
@@ -33,7 +33,7 @@ use Rattle.export.specs.declared.What.{What}
 use Rattle.export.specs.declared.What.the-variants as what
 use Rattle.export.specs.Due.{bytesDue, framedDue, past, dueAt, wordsBehind, depthBehind, cursorBehind}
 use Rattle.export.specs.Answers.{short, Packed, none, more, packedOn, packed, notOne, ranOf}
-use Rattle.export.specs.Steps.{WhatGoes, FrameLies, turnOf, turnBytes, turnWords, endedOf, ranIn, Went, wentOn, went}
+use Rattle.export.specs.Contracts.{WhatGoes, FrameLies, turnOf, turnBytes, turnWords, endedOf, ranIn, Went, wentOn, went}
 use Rattle.export.proofs.Ways.{due-lies, due-known}
 
 -- ---- a turn

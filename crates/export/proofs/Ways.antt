@@ -27,7 +27,7 @@ use Rattle.values.specs.Entries.{entriesOf}
 use Rattle.values.specs.Records.{valueFault, dataIn, fieldsOf, valueOf, valued}
 use Rattle.values.specs.Segments.{dataFault, lengthOf}
 use Rattle.values.specs.Lists.{valuesOf, valueListFault, valueEntries, wholeValueFault}
-use Rattle.values.specs.Steps.{Room, entered}
+use Rattle.values.specs.Contracts.{Room, entered}
 use Rattle.values.proofs.LawsLists.{list-room, list-values}
 use Rattle.values.proofs.Rooms.{entries-length}
 use Rattle.values.proofs.Segment_faults.{entered-whole, entered-flawed}
@@ -37,12 +37,12 @@ use Rattle.listing.specs.Members.{entryOf}
 use Rattle.walk.specs.declared.Mark.{Mark}
 use Rattle.walk.specs.declared.Offer.{Offer}
 use Rattle.walk.specs.declared.Offer.the-variants as ahead
-use Rattle.walk.specs.Steps.{keyAt, stepAt, stepIn, levelsAfter}
+use Rattle.walk.specs.Answers.{keyAt, stepAt, stepIn, levelsAfter}
 use Rattle.walk.proofs.Ways.{in-on}
 use Rattle.walk.proofs.Moves.{Below, moves-below}
 use Rattle.walk.proofs.Lists.{set-at}
 use Rattle.stream.specs.Stream.{openFrame, framedValue, closeFrame}
-use Rattle.stream.specs.Steps.{openLen, valueLen}
+use Rattle.stream.specs.Contracts.{openLen, valueLen}
 use Rattle.stream.proofs.Puts.{close-length}
 use Rattle.stream.proofs.Laws.{key-name, open-length, value-length, value-name, value-lies}
 use Rattle.export.specs.declared.Cursor.{Cursor}
@@ -52,7 +52,7 @@ use Rattle.export.specs.declared.Frame.{Frame}
 use Rattle.export.specs.declared.What.{What}
 use Rattle.export.specs.declared.What.the-variants as what
 use Rattle.export.specs.Due.{bytesDue, comes, dueWhere, valueDue, past, walkDue, topDue, dueAt, wordsBehind, depthBehind}
-use Rattle.export.specs.Steps.{FrameLies}
+use Rattle.export.specs.Contracts.{FrameLies}
 
 -- a frame by its parts
 abbrev pub frameOf : What → Offset → ℕ → ℕ → Frame

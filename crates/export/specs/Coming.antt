@@ -5,7 +5,7 @@ use mathlib.Core.List.{List, [], _∷_, _++_}
 use lib.ListN.{drop}
 use Rattle.walk.specs.declared.Walked.{Walked}
 use Rattle.walk.specs.declared.Walked.the-variants as walked
-use Rattle.walk.specs.Steps.{keyAt}
+use Rattle.walk.specs.Answers.{keyAt}
 use Rattle.walk.specs.Events.{coming}
 use Rattle.stream.specs.Stream.{Framed, ownFrames, closes}
 

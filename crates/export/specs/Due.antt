@@ -18,7 +18,7 @@ use Rattle.values.specs.Records.{valueOf}
 use Rattle.values.specs.Lists.{valuesOf, valueListFault, wholeValueFault}
 use Rattle.walk.specs.declared.Offer.{Offer}
 use Rattle.walk.specs.declared.Offer.the-variants as ahead
-use Rattle.walk.specs.Steps.{keyAt, stepIn, levelsAfter}
+use Rattle.walk.specs.Answers.{keyAt, stepIn, levelsAfter}
 use Rattle.stream.specs.Stream.{Framed, openFrame, framedValue, closeFrame}
 use Rattle.export.specs.declared.Cursor.{Cursor}
 use Rattle.export.specs.declared.Due.{Due}

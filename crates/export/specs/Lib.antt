@@ -1,6 +1,6 @@
 pub mod Due
 pub mod Answers
-pub mod Steps
+pub mod Contracts
 pub mod Coming
 pub mod Runs
 pub mod Refused

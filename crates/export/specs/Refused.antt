@@ -17,7 +17,7 @@ use Rattle.values.specs.Lists.{valuesOf}
 use Rattle.values.specs.Refused.{a-key, a-value, Fit, Unfit, Among, Values, Data}
 use Rattle.tree.specs.Tree.{hiveOf}
 use Rattle.tree.specs.Told.{Told}
-use Rattle.walk.specs.Steps.{keyAt}
+use Rattle.walk.specs.Answers.{keyAt}
 use Rattle.walk.specs.Refused.{OfStep}
 use Rattle.stream.specs.Stream.{framesOf}
 use Rattle.export.specs.declared.Cursor.{Cursor}

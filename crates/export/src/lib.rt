@@ -28,12 +28,12 @@ ghost use Rattle.cells.specs.declared.Rule.the-variants.{Header};
 ghost use Rattle.cells.specs.Survey.{mapLeft};
 ghost use Rattle.records.specs.Keys.{keyFault, keyOf};
 ghost use Rattle.stream.specs.Stream.{joinedFrames};
-ghost use Rattle.walk.specs.Steps.{keyAt, stepIn};
+ghost use Rattle.walk.specs.Answers.{keyAt, stepIn};
 ghost use Rattle.values.specs.Records.{valueOf};
 ghost use Rattle.values.specs.Lists.{wholeValueFault};
 ghost use Rattle.export.specs.Due.{bytesDue, past, comes, dueWhere, valueDue, topDue, walkDue, dueAt, wordsBehind, cursorBehind};
 ghost use Rattle.export.specs.Answers.{short, stepAnswer, stepOut, beginAnswer, beginLevels, packed, runAnswer, runOut, runLevels};
-ghost use Rattle.export.specs.Steps.{WhatLies, WhatGoes, turnOf, turnBytes, turnWords, endedOf, ranIn, went, PassedLies, steppedIn, bytesIn};
+ghost use Rattle.export.specs.Contracts.{WhatLies, WhatGoes, turnOf, turnBytes, turnWords, endedOf, ranIn, went, PassedLies, steppedIn, bytesIn};
 
 pub struct Cursor {
     pub depth: usize,

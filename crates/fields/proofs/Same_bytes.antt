@@ -14,7 +14,7 @@ use lib.Dec.{eqb}
 use borrow.Author.Tests.{eq-eqb, ne-eqb}
 use Rattle.fields.specs.Bytes.{sameBytes}
 use Rattle.fields.specs.Number.{u16At, u32At, u64At}
-use Rattle.fields.specs.Steps.{Told}
+use Rattle.fields.specs.Contracts.{Told}
 use Rattle.fields.proofs.Bools.{and-inv}
 use Rattle.fields.proofs.Numbers.{u16-below, u32-below}
 

@@ -7,7 +7,7 @@ ghost use mir.Syntax.{w32};
 ghost use mir.Val.{toZ};
 ghost use Rattle.fields.specs.Number.{u16At, u32At, u64At, le16, le32, sizeOf, sizeAt};
 ghost use Rattle.fields.specs.Bytes.{sameBytes, standsAt};
-ghost use Rattle.fields.specs.Steps.{Told};
+ghost use Rattle.fields.specs.Contracts.{Told};
 ghost use Rattle.fields.specs.Position.{placeOf, offsetOf};
 ghost use Rattle.fields.specs.Faults.{numberOf, flaw, refusalOf};
 

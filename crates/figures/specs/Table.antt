@@ -7,7 +7,7 @@ use lib.ListN.{length, replicate}
 use Rattle.fields.specs.Faults.{numberOf}
 use Rattle.base.specs.Block.{binsLimit, isBinsSize, storedChecksum}
 use Rattle.cells.specs.declared.Surveyed.{Surveyed}
-use Rattle.cells.specs.declared.Surveyed.the-variants.{Tiled, Refused as Untiled}
+use Rattle.cells.specs.declared.Surveyed.the-variants.{Tiled, Flawed as Untiled}
 use Rattle.cells.specs.Survey.{surveyAnswer, mapLeft}
 use Rattle.names.specs.declared.Order.{Order}
 use Rattle.names.specs.declared.Order.the-variants.{Before, Same, After}

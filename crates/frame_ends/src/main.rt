@@ -15,7 +15,7 @@ fn stream(
         os::fail(&name[..n]);
         return;
     }
-    frames::run(fd, hive, room, units, map);
+    test_frames::run(fd, hive, room, units, map);
     libc::close(fd);
 }
 

@@ -35,8 +35,8 @@ use Rattle.export.specs.declared.Ran.{Ran}
 use Rattle.export.specs.declared.Ran.the-variants as ran
 use Rattle.export.specs.declared.Stepped.{Stepped as Framed}
 use Rattle.export.specs.declared.Stepped.the-variants as frame
-use Rattle.answers.specs.declared.Built.{Built}
-use Rattle.answers.specs.declared.Built.the-variants as built
+use Rattle.build_answers.specs.declared.Built.{Built}
+use Rattle.build_answers.specs.declared.Built.the-variants as built
 use Rattle.recovery.specs.declared.Started.{Started}
 use Rattle.recovery.specs.declared.Started.the-variants as start
 use Rattle.recovery.specs.declared.Stepped.{Stepped}

@@ -20,7 +20,7 @@
 // value, of 28 the root, or the place where that is a key. In all calls of the repair, and where a value is asked by its offset,
 // it is HIVE_NO_KEY. In both calls that build a hive place is 0 and the key is HIVE_NO_KEY: what 30 to 38 name is a byte of the
 // stream, and stands in `at` of a HiveBuilt.
-use answers::Built;
+use build_answers::Built;
 use export::Begun;
 use export::Cursor;
 use export::Ran;
@@ -60,14 +60,14 @@ ghost use Rattle.names.specs.Comparison.{compare};
 ghost use Rattle.tree.specs.Tree.{checkAnswer};
 ghost use Rattle.paths.specs.Answers.{findAnswer, quickAnswer};
 ghost use Rattle.lookup.specs.Answers.{infoAnswer, viewAnswer, copyAnswer, copyOut, quickInfo, quickView, quickCopy, quickOut};
-ghost use Rattle.paths.specs.Steps.{childAnswer, quickChild};
+ghost use Rattle.paths.specs.Children.{childAnswer, quickChild};
 ghost use Rattle.lookup.specs.Spots.{spotAnswer};
 ghost use Rattle.listing.specs.Members.{subkeyAnswer, valueAnswer, infoAt, copyAt, outAt, factsAnswer};
 ghost use Rattle.listing.specs.Pieces.{classAnswer, securityAnswer};
 ghost use Rattle.walk.specs.Events.{keepsCount};
-ghost use Rattle.walk.specs.Steps.{beginAnswer, beginLevels, stepAnswer, stepLevels};
+ghost use Rattle.walk.specs.Answers.{beginAnswer, beginLevels, stepAnswer, stepLevels};
 ghost use Rattle.export.specs.Answers.{stepAnswer as frameAnswer, stepOut, beginAnswer as exportAnswer, beginLevels as exportLevels, runAnswer, runOut, runLevels};
-ghost use Rattle.answers.specs.Answers.{measureAnswer, buildAnswer, buildOut};
+ghost use Rattle.build_answers.specs.Answers.{measureAnswer, buildAnswer, buildOut};
 ghost use Rattle.recovery.specs.Calls.{startAnswer, pageAnswer, pageHive, closeAnswer, closeHive, nextAnswer};
 ghost use Rattle.recovery.specs.AtOnce.{allAnswer, allHive, markAnswer, markedAnswer, markedMap, factsAnswer as logAnswer};
 ghost use Rattle.recovery.specs.Settling.{settleAnswer, settleHive};

@@ -4,5 +4,5 @@ fn main() {
     let mut room = [0u8; 20480];
     let mut units = [0u16; 10240];
     let mut map = [0u8; 320];
-    frames::run(0, &mut hive, &mut room, &mut units, &mut map);
+    test_frames::run(0, &mut hive, &mut room, &mut units, &mut map);
 }

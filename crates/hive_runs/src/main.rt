@@ -40,7 +40,7 @@ fn units_of(part: &[u8], units: &mut [u16]) -> usize {
     if units.len() < n {
         return 0;
     }
-    frames::path_units(part, units);
+    test_frames::path_units(part, units);
     n
 }
 
@@ -64,7 +64,7 @@ fn take_in(
             name: 0,
         },
         2 => {
-            orders::put(hive, part);
+            test_lines::put(hive, part);
             l
         }
         3 => Lengths {
@@ -84,10 +84,10 @@ fn take_in(
 fn ask(hive: &[u8], path: &[u16], name: &[u16], map: &mut [u8], out: &mut [u8], kind: u8) {
     match kind {
         5 => {
-            frames::say::line(frames::hive_line(hive, map));
+            test_frames::say::line(test_frames::hive_line(hive, map));
             say::sum(b"map ", map);
         }
-        6 => frames::say::line(frames::key_line(hive, path)),
+        6 => test_frames::say::line(test_frames::key_line(hive, path)),
         7 => say::found(lookup::value_info(hive, path, name)),
         8 => {
             say::found(lookup::view_info(hive, path, name));
@@ -112,17 +112,17 @@ fn obey(
     n: usize,
 ) -> Went {
     if kind < 5 {
-        if !frames::payload(0, room, n) {
+        if !test_frames::payload(0, room, n) {
             return Went::Ended;
         }
-        let end = frames::least(n, room.len());
+        let end = test_frames::least(n, room.len());
         return Went::On(take_in(hive, path, name, &room[0..end], l, kind));
     }
-    let hive_end = frames::least(l.hive, hive.len());
-    let path_end = frames::least(l.path, path.len());
-    let name_end = frames::least(l.name, name.len());
-    let map_end = frames::least(n, map.len());
-    let out_end = frames::least(n, out.len());
+    let hive_end = test_frames::least(l.hive, hive.len());
+    let path_end = test_frames::least(l.path, path.len());
+    let name_end = test_frames::least(l.name, name.len());
+    let map_end = test_frames::least(n, map.len());
+    let out_end = test_frames::least(n, out.len());
     ask(
         &hive[0..hive_end],
         &path[0..path_end],

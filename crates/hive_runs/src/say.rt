@@ -1,9 +1,9 @@
 // What is written of each answer.
-use frames::Line;
 use lookup::Copied;
 use lookup::Info;
 use lookup::ValueFound;
-use orders::number;
+use test_frames::Line;
+use test_lines::number;
 use values::ValueData;
 
 // The bytes as one number: the hash of a name of that many one-byte characters.
@@ -32,7 +32,7 @@ fn info(i: Info) {
 pub fn found(v: ValueFound) {
     match v {
         ValueFound::At(i) => info(i),
-        ValueFound::Refused(r) => frames::say::line(Line::Refused(r)),
+        ValueFound::Refused(r) => test_frames::say::line(Line::Refused(r)),
     }
 }
 
@@ -42,6 +42,6 @@ pub fn copied(c: Copied) {
             number(b"copied ", n as u64);
             io::write_all(1, b"\n");
         }
-        Copied::Refused(r) => frames::say::line(Line::Refused(r)),
+        Copied::Refused(r) => test_frames::say::line(Line::Refused(r)),
     }
 }

@@ -23,7 +23,7 @@ use Rattle.cells.proofs.Mapped.{header-sound}
 use Rattle.records.specs.declared.Child.{Child}
 use Rattle.records.specs.Keys.{keyFault, keyOf, securityOf}
 use Rattle.records.specs.Lists.{leafFault, leafChildren, leavesOf, childrenIn, leavesBelow, childrenBelow, children}
-use Rattle.records.specs.Steps.{noChild}
+use Rattle.records.specs.Contracts.{noChild}
 use Rattle.security.specs.Descriptor.{descriptorFault}
 use Rattle.security.proofs.Descriptor.{descriptor-exactly}
 use Rattle.values.specs.Records.{valueOf}

@@ -25,7 +25,7 @@ use Rattle.records.specs.declared.Child.{Child}
 use Rattle.records.specs.declared.Name.{Name}
 use Rattle.records.specs.Keys.{keyFault, keyOf, NameIn}
 use Rattle.records.specs.Lists.{leafFault, headFault, leafChildren, leavesOf, childrenIn, children}
-use Rattle.records.specs.Steps.{noChild}
+use Rattle.records.specs.Contracts.{noChild}
 use Rattle.records.proofs.LawsKey.{name-room}
 use Rattle.values.specs.Records.{valueFault, dataIn, valueOf}
 use Rattle.values.specs.Lists.{valuesOf, valueListFault, wholeValueFault}
@@ -34,7 +34,7 @@ use Rattle.values.proofs.LawsValues.{name-inside}
 use Rattle.values.proofs.Refusals.{key-fit, key-unfit, list-fit, list-unfit, leaf-unfit, value-fit, value-unfit, value-list-unfit, value-named, data-unfit}
 use Rattle.records.proofs.Elements.{at-in}
 use Rattle.search.specs.declared.Look.{Look}
-use Rattle.search.specs.declared.Look.the-variants.{Found, Missing, Faulty}
+use Rattle.search.specs.declared.Look.the-variants.{Found, Missing, Flawed as Faulty}
 use Rattle.search.specs.Search.{onSound}
 use Rattle.search.proofs.Found.{sound-found}
 use Rattle.search.proofs.Refusals.{Each, each-found, each-missing, each-cond, each-sound, in-children}

@@ -29,7 +29,7 @@ use Rattle.records.specs.declared.Leafed.the-variants as leaf
 use Rattle.records.specs.declared.Leaves.{Leaves}
 use Rattle.records.specs.Keys.{keyFault, keyIn, keyOf, keyed}
 use Rattle.records.specs.Lists.{leafChildren, leafFault, headFault}
-use Rattle.records.specs.Steps.{leafOf, leafed, ElementsLie, childNamed, leavesAt, headed, LeavesLie, leavesNamed}
+use Rattle.records.specs.Contracts.{leafOf, leafed, ElementsLie, childNamed, leavesAt, headed, LeavesLie, leavesNamed}
 use Rattle.records.proofs.LawsKey.{key-room}
 use Rattle.records.proofs.LawsAnswer.{keyed-whole, keyed-flawed, leafed-whole, leafed-flawed, headed-whole, headed-flawed}
 use Rattle.records.proofs.LawsElements.{elements-length, element-at, elements-are}
@@ -39,7 +39,7 @@ use Rattle.values.specs.declared.Entered.the-variants as enteredAs
 use Rattle.values.specs.declared.Value.{Value}
 use Rattle.values.specs.declared.Valued.the-variants as valuedAs
 use Rattle.values.specs.Entries.{entriesOf}
-use Rattle.values.specs.Steps.{Room, entered, Lies}
+use Rattle.values.specs.Contracts.{Room, entered, Lies}
 use Rattle.values.specs.Records.{valueFault, dataIn, fieldsOf, valueOf, valued}
 use Rattle.values.specs.Segments.{lengthOf}
 use Rattle.values.specs.Lists.{valuesOf, valueListFault, valueEntries, wholeValueFault}
@@ -48,7 +48,7 @@ use Rattle.values.proofs.LawsValues.{lies}
 use Rattle.values.proofs.Rooms.{entries-length}
 use Rattle.values.proofs.Segment_faults.{entered-whole, entered-flawed}
 use Rattle.values.proofs.Valued_at.{is-whole, is-flawed}
-use Rattle.search.specs.declared.Look.the-variants.{Found, Missing, Faulty}
+use Rattle.search.specs.declared.Look.the-variants.{Found, Missing, Flawed as Faulty}
 use Rattle.lookup.specs.declared.Copied.the-variants as copied
 use Rattle.lookup.specs.declared.Info.{Info}
 use Rattle.lookup.specs.declared.ValueFound.the-variants as found

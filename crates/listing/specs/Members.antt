@@ -18,11 +18,11 @@ use Rattle.records.specs.declared.Key.{Key}
 use Rattle.records.specs.declared.Name.{Name}
 use Rattle.records.specs.Keys.{keyFault, keyOf}
 use Rattle.records.specs.Lists.{leafFault, headFault, leafChildren, leavesOf}
-use Rattle.records.specs.Steps.{noChild}
+use Rattle.records.specs.Contracts.{noChild}
 use Rattle.values.specs.Records.{valueFault, valueOf}
 use Rattle.values.specs.Lists.{valuesOf, valueListFault, wholeValueFault}
 use Rattle.search.specs.declared.Look.{Look}
-use Rattle.search.specs.declared.Look.the-variants.{Found, Missing, Faulty}
+use Rattle.search.specs.declared.Look.the-variants.{Found, Missing, Flawed as Faulty}
 use Rattle.search.specs.Search.{onSound}
 use Rattle.lookup.specs.declared.Copied.{Copied}
 use Rattle.lookup.specs.declared.ValueFound.{ValueFound}

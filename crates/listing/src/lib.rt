@@ -28,7 +28,7 @@ ghost use Rattle.fields.specs.Number.{u64At};
 ghost use Rattle.cells.specs.declared.Rule.the-variants.{Header};
 ghost use Rattle.cells.specs.Named.{dataAt};
 ghost use Rattle.records.specs.Keys.{keyFault, keyOf};
-ghost use Rattle.records.specs.Steps.{LeavesLie, leavesNamed};
+ghost use Rattle.records.specs.Contracts.{LeavesLie, leavesNamed};
 ghost use Rattle.security.specs.Descriptor.{descriptorFault};
 ghost use Rattle.values.specs.Records.{valueFault, valueOf};
 ghost use Rattle.values.specs.Segments.{dataFault};
@@ -87,7 +87,7 @@ fn nth_in(bins: &[u8], ls: Leaves, n: usize) -> Look
         let o = records::leaf_offset(bins, ls, j);
         match records::leaf_at(bins, b"", Rule::Header, o) {
             Leafed::Flawed(f) => {
-                return Look::Faulty(f);
+                return Look::Flawed(f);
             }
             Leafed::Whole(leaf) => {
                 let here = leaf.count;
@@ -113,7 +113,7 @@ fn nth_below(bins: &[u8], k: Key, n: usize) -> Look
     }
     let list = k.list;
     match records::head_at(bins, b"", Rule::Header, list) {
-        Headed::Flawed(f) => Look::Faulty(f),
+        Headed::Flawed(f) => Look::Flawed(f),
         Headed::Whole(ls) => nth_in(bins, ls, n),
     }
 }
@@ -123,7 +123,7 @@ fn subkey_below(bins: &[u8], key: Offset, k: Key, n: usize) -> Member
     ensures { λ r. ⌜ r ≡ subkeyBelow (now (bins .entry)) key k n ⌝ }
 {
     match nth_below(bins, k, n) {
-        Look::Faulty(f) => Member::Refused(fields::refused(key, f)),
+        Look::Flawed(f) => Member::Refused(fields::refused(key, f)),
         Look::Missing => Member::NoMore,
         Look::Found(c) => key_entry(bins, key, c),
     }
@@ -165,7 +165,7 @@ fn nth_of(bins: &[u8], k: Key, n: usize) -> Look
     ensures { λ r. ⌜ r ≡ nthOf (now (bins .entry)) k n ⌝ }
 {
     match values::value_list(bins, b"", Rule::Header, k) {
-        Entered::Flawed(f) => Look::Faulty(f),
+        Entered::Flawed(f) => Look::Flawed(f),
         Entered::Whole(e) => {
             if n < e.count {
                 Look::Found(values::entry(bins, e, n))
@@ -180,7 +180,7 @@ fn value_below(bins: &[u8], minor: u32, key: Offset, k: Key, n: usize) -> Member
     ensures { λ r. ⌜ r ≡ valueBelow (now (bins .entry)) minor key k n ⌝ }
 {
     match nth_of(bins, k, n) {
-        Look::Faulty(f) => Member::Refused(fields::refused(key, f)),
+        Look::Flawed(f) => Member::Refused(fields::refused(key, f)),
         Look::Missing => Member::NoMore,
         Look::Found(v) => value_entry(bins, minor, key, v),
     }

@@ -8,15 +8,15 @@ use Rattle.fields.specs.declared.Verdict.{Verdict}
 use Rattle.fields.specs.declared.Verdict.the-variants.{Sound}
 use Rattle.bitmap.specs.declared.Next.{Next}
 use Rattle.sectors.specs.Logged.{inBelow, putBelow}
-use Rattle.entries.specs.declared.Chain.{Chain}
-use Rattle.entries.specs.Entries.{chainOf}
-use Rattle.versions.specs.Versions as versions
+use Rattle.log_entries.specs.declared.Chain.{Chain}
+use Rattle.log_entries.specs.Entries.{chainOf}
+use Rattle.log_versions.specs.Versions as versions
 use Rattle.new_log.specs.Layout as new-layout
 use Rattle.new_log.specs.Tests as new-tests
 use Rattle.old_log.specs.Layout as layout
 use Rattle.old_log.specs.Tests as tests
-use Rattle.logs.specs.declared.Read.{Read}
-use Rattle.logs.specs.declared.Read.the-variants.{Old, New}
+use Rattle.logs.specs.declared.LogFormat.{LogFormat}
+use Rattle.logs.specs.declared.LogFormat.the-variants.{Old, New}
 use Rattle.logs.specs.Logs.{isNew, readOf, headFault, logFault, logBins, isLogged, loggedCount, countedOf, nextLogged, loggedPlace, logged, marksOf, applies, allIn, allPut, closingOf}
 
 module _ (l : List ℕ) where
@@ -162,13 +162,13 @@ module _ (l : List ℕ) where
 
   -- ---- a question that goes on to the crate of its format: what was read, which the code's match has told, and what such a question counts on
 
-  pub old-told : {r : Read} → r ≡ Old → r ≡ readOf l → isNew l ≡ false
+  pub old-told : {r : LogFormat} → r ≡ Old → r ≡ readOf l → isNew l ≡ false
   old-told e p = is-old (sym e ∙ p)
 
-  pub new-told : {r : Read} {c : Chain} → r ≡ New c → r ≡ readOf l → (isNew l ≡ true) × (c ≡ chainOf l)
+  pub new-told : {r : LogFormat} {c : Chain} → r ≡ New c → r ≡ readOf l → (isNew l ≡ true) × (c ≡ chainOf l)
   new-told {c = c} e p = is-new c (sym e ∙ p)
 
-  module _ {r : Read} {n : ℕ} (x : (logFault l ≡ Sound) × ((r ≡ readOf l) × (4096 + logBins l ≤ n))) where
+  module _ {r : LogFormat} {n : ℕ} (x : (logFault l ≡ Sound) × ((r ≡ readOf l) × (4096 + logBins l ≤ n))) where
     pub old-room : r ≡ Old → (tests.logFault l ≡ Sound) × (4096 + layout.logBins l ≤ n)
     old-room e = let o = old-told e (x .1 .0) in let h = x .1 .1 in (sym (old-fault o) ∙ x .0, omega (arith, h, old-bins o))
 

@@ -16,10 +16,10 @@ use Rattle.fields.proofs.Firsts.{sound, holds}
 use Rattle.base.specs.Block.{sector, xors, asStored, storedChecksum, isVersion, isBinsSize, usable, blockFault}
 use Rattle.sectors.specs.Sector.{sectorAt, page}
 use Rattle.marvin.specs.Hash.{halfRound, mixed, afterWords, stateOf, hashOf}
-use Rattle.entries.specs.declared.Chain.{Chain}
-use Rattle.entries.specs.Entries.{Entry, refBytes, isHashed, apartFrom, areRefs, isEntry, countedFrom, counted, grown, noChain, chainFrom, chainOf}
-use Rattle.versions.specs.declared.Version.{Version}
-use Rattle.versions.specs.Versions as of-version
+use Rattle.log_entries.specs.declared.Chain.{Chain}
+use Rattle.log_entries.specs.Entries.{Entry, refBytes, isHashed, apartFrom, areRefs, isEntry, countedFrom, counted, grown, noChain, chainFrom, chainOf}
+use Rattle.log_versions.specs.declared.Version.{Version}
+use Rattle.log_versions.specs.Versions as of-version
 use Rattle.new_log.specs.Layout as new-layout
 use Rattle.new_log.specs.Tests as new-tests
 use Rattle.new_log.proofs.Accepts as new-accepts

@@ -17,7 +17,7 @@ use Rattle.bitmap.specs.Bits.{isMarked}
 use Rattle.bitmap.proofs.Laws as bits
 use Rattle.sectors.specs.Sector.{sectorAt, page, Bytes}
 use Rattle.sectors.proofs.Logged.{below-in, in-below}
-use Rattle.versions.specs.Versions as versions
+use Rattle.log_versions.specs.Versions as versions
 use Rattle.new_log.specs.Layout as new-layout
 use Rattle.new_log.specs.Tests as new-tests
 use Rattle.new_log.proofs.Accepts as new-accepts

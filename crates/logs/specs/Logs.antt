@@ -11,8 +11,8 @@ use Rattle.fields.specs.Number.{u32At}
 use Rattle.base.specs.Block.{sector, typeOf}
 use Rattle.bitmap.specs.declared.Next.{Next}
 use Rattle.sectors.specs.Logged.{inBelow, putBelow}
-use Rattle.entries.specs.Entries.{chainOf}
-use Rattle.versions.specs.Versions as versions
+use Rattle.log_entries.specs.Entries.{chainOf}
+use Rattle.log_versions.specs.Versions as versions
 use Rattle.new_log.specs.Layout as new-layout
 use Rattle.new_log.specs.Tests as new-tests
 use Rattle.old_log.specs.Layout as layout
@@ -20,8 +20,8 @@ use Rattle.old_log.specs.Tests as tests
 use Rattle.logs.specs.declared.Facts.{Facts}
 use Rattle.logs.specs.declared.Head.{Head}
 use Rattle.logs.specs.declared.Head.the-variants as head
-use Rattle.logs.specs.declared.Read.{Read}
-use Rattle.logs.specs.declared.Read.the-variants.{Old, New}
+use Rattle.logs.specs.declared.LogFormat.{LogFormat}
+use Rattle.logs.specs.declared.LogFormat.the-variants.{Old, New}
 use Rattle.logs.specs.declared.Tested.{Tested}
 use Rattle.logs.specs.declared.Tested.the-variants.{Logged, Flawed}
 
@@ -30,7 +30,7 @@ unfoldable pub isNew : List ℕ → Bool
 isNew l = leb 512 (length l) && eqb (typeOf (sector l)) 6
 
 -- what every question needs of it
-unfoldable pub readOf : List ℕ → Read
+unfoldable pub readOf : List ℕ → LogFormat
 readOf l = cond (isNew l) (New (chainOf l)) Old
 
 -- ---- its own tests
@@ -40,7 +40,7 @@ unfoldable pub headFault : List ℕ → Verdict
 headFault l = cond (isNew l) (new-tests.logFault l) (tests.headFault l)
 
 -- these tests give its flaw, or what was read
-abbrev pub headed : Verdict → Read → Head
+abbrev pub headed : Verdict → LogFormat → Head
 headed verdict.Sound r = head.Good r
 headed (verdict.Flawed f) r = head.Flawed f
 
@@ -89,12 +89,12 @@ unfoldable pub countedOf : List ℕ → ℕ
 countedOf l = cond (isNew l) 0 (layout.loggedCount l)
 
 -- all tests give its flaw, or what was read and what they counted
-abbrev pub tested : Verdict → Read → ℕ → Tested
+abbrev pub tested : Verdict → LogFormat → ℕ → Tested
 tested verdict.Sound r n = Logged r n
 tested (verdict.Flawed f) r n = Flawed f
 
 -- what it says of itself: how many entries count, the first and the last number, where the last entry ends, and the bins size that 24 reads
-abbrev pub factsIn : Read → ℕ → ℕ → Facts
+abbrev pub factsIn : LogFormat → ℕ → ℕ → Facts
 factsIn Old n bins = record { entries = 0; first = n; last = n; end = 512; bins = bins }
 factsIn (New c) n bins = record { entries = c .entries; first = n; last = c .last; end = c .end; bins = bins }
 

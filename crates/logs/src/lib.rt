@@ -1,10 +1,10 @@
 // A log, whatever its format: its own tests, its pages, what it says of a hive, and the repair's stores.
 // What the tests have read of the log is handed to each question, so that a call reads the log once.
 use bitmap::Next;
-use entries::Chain;
 use fields::Flaw;
 use fields::Place;
 use fields::Verdict;
+use log_entries::Chain;
 ghost use mathlib.Core.Path.{_≡_};
 ghost use mathlib.Core.Bool.{true};
 ghost use mathlib.Core.List.{_++_};
@@ -14,28 +14,28 @@ ghost use Rattle.fields.specs.declared.Verdict.the-variants.{Sound};
 ghost use Rattle.sectors.specs.Sector.{stored};
 ghost use Rattle.base.specs.Block.{sector};
 ghost use Rattle.fields.specs.Number.{u32At};
-ghost use Rattle.entries.specs.Entries.{chainOf};
+ghost use Rattle.log_entries.specs.Entries.{chainOf};
 ghost use Rattle.new_log.specs.Tests as newTests;
 ghost use Rattle.old_log.specs.Layout as oldLayout;
 ghost use Rattle.old_log.specs.Tests as oldTests;
-ghost use Rattle.logs.specs.declared.Read.the-variants as format;
+ghost use Rattle.logs.specs.declared.LogFormat.the-variants as format;
 ghost use Rattle.logs.specs.Logs.{isNew, readOf, headFault, headed, logFault, logBins, pageCount, isLogged, loggedCount, countedOf, nextLogged, loggedPlace, marksOf, factsOf, tested, applies as appliesTo, allIn, allPut, closingOf};
 
 // What one pass over a log finds that every question needs: its format, and the entries of a new one.
-pub enum Read {
+pub enum LogFormat {
     Old,
     New(Chain),
 }
 
 // What the tests give after which the log's pages are known.
 pub enum Head {
-    Good(Read),
+    Good(LogFormat),
     Flawed(Flaw),
 }
 
 // What all of its own tests give: what was read, and how many pages they have counted, or its flaw.
 pub enum Tested {
-    Logged { read: Read, counted: usize },
+    Logged { read: LogFormat, counted: usize },
     Flawed(Flaw),
 }
 
@@ -65,7 +65,7 @@ fn old_head(log: &[u8]) -> Head
 {
     match old_log::head_flaw(log) {
         Verdict::Flawed(f) => Head::Flawed(f),
-        Verdict::Sound => Head::Good(Read::Old),
+        Verdict::Sound => Head::Good(LogFormat::Old),
     }
 }
 
@@ -74,7 +74,7 @@ fn new_head(log: &[u8]) -> Head
 {
     match new_log::read(log) {
         new_log::Head::Flawed(f) => Head::Flawed(f),
-        new_log::Head::Good(chain) => Head::Good(Read::New(chain)),
+        new_log::Head::Good(chain) => Head::Good(LogFormat::New(chain)),
     }
 }
 
@@ -93,7 +93,7 @@ fn old_test(log: &[u8]) -> Tested
 {
     match old_log::log_test(log) {
         old_log::Tested::Logged(n) => Tested::Logged {
-            read: Read::Old,
+            read: LogFormat::Old,
             counted: n,
         },
         old_log::Tested::Flawed(f) => Tested::Flawed(f),
@@ -123,66 +123,66 @@ pub fn log_test(log: &[u8]) -> Tested
 // ---- its pages, once the tests are passed
 
 // The bins size that 24 reads.
-pub fn bins_size(log: &[u8], read: Read) -> usize
+pub fn bins_size(log: &[u8], read: LogFormat) -> usize
     requires { ⌜ logFault (now log) ≡ Sound ⌝ }
     requires { ⌜ read ≡ readOf (now log) ⌝ }
     ensures { λ r. ⌜ (r ≡ logBins (now (log .entry))) × (r < 4294967296) ⌝ }
 {
     match read {
-        Read::Old => old_log::bins_size(log),
-        Read::New(chain) => chain.largest,
+        LogFormat::Old => old_log::bins_size(log),
+        LogFormat::New(chain) => chain.largest,
     }
 }
 
-pub fn is_logged(log: &[u8], read: Read, page: usize) -> bool
+pub fn is_logged(log: &[u8], read: LogFormat, page: usize) -> bool
     requires { ⌜ logFault (now log) ≡ Sound ⌝ }
     requires { ⌜ read ≡ readOf (now log) ⌝ }
     ensures { λ r. ⌜ r ≡ isLogged (now (log .entry)) page ⌝ }
 {
     match read {
-        Read::Old => old_log::is_logged(log, page),
-        Read::New(chain) => new_log::is_logged(log, chain, page),
+        LogFormat::Old => old_log::is_logged(log, page),
+        LogFormat::New(chain) => new_log::is_logged(log, chain, page),
     }
 }
 
-pub fn next_logged(log: &[u8], read: Read, from: usize) -> Next
+pub fn next_logged(log: &[u8], read: LogFormat, from: usize) -> Next
     requires { ⌜ headFault (now log) ≡ Sound ⌝ }
     requires { ⌜ read ≡ readOf (now log) ⌝ }
     ensures { λ r. ⌜ r ≡ nextLogged (now (log .entry)) from ⌝ }
 {
     match read {
-        Read::Old => old_log::next_logged(log, from),
-        Read::New(chain) => new_log::next_logged(log, chain, from),
+        LogFormat::Old => old_log::next_logged(log, from),
+        LogFormat::New(chain) => new_log::next_logged(log, chain, from),
     }
 }
 
 // Where the last version of a logged page lies in the log.
-pub fn logged_place(log: &[u8], read: Read, page: usize) -> Place
+pub fn logged_place(log: &[u8], read: LogFormat, page: usize) -> Place
     requires { ⌜ logFault (now log) ≡ Sound ⌝ }
     requires { ⌜ read ≡ readOf (now log) ⌝ }
     requires { ⌜ isLogged (now log) page ≡ true ⌝ }
     ensures { λ r. ⌜ r .0 ≡ loggedPlace (now (log .entry)) page ⌝ }
 {
     match read {
-        Read::Old => old_log::logged_place(log, page),
-        Read::New(chain) => new_log::logged_place(log, chain, page),
+        LogFormat::Old => old_log::logged_place(log, page),
+        LogFormat::New(chain) => new_log::logged_place(log, chain, page),
     }
 }
 
 // How many pages are logged: what the tests have counted, where they have.
-pub fn logged_count(log: &[u8], read: Read, counted: usize) -> usize
+pub fn logged_count(log: &[u8], read: LogFormat, counted: usize) -> usize
     requires { ⌜ read ≡ readOf (now log) ⌝ }
     requires { ⌜ counted ≡ countedOf (now log) ⌝ }
     ensures { λ r. ⌜ r ≡ loggedCount (now (log .entry)) ⌝ }
 {
     match read {
-        Read::Old => counted,
-        Read::New(chain) => new_log::logged_count(log, chain),
+        LogFormat::Old => counted,
+        LogFormat::New(chain) => new_log::logged_count(log, chain),
     }
 }
 
 // Marks every logged page in a bitmap, and tells how many they are.
-pub fn mark(log: &[u8], read: Read, counted: usize, map: &mut [u8]) -> usize
+pub fn mark(log: &[u8], read: LogFormat, counted: usize, map: &mut [u8]) -> usize
     requires { ⌜ logFault (now log) ≡ Sound ⌝ }
     requires { ⌜ read ≡ readOf (now log) ⌝ }
     requires { ⌜ counted ≡ countedOf (now log) ⌝ }
@@ -191,11 +191,11 @@ pub fn mark(log: &[u8], read: Read, counted: usize, map: &mut [u8]) -> usize
     ensures { λ _. ⌜ now (map .exit) ≡ marksOf (now (log .entry)) ++ drop (pageCount (now (log .entry)) / 8) (now (map .entry)) ⌝ }
 {
     match read {
-        Read::Old => {
+        LogFormat::Old => {
             old_log::mark(log, map);
             counted
         }
-        Read::New(chain) => new_log::mark(log, chain, map),
+        LogFormat::New(chain) => new_log::mark(log, chain, map),
     }
 }
 
@@ -207,7 +207,7 @@ fn number_of(log: &[u8]) -> u32
     fields::u32_at(&log[0..512], 4)
 }
 
-pub fn facts_of(log: &[u8], read: Read) -> Facts
+pub fn facts_of(log: &[u8], read: LogFormat) -> Facts
     requires { ⌜ logFault (now log) ≡ Sound ⌝ }
     requires { ⌜ read ≡ readOf (now log) ⌝ }
     ensures { λ r. ⌜ r ≡ factsOf (now (log .entry)) ⌝ }
@@ -215,14 +215,14 @@ pub fn facts_of(log: &[u8], read: Read) -> Facts
     let first = number_of(log);
     let bins = bins_size(log, read);
     match read {
-        Read::Old => Facts {
+        LogFormat::Old => Facts {
             entries: 0,
             first,
             last: first,
             end: 512,
             bins,
         },
-        Read::New(chain) => Facts {
+        LogFormat::New(chain) => Facts {
             entries: chain.entries,
             first,
             last: chain.last,
@@ -235,55 +235,55 @@ pub fn facts_of(log: &[u8], read: Read) -> Facts
 // ---- what it says of a hive that is long enough for it
 
 // Whether it is a log of this hive.
-pub fn applies(hive: &[u8], log: &[u8], read: Read) -> bool
+pub fn applies(hive: &[u8], log: &[u8], read: LogFormat) -> bool
     requires { ⌜ logFault (now log) ≡ Sound ⌝ }
     requires { ⌜ read ≡ readOf (now log) ⌝ }
     requires { ⌜ 4096 + logBins (now log) ≤ length (now hive) ⌝ }
     ensures { λ r. ⌜ r ≡ appliesTo (now (hive .entry)) (now (log .entry)) ⌝ }
 {
     match read {
-        Read::Old => old_log::stamps_agree(hive, log),
-        Read::New(chain) => new_log::applies(hive, log, chain),
+        LogFormat::Old => old_log::stamps_agree(hive, log),
+        LogFormat::New(chain) => new_log::applies(hive, log, chain),
     }
 }
 
 // Whether every logged page is in.
-pub fn all_in(hive: &[u8], log: &[u8], read: Read) -> bool
+pub fn all_in(hive: &[u8], log: &[u8], read: LogFormat) -> bool
     requires { ⌜ logFault (now log) ≡ Sound ⌝ }
     requires { ⌜ read ≡ readOf (now log) ⌝ }
     requires { ⌜ 4096 + logBins (now log) ≤ length (now hive) ⌝ }
     ensures { λ r. ⌜ r ≡ allIn (now (hive .entry)) (now (log .entry)) ⌝ }
 {
     match read {
-        Read::Old => old_log::all_in(hive, log),
-        Read::New(chain) => new_log::all_in(hive, log, chain),
+        LogFormat::Old => old_log::all_in(hive, log),
+        LogFormat::New(chain) => new_log::all_in(hive, log, chain),
     }
 }
 
 // ---- the repair's stores
 
 // Puts every logged page in.
-pub fn put_all(hive: &mut [u8], log: &[u8], read: Read)
+pub fn put_all(hive: &mut [u8], log: &[u8], read: LogFormat)
     requires { ⌜ logFault (now log) ≡ Sound ⌝ }
     requires { ⌜ read ≡ readOf (now log) ⌝ }
     requires { ⌜ 4096 + logBins (now log) ≤ length (now hive) ⌝ }
     ensures { λ _. ⌜ now (hive .exit) ≡ allPut (now (hive .entry)) (now (log .entry)) ⌝ }
 {
     match read {
-        Read::Old => old_log::put_all(hive, log),
-        Read::New(chain) => new_log::put_all(hive, log, chain),
+        LogFormat::Old => old_log::put_all(hive, log),
+        LogFormat::New(chain) => new_log::put_all(hive, log, chain),
     }
 }
 
 // Writes the closing sector to the hive's first 512 bytes.
-pub fn store_closing(hive: &mut [u8], log: &[u8], read: Read)
+pub fn store_closing(hive: &mut [u8], log: &[u8], read: LogFormat)
     requires { ⌜ logFault (now log) ≡ Sound ⌝ }
     requires { ⌜ read ≡ readOf (now log) ⌝ }
     requires { ⌜ 512 ≤ length (now hive) ⌝ }
     ensures { λ _. ⌜ now (hive .exit) ≡ stored (now (hive .entry)) 0 (closingOf (now (log .entry))) ⌝ }
 {
     match read {
-        Read::Old => sectors::store_closing(hive, log),
-        Read::New(chain) => new_log::store_closing(hive, log, chain),
+        LogFormat::Old => sectors::store_closing(hive, log),
+        LogFormat::New(chain) => new_log::store_closing(hive, log, chain),
     }
 }

@@ -22,7 +22,7 @@ use Rattle.values.specs.declared.ValueData.the-variants.{Inline, OneCell, Segme
 use Rattle.values.specs.Records.{dataIn, fieldsOf, valueOf}
 use Rattle.values.specs.Segments.{dataFault, bytesOf, lengthOf}
 use Rattle.values.specs.Parts.{partOf}
-use Rattle.values.specs.Steps.{Lies}
+use Rattle.values.specs.Contracts.{Lies}
 use Rattle.values.proofs.LawsData.{isOne, part-whole, part-lies}
 use Rattle.values.proofs.LawsValues.{lies as data-lies}
 use Rattle.paths.specs.declared.KeyFound.the-variants as found
@@ -32,7 +32,7 @@ use Rattle.search.specs.declared.How.{How}
 use Rattle.lookup.specs.declared.Copied.the-variants.{Done, Refused as Uncopied}
 use Rattle.lookup.specs.declared.Info.{Info}
 use Rattle.lookup.specs.declared.Spot.{Spot}
-use Rattle.lookup.specs.declared.Spot.the-variants.{Found, Missing, Faulty}
+use Rattle.lookup.specs.declared.Spot.the-variants.{Found, Missing, Refused as Faulty}
 use Rattle.lookup.specs.declared.ValueFound.{ValueFound}
 use Rattle.lookup.specs.declared.ValueFound.the-variants.{At, Refused}
 use Rattle.lookup.specs.Answers.{valueLookBy, placeIn, infoOf, viewFault, infoWhere, valueFound, infoBy, viewBy, viewStartBy, viewBytesBy, copiedTo, keyAsked, copyBy, written, copyOutBy}

@@ -31,7 +31,7 @@ use Rattle.paths.specs.declared.KeyFound.{KeyFound}
 use Rattle.paths.specs.declared.KeyFound.the-variants.{At, Refused}
 use Rattle.search.specs.declared.How.{How}
 use Rattle.search.specs.declared.Look.{Look}
-use Rattle.search.specs.declared.Look.the-variants.{Found, Missing, Faulty}
+use Rattle.search.specs.declared.Look.the-variants.{Found, Missing, Flawed as Faulty}
 use Rattle.paths.specs.declared.Way.{Way}
 use Rattle.paths.specs.declared.Way.the-variants as way
 use Rattle.paths.specs.Answers.{keyLookBy, keyFound, findBy}
@@ -120,7 +120,7 @@ module _ (how : How) (h us x : List ℕ) where
           → Because P r
       by (way.Found o) p q = in-key o p _ refl q
       by (way.Missing k) p q = let z : refusalOf k (flaw NoKey nowhere) ≡ r = cc in early (ap keyFound p ∙ ap Refused z)
-      by (way.Faulty g) p q = let z : g ≡ r = cc in early (ap keyFound p ∙ ap Refused z)
+      by (way.Refused g) p q = let z : g ≡ r = cc in early (ap keyFound p ∙ ap Refused z)
 
   where-refuses : (P : Offset → Flaw → Type 0) (k : Offset) (v : Verdict) (i : Info) → Every (P k) v → (r : Refusal) → infoWhere k v i ≡ Unvalued r → Because P r
   where-refuses P k Sound i p r q = absurd (let z : _≡_ {A = ℕ} 0 1 = cc in omega arith)

@@ -12,13 +12,13 @@ use Rattle.records.specs.declared.Key.{Key}
 use Rattle.records.specs.declared.Keyed.the-variants as key
 use Rattle.records.specs.Keys.{keyFault, keyOf, keyed}
 use Rattle.records.proofs.LawsAnswer.{keyed-whole, keyed-flawed}
-use Rattle.lookup.specs.declared.Spot.the-variants.{Faulty}
+use Rattle.lookup.specs.declared.Spot.the-variants.{Refused}
 use Rattle.lookup.specs.Search.{lookupValue}
 use Rattle.lookup.specs.Answers.{inKey}
 use Rattle.lookup.specs.Spots.{spotIn, spotOf}
 
 module _ (d : List ℕ) (minor : ℕ) (o : Offset) (x : List ℕ) where
-  pub spot-bad : {f : Flaw} → keyed (keyFault Header d [] o) (keyOf d o) ≡ key.Flawed f → spotIn d minor o x ≡ Faulty (refusalOf noKey f)
+  pub spot-bad : {f : Flaw} → keyed (keyFault Header d [] o) (keyOf d o) ≡ key.Flawed f → spotIn d minor o x ≡ Refused (refusalOf noKey f)
   unfolding spotIn
   spot-bad e = rw (keyed-flawed (keyFault Header d [] o) _ e)
 
@@ -27,7 +27,7 @@ module _ (d : List ℕ) (minor : ℕ) (o : Offset) (x : List ℕ) where
   spot-on e = let w = keyed-whole (keyFault Header d [] o) _ e in rw (w .0, w .1)
 
 module _ (h : List ℕ) (o : Offset) (x : List ℕ) where
-  pub spot-stop : {f : Flaw} → baseFault h ≡ Flawed f → spotOf h o x ≡ Faulty (refusalOf noKey f)
+  pub spot-stop : {f : Flaw} → baseFault h ≡ Flawed f → spotOf h o x ≡ Refused (refusalOf noKey f)
   unfolding spotOf
   spot-stop e = rw e
 

@@ -24,7 +24,7 @@ use Rattle.values.specs.Lists.{valuesOf, valueListFault, wholeValueFault, value
 use Rattle.tree.specs.WellFormed.{ValuesStand}
 use Rattle.tree.proofs.Stands.{of-value, of-values}
 use Rattle.search.specs.declared.Look.{Look}
-use Rattle.search.specs.declared.Look.the-variants.{Found, Missing, Faulty}
+use Rattle.search.specs.declared.Look.the-variants.{Found, Missing, Flawed as Faulty}
 use Rattle.search.specs.Search.{onSound, orElse, firstOf}
 use Rattle.lookup.specs.Search.{valueNamed, searchValues, lookupValue}
 use Rattle.lookup.specs.Reach.{FirstNamed, first, later}

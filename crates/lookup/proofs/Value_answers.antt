@@ -20,7 +20,7 @@ use Rattle.values.specs.Lists.{wholeValueFault}
 use Rattle.values.proofs.Valued_at.{is-whole, is-flawed, whole-stop, whole-on}
 use Rattle.search.specs.declared.How.{How}
 use Rattle.lookup.specs.declared.Info.{Info}
-use Rattle.lookup.specs.declared.Spot.the-variants.{Found, Missing, Faulty}
+use Rattle.lookup.specs.declared.Spot.the-variants.{Found, Missing, Refused as Faulty}
 use Rattle.lookup.specs.declared.ValueFound.the-variants.{At, Refused}
 use Rattle.lookup.specs.Answers.{valueLookBy, infoOf, viewFault, viewedFault, infoWhere, infoBy, viewBy}
 use Rattle.lookup.proofs.Value_searches.{value-facts}

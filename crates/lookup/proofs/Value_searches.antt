@@ -20,7 +20,7 @@ use Rattle.values.specs.declared.Entered.the-variants as enteredAs
 use Rattle.values.specs.declared.Value.{Value}
 use Rattle.values.specs.declared.Valued.the-variants as valuedAs
 use Rattle.values.specs.Entries.{entriesOf}
-use Rattle.values.specs.Steps.{Room, entered}
+use Rattle.values.specs.Contracts.{Room, entered}
 use Rattle.values.specs.Records.{valueFault, valueOf, valued}
 use Rattle.values.specs.Lists.{valuesOf, valueListFault, valueEntries}
 use Rattle.values.proofs.LawsLists.{list-room, list-values}
@@ -29,7 +29,7 @@ use Rattle.values.proofs.Segment_faults.{entered-whole, entered-flawed}
 use Rattle.values.proofs.Valued_at.{is-whole, is-flawed}
 use Rattle.search.specs.declared.How.{How}
 use Rattle.search.specs.declared.Look.{Look}
-use Rattle.search.specs.declared.Look.the-variants.{Found, Missing, Faulty}
+use Rattle.search.specs.declared.Look.the-variants.{Found, Missing, Flawed as Faulty}
 use Rattle.paths.specs.declared.Way.{Way}
 use Rattle.paths.specs.declared.Way.the-variants as way
 use Rattle.paths.specs.Answers.{keyLookBy}
@@ -86,11 +86,11 @@ in-found o (Faulty f) e = absurd (let z : _≡_ {A = ℕ} 0 1 = cc in omega arit
 
 -- in a hive
 module _ (how : How) (h us x : List ℕ) where
-  pub value-faulty : {r : Refusal} → keyLookBy how h us ≡ way.Faulty r → valueLookBy how h us x ≡ spot.Faulty r
+  pub value-faulty : {r : Refusal} → keyLookBy how h us ≡ way.Refused r → valueLookBy how h us x ≡ spot.Refused r
   unfolding valueLookBy
   value-faulty e = rw e
 
-  pub value-keyless : {k : Offset} → keyLookBy how h us ≡ way.Missing k → valueLookBy how h us x ≡ spot.Faulty (refusalOf k (flaw NoKey nowhere))
+  pub value-keyless : {k : Offset} → keyLookBy how h us ≡ way.Missing k → valueLookBy how h us x ≡ spot.Refused (refusalOf k (flaw NoKey nowhere))
   unfolding valueLookBy
   value-keyless e = rw e
 
@@ -111,7 +111,7 @@ module _ (how : How) (h us x : List ℕ) where
           let f = in-found o (lookupValue (binsData h) (minorOf (sector h)) x (keyOf (binsData h) o)) q in
           (p ∙ ap way.Found (f .0), subst (λ (y : Offset). lookupValue (binsData h) (minorOf (sector h)) x (keyOf (binsData h) y) ≡ Found v) (f .0) (f .1))
       by (way.Missing y) p q = absurd (let z : _≡_ {A = ℕ} 0 1 = cc in omega arith)
-      by (way.Faulty f) p q = absurd (let z : _≡_ {A = ℕ} 0 1 = cc in omega arith)
+      by (way.Refused f) p q = absurd (let z : _≡_ {A = ℕ} 0 1 = cc in omega arith)
 
   pub value-facts : {k v : Offset} → valueLookBy how h us x ≡ spot.Found k v → (baseFault h ≡ Sound) × (valueFault Header (binsData h) [] v ≡ Sound)
   value-facts {k} {v} e =

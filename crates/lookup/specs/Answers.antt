@@ -35,7 +35,7 @@ use Rattle.lookup.specs.declared.Copied.{Copied}
 use Rattle.lookup.specs.declared.Copied.the-variants.{Done, Refused as Uncopied}
 use Rattle.lookup.specs.declared.Info.{Info}
 use Rattle.lookup.specs.declared.Spot.{Spot}
-use Rattle.lookup.specs.declared.Spot.the-variants.{Found, Missing, Faulty}
+use Rattle.lookup.specs.declared.Spot.the-variants.{Found, Missing, Refused as Faulty}
 use Rattle.lookup.specs.declared.ValueFound.{ValueFound}
 use Rattle.lookup.specs.declared.ValueFound.the-variants.{At as ValueAt, Refused as Unvalued}
 use Rattle.lookup.specs.Search.{lookupValue}
@@ -44,13 +44,13 @@ use Rattle.lookup.specs.Search.{lookupValue}
 abbrev pub inKey : Offset → Look → Spot
 inKey k (look.Found v) = Found k v
 inKey k look.Missing = Missing k
-inKey k (look.Faulty f) = Faulty (refusalOf k f)
+inKey k (look.Flawed f) = Faulty (refusalOf k f)
 
 -- what a value call does with the key: where there is none, 17
 abbrev pub onKey : Way → (Offset → Look) → Spot
 onKey (way.Found o) go = inKey o (go o)
 onKey (way.Missing k) go = Faulty (refusalOf k (flaw NoKey nowhere))
-onKey (way.Faulty r) go = Faulty r
+onKey (way.Refused r) go = Faulty r
 
 -- the value of that name, of the key of that path by either search
 unfoldable pub valueLookBy : How → List ℕ → List ℕ → List ℕ → Spot

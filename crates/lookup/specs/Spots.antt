@@ -11,7 +11,7 @@ use Rattle.base.specs.Block.{sector, minorOf, binsData, baseFault}
 use Rattle.cells.specs.declared.Rule.the-variants.{Header}
 use Rattle.records.specs.Keys.{keyFault, keyOf}
 use Rattle.lookup.specs.declared.Spot.{Spot}
-use Rattle.lookup.specs.declared.Spot.the-variants.{Found, Missing, Faulty}
+use Rattle.lookup.specs.declared.Spot.the-variants.{Found, Missing, Refused as Faulty}
 use Rattle.lookup.specs.declared.Spotted.{Spotted}
 use Rattle.lookup.specs.declared.Spotted.the-variants.{At, Refused}
 use Rattle.lookup.specs.Search.{lookupValue}

@@ -26,11 +26,11 @@ ghost use Rattle.fields.specs.declared.Verdict.the-variants.{Sound};
 ghost use Rattle.base.specs.Block.{binsData, baseFault};
 ghost use Rattle.cells.specs.declared.Rule.the-variants.{Header};
 ghost use Rattle.values.specs.Entries.{entriesOf};
-ghost use Rattle.values.specs.Steps.{Room, Lies};
+ghost use Rattle.values.specs.Contracts.{Room, Lies};
 ghost use Rattle.values.specs.Records.{valueOf};
 ghost use Rattle.values.specs.Segments.{dataFault, lengthOf};
 ghost use Rattle.values.specs.Lists.{wholeValueFault};
-ghost use Rattle.paths.specs.Steps.{childAnswer, quickChild};
+ghost use Rattle.paths.specs.Children.{childAnswer, quickChild};
 ghost use Rattle.lookup.specs.Search.{valueNamed, searchValues, lookupValue};
 ghost use Rattle.lookup.specs.Spots.{spotIn, spotOf, spotAnswer};
 ghost use Rattle.fields.specs.declared.Fault.the-variants.{NoValue};
@@ -42,7 +42,7 @@ fn value_named(bins: &[u8], minor: u32, name: &[u16], v: Offset) -> Look
     ensures { λ r. ⌜ r ≡ valueNamed (now (bins .entry)) minor (now (name .entry)) v ⌝ }
 {
     match values::value_at(bins, b"", Rule::Header, minor, v) {
-        Valued::Flawed(f) => Look::Faulty(f),
+        Valued::Flawed(f) => Look::Flawed(f),
         Valued::Whole(x) => {
             let stored = x.name;
             if records::is_called(bins, stored, name) {
@@ -68,8 +68,8 @@ fn search_values(bins: &[u8], minor: u32, name: &[u16], e: Entries) -> Look
             Look::Found(o) => {
                 return Look::Found(o);
             }
-            Look::Faulty(f) => {
-                return Look::Faulty(f);
+            Look::Flawed(f) => {
+                return Look::Flawed(f);
             }
         }
         n += 1;
@@ -82,7 +82,7 @@ fn lookup_value(bins: &[u8], minor: u32, name: &[u16], k: Key) -> Look
     ensures { λ r. ⌜ r ≡ lookupValue (now (bins .entry)) minor (now (name .entry)) k ⌝ }
 {
     match values::value_list(bins, b"", Rule::Header, k) {
-        Entered::Flawed(f) => Look::Faulty(f),
+        Entered::Flawed(f) => Look::Flawed(f),
         Entered::Whole(e) => search_values(bins, minor, name, e),
     }
 }
@@ -91,7 +91,7 @@ fn lookup_value(bins: &[u8], minor: u32, name: &[u16], k: Key) -> Look
 pub enum Spot {
     Found(Offset, Offset),
     Missing(Offset),
-    Faulty(Refusal),
+    Refused(Refusal),
 }
 
 // A search among the values of a key is made on behalf of that key.
@@ -101,7 +101,7 @@ fn in_key(key: Offset, l: Look) -> Spot
     match l {
         Look::Found(v) => Spot::Found(key, v),
         Look::Missing => Spot::Missing(key),
-        Look::Faulty(f) => Spot::Faulty(fields::refused(key, f)),
+        Look::Flawed(f) => Spot::Refused(fields::refused(key, f)),
     }
 }
 
@@ -110,8 +110,8 @@ fn value_look(hive: &[u8], path: &[u16], name: &[u16], how: How) -> Spot
     ensures { λ r. ⌜ r ≡ valueLookBy how (now (hive .entry)) (now (path .entry)) (now (name .entry)) ⌝ }
 {
     match paths::key_look(hive, path, how) {
-        Way::Faulty(r) => Spot::Faulty(r),
-        Way::Missing(key) => Spot::Faulty(fields::refused(
+        Way::Refused(r) => Spot::Refused(r),
+        Way::Missing(key) => Spot::Refused(fields::refused(
             key,
             Flaw {
                 fault: Fault::NoKey,
@@ -219,7 +219,7 @@ fn info_by(hive: &[u8], path: &[u16], name: &[u16], how: How) -> ValueFound
     match value_look(hive, path, name, how) {
         Spot::Found(key, v) => whole_info(base::bins_of(hive), base::minor_of(hive), key, v),
         Spot::Missing(key) => ValueFound::Refused(no_value(key)),
-        Spot::Faulty(r) => ValueFound::Refused(r),
+        Spot::Refused(r) => ValueFound::Refused(r),
     }
 }
 
@@ -243,7 +243,7 @@ fn viewed_by(hive: &[u8], path: &[u16], name: &[u16], how: How) -> ValueFound
     match value_look(hive, path, name, how) {
         Spot::Found(key, v) => view_at(base::bins_of(hive), base::minor_of(hive), key, v),
         Spot::Missing(key) => ValueFound::Refused(no_value(key)),
-        Spot::Faulty(r) => ValueFound::Refused(r),
+        Spot::Refused(r) => ValueFound::Refused(r),
     }
 }
 
@@ -323,7 +323,7 @@ fn copy_by(hive: &[u8], path: &[u16], name: &[u16], out: &mut [u8], how: How) ->
 {
     match value_look(hive, path, name, how) {
         Spot::Missing(key) => Copied::Refused(no_value(key)),
-        Spot::Faulty(r) => Copied::Refused(r),
+        Spot::Refused(r) => Copied::Refused(r),
         Spot::Found(key, v) => {
             match whole_info(base::bins_of(hive), base::minor_of(hive), key, v) {
                 ValueFound::Refused(r) => Copied::Refused(r),
@@ -367,7 +367,7 @@ fn spot_in(bins: &[u8], minor: u32, key: Offset, name: &[u16]) -> Spot
     ensures { λ r. ⌜ r ≡ spotIn (now (bins .entry)) minor key (now (name .entry)) ⌝ }
 {
     match records::key_at(bins, b"", Rule::Header, key) {
-        Keyed::Flawed(f) => Spot::Faulty(fields::refused(Offset(fields::NO_KEY), f)),
+        Keyed::Flawed(f) => Spot::Refused(fields::refused(Offset(fields::NO_KEY), f)),
         Keyed::Whole(k) => in_key(key, lookup_value(bins, minor, name, k)),
     }
 }
@@ -376,7 +376,7 @@ fn spot_of(hive: &[u8], key: Offset, name: &[u16]) -> Spot
     ensures { λ r. ⌜ r ≡ spotOf (now (hive .entry)) key (now (name .entry)) ⌝ }
 {
     match base::base_flaw(hive) {
-        Verdict::Flawed(f) => Spot::Faulty(fields::refused(Offset(fields::NO_KEY), f)),
+        Verdict::Flawed(f) => Spot::Refused(fields::refused(Offset(fields::NO_KEY), f)),
         Verdict::Sound => spot_in(base::bins_of(hive), base::minor_of(hive), key, name),
     }
 }
@@ -394,6 +394,6 @@ pub fn value_of(hive: &[u8], key: Offset, name: &[u16]) -> Spotted
     match spot_of(hive, key, name) {
         Spot::Found(_, v) => Spotted::At(v),
         Spot::Missing(k) => Spotted::Refused(no_value(k)),
-        Spot::Faulty(r) => Spotted::Refused(r),
+        Spot::Refused(r) => Spotted::Refused(r),
     }
 }

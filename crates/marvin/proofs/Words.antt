@@ -5,7 +5,7 @@ use mathlib.Core.Path.{_≡_, refl, ap, _∙_}
 use mathlib.Core.List.{List}
 use Rattle.marvin.specs.declared.Marvin.{Marvin}
 use Rattle.marvin.specs.Hash.{mixed, afterWords}
-use Rattle.marvin.specs.Steps.{fourMixed}
+use Rattle.marvin.specs.Contracts.{fourMixed}
 
 module _ (s : Marvin) (m : List ℕ) where
   pub after-four : (n i : ℕ) → i ≡ 4 * n → fourMixed (afterWords s m n) m i ≡ afterWords s m (n + 4)

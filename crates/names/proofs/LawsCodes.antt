@@ -11,7 +11,7 @@ use lib.Seq.{drop-cons}
 use borrow.Author.Tests.{eq-eqb, ne-eqb, leb-true, leb-false}
 use Rattle.fields.specs.Number.{u16At}
 use Rattle.names.specs.Codes.{codes, charactersIn, hasCode, backslash}
-use Rattle.names.specs.Steps.{AmongFour, some, none}
+use Rattle.names.specs.Contracts.{AmongFour, some, none}
 
 narrow-length : (s : List ℕ) → length (codes true s) ≡ length s
 unfolding codes

@@ -5,7 +5,7 @@ ghost use mathlib.Core.Bool.{_||_};
 ghost use lib.Dec.{eqb, ltb};
 ghost use lib.ListN.{length, getD, drop};
 ghost use Rattle.names.specs.Codes.{codes, charactersIn, hasCode, backslash};
-ghost use Rattle.names.specs.Steps.{AmongFour};
+ghost use Rattle.names.specs.Contracts.{AmongFour};
 ghost use Rattle.names.specs.Upper_case.{upper};
 ghost use Rattle.names.specs.Comparison.{compare, sameName};
 ghost use Rattle.names.specs.Hashing.{mixed, hashOf};

@@ -21,7 +21,7 @@ use Rattle.names.specs.declared.Order.the-variants.{Same}
 use Rattle.names.specs.Comparison.{compare}
 use Rattle.names.proofs.By_code.{by-order}
 use Rattle.names.proofs.LawsOrder.{same-symmetric, same-transitive, name-same, same-name}
-use Rattle.repeats.specs.Repeats.{First}
+use Rattle.namesake_laws.specs.Repeats.{First}
 use Rattle.records.specs.declared.Key.{Key}
 use Rattle.records.specs.declared.Name.{Name}
 use Rattle.records.specs.Keys.{NameIn, codesOf}
@@ -34,7 +34,7 @@ use Rattle.values.proofs.Rooms.{entries-length}
 use Rattle.values.proofs.LawsLists.{values-listed, values-room, list-values}
 use Rattle.values.proofs.LawsValues.{name-inside}
 use Rattle.namesakes.specs.Namesakes.{valueName, areNamesakes, isRepeat, repeatFault, namesakeFault, calledAt, twins, Distinct, Earlier, Repeats}
-use Rattle.namesakes.specs.Steps.{NamesLie, called}
+use Rattle.namesakes.specs.Contracts.{NamesLie, called}
 use Rattle.namesakes.proofs.Positions.{repeatAt, none-repeats, one-repeats, sound-at, Stands, flawed-at, repeat-of, of-repeat}
 
 -- a repeat at a position, and the positions before it

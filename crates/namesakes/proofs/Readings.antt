@@ -17,7 +17,7 @@ use Rattle.values.specs.Records.{valueNarrow}
 use Rattle.values.specs.declared.Entries.{Entries}
 use Rattle.values.specs.Entries.{entriesOf}
 use Rattle.namesakes.specs.Namesakes.{valueName, calledAt}
-use Rattle.namesakes.specs.Steps.{NamesLie, called}
+use Rattle.namesakes.specs.Contracts.{NamesLie, called}
 
 -- length and flags stand in the first 20 bytes of the record
 pub name-front : (d : List ℕ) (v : Offset) (r : List ℕ) → r ≡ partIn d v 0 20 → (n : ℕ) (b : Bool) → n ≡ u16At r 2 → b ≡ valueNarrow r

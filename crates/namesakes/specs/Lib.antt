@@ -1,2 +1,2 @@
 pub mod Namesakes
-pub mod Steps
+pub mod Contracts

@@ -12,13 +12,13 @@ ghost use lib.ListN.{length, getD};
 ghost use Rattle.fields.specs.Faults.{nowhere};
 ghost use Rattle.cells.specs.Named.{dataAt};
 ghost use Rattle.chains.specs.Chains.{Chained};
-ghost use Rattle.repeats.specs.Repeats.{First, Blocked, metIn, later};
-ghost use Rattle.repeats.specs.Tables.{Empty, Taken};
+ghost use Rattle.namesake_laws.specs.Repeats.{First, Blocked, metIn, later};
+ghost use Rattle.namesake_laws.specs.Tables.{Empty, Taken};
 ghost use Rattle.records.specs.Keys.{codesOf};
 ghost use Rattle.values.specs.Entries.{entriesOf};
 ghost use Rattle.values.specs.Lists.{valueEntries};
 ghost use Rattle.namesakes.specs.Namesakes.{valueName, namesakeFault};
-ghost use Rattle.namesakes.specs.Steps.{NamesLie, called, Ready};
+ghost use Rattle.namesakes.specs.Contracts.{NamesLie, called, Ready};
 
 // The name of a value that was tested before.
 fn name_at(bins: &[u8], v: Offset) -> Name

@@ -15,8 +15,8 @@ use Rattle.fields.proofs.Firsts.{both, held, sound, holds}
 use Rattle.fields.proofs.Bools.{and-inv, and-both}
 use Rattle.base.specs.Block.{sector, usable}
 use Rattle.sectors.specs.Sector.{page}
-use Rattle.entries.specs.Entries.{counted}
-use Rattle.versions.specs.Versions.{versionsOf}
+use Rattle.log_entries.specs.Entries.{counted}
+use Rattle.log_versions.specs.Versions.{versionsOf}
 use Rattle.new_log.specs.Tests.{isEmpty, isLogBase, logFault, allStamped, applies}
 use Rattle.new_log.specs.Accepted.{Good, Stamped}
 use Rattle.new_log.proofs.Entry.{some-entry}

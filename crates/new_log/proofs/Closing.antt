@@ -16,9 +16,9 @@ use Rattle.sectors.specs.Sector.{Bytes}
 use Rattle.sectors.specs.Closing.{closingSector}
 use Rattle.sectors.proofs.Words.{put-length, put-bytes, u32-same, u32-other, take-bytes}
 use Rattle.sectors.proofs.Closed as closed
-use Rattle.entries.specs.Entries.{chainOf}
+use Rattle.log_entries.specs.Entries.{chainOf}
 use Rattle.new_log.specs.Tests.{logFault, renewed, closingOf}
-use Rattle.entries.proofs.Counted as entries
+use Rattle.log_entries.proofs.Counted as entries
 use Rattle.new_log.proofs.Accepts.{tests-good}
 use Rattle.new_log.proofs.Facts.{some-counted}
 

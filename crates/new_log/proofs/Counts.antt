@@ -14,7 +14,7 @@ use Rattle.bitmap.specs.declared.Next.the-variants.{At, Nothing}
 use Rattle.bitmap.specs.Bits.{bit, isMarked, bitsBefore, nextAmong, nextMarked, mapOf, zeros}
 use Rattle.bitmap.proofs.Laws.{bit-past, marked-inside, next-least, next-none, among-least, among-none, among-at, among-nothing}
 use Rattle.bitmap.proofs.Made.{map-only}
-use Rattle.versions.specs.Versions.{versions, isLogged}
+use Rattle.log_versions.specs.Versions.{versions, isLogged}
 use Rattle.new_log.specs.Layout.{pageCount, loggedBelow, loggedCount, nextLogged, marksOf}
 use Rattle.new_log.specs.Tests.{logFault}
 use Rattle.new_log.specs.Windows.{Windowed, always}

@@ -7,7 +7,7 @@ use mathlib.Core.List.{List, [], _∷_}
 use lib.ListN.{length}
 use Rattle.fields.specs.Number.{u32At}
 use Rattle.base.specs.Block.{sector}
-use Rattle.entries.specs.Entries.{Entry, isEntry, countedFrom, counted}
+use Rattle.log_entries.specs.Entries.{Entry, isEntry, countedFrom, counted}
 use Rattle.new_log.specs.Tests.{isEmpty}
 
 pub some-entry : (l : List ℕ) → 512 ≤ length l → not (isEmpty (counted l)) ≡ isEntry l 512 (u32At (sector l) 4)

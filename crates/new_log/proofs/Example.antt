@@ -4,10 +4,10 @@ use mathlib.Core.Path.{_≡_, ap}
 use mathlib.Core.Bool.{true, false}
 use mathlib.Core.List.{[], _∷_}
 use Rattle.fields.specs.Number.{u16At, u32At}
-use Rattle.entries.specs.declared.Chain.{Chain}
-use Rattle.entries.specs.Entries.{refBytes}
-use Rattle.entries.proofs.Example.{log, counts, chain}
-use Rattle.versions.specs.Versions.{pagesFrom, entryVersions, allVersions, versions, names, lastPlace, isLogged, loggedPlace}
+use Rattle.log_entries.specs.declared.Chain.{Chain}
+use Rattle.log_entries.specs.Entries.{refBytes}
+use Rattle.log_entries.proofs.Example.{log, counts, chain}
+use Rattle.log_versions.specs.Versions.{pagesFrom, entryVersions, allVersions, versions, names, lastPlace, isLogged, loggedPlace}
 use Rattle.new_log.specs.Layout.{pageCount}
 
 pub versions-are : versions log ≡ record { page = 1; place = 1072 } ∷ []

@@ -9,10 +9,10 @@ use Rattle.fields.specs.declared.Verdict.the-variants.{Sound}
 use Rattle.fields.proofs.Bools.{never}
 use Rattle.base.proofs.Laws.{Sized}
 use Rattle.sectors.proofs.Stored.{sector-length}
-use Rattle.entries.specs.Entries.{Entry, counted}
-use Rattle.entries.proofs.Counted as entries
-use Rattle.versions.specs.Versions.{versions, versionsOf, isLogged, loggedPlace, logged}
-use Rattle.versions.proofs.Inside.{versions-inside}
+use Rattle.log_entries.specs.Entries.{Entry, counted}
+use Rattle.log_entries.proofs.Counted as entries
+use Rattle.log_versions.specs.Versions.{versions, versionsOf, isLogged, loggedPlace, logged}
+use Rattle.log_versions.proofs.Inside.{versions-inside}
 use Rattle.new_log.specs.Layout.{logBins, pageCount}
 use Rattle.new_log.specs.Tests.{isEmpty, logFault}
 use Rattle.new_log.proofs.Entry.{some-entry}

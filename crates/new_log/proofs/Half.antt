@@ -10,7 +10,7 @@ use Rattle.fields.specs.Number.{u32At, u64At}
 use Rattle.fields.proofs.Bools.{and-both}
 use Rattle.base.specs.Block.{sector, usable}
 use Rattle.sectors.specs.Sector.{page}
-use Rattle.versions.specs.Versions.{versionsOf}
+use Rattle.log_versions.specs.Versions.{versionsOf}
 use Rattle.new_log.specs.Tests.{applies}
 use Rattle.new_log.proofs.Accepts.{by-number, by-stamps, stamps, each-stamped}
 

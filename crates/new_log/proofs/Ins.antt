@@ -13,7 +13,7 @@ use Rattle.bitmap.specs.Bits.{bit, isMarked, bitsBefore}
 use Rattle.sectors.specs.Sector.{page}
 use Rattle.sectors.specs.Logged.{isIn, inBelow}
 use Rattle.sectors.proofs.Logged.{not-logged}
-use Rattle.versions.specs.Versions.{versions, isLogged, loggedPlace, logged}
+use Rattle.log_versions.specs.Versions.{versions, isLogged, loggedPlace, logged}
 use Rattle.new_log.specs.Layout.{pageCount, allIn}
 use Rattle.new_log.specs.Windows.{Windowed, differs}
 use Rattle.new_log.proofs.Next.{past-pages}

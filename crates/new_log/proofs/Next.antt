@@ -11,7 +11,7 @@ use Rattle.bitmap.specs.declared.Next.the-variants.{At, Nothing}
 use Rattle.bitmap.specs.Bits.{isMarked}
 use Rattle.bitmap.proofs.Laws.{Least, among-least, among-none}
 use Rattle.bitmap.proofs.Made.{map-length, map-bit, map-past}
-use Rattle.versions.specs.Versions.{isLogged}
+use Rattle.log_versions.specs.Versions.{isLogged}
 use Rattle.new_log.specs.Layout.{pageCount, nextLogged, marksOf}
 use Rattle.new_log.specs.Tests.{logFault}
 use Rattle.new_log.proofs.Facts.{bins-sized, logged-below}

@@ -12,13 +12,13 @@ use Rattle.sectors.specs.Sector.{sectorAt, stored, pagePlace, page}
 use Rattle.sectors.specs.Logged.{putOne, putBelow}
 use Rattle.sectors.proofs.Stored.{sector-length, stored-length, stored-take, stored-drop, files-same}
 use Rattle.sectors.proofs.Pages.{page-same, page-other}
-use Rattle.versions.specs.declared.Version.{Version}
-use Rattle.versions.specs.Versions.{versions, names, lastPlace, isLogged, logged}
-use Rattle.versions.specs.declared.Cursor.{Cursor}
-use Rattle.versions.specs.Steps.{rest, Moves}
-use Rattle.versions.proofs.Inside.{Within, versions-inside}
+use Rattle.log_versions.specs.declared.Version.{Version}
+use Rattle.log_versions.specs.Versions.{versions, names, lastPlace, isLogged, logged}
+use Rattle.log_versions.specs.declared.Cursor.{Cursor}
+use Rattle.log_versions.specs.Contracts.{rest, Moves}
+use Rattle.log_versions.proofs.Inside.{Within, versions-inside}
 use Rattle.new_log.specs.Layout.{logBins, pageCount, allPut}
-use Rattle.new_log.specs.Steps.{putEach}
+use Rattle.new_log.specs.Contracts.{putEach}
 use Rattle.new_log.proofs.Versions.{not-named}
 use Rattle.new_log.proofs.Facts.{logged-length}
 

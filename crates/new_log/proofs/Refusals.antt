@@ -11,7 +11,7 @@ use Rattle.fields.specs.Faults.{flaw, nowhere, unless}
 use Rattle.fields.proofs.Firsts.{held}
 use Rattle.fields.proofs.Every.{Every, every-unless, every-next}
 use Rattle.base.specs.Block.{sector}
-use Rattle.entries.specs.Entries.{counted}
+use Rattle.log_entries.specs.Entries.{counted}
 use Rattle.new_log.specs.Tests.{isEmpty, isLogBase, logFault}
 use Rattle.new_log.specs.Refused.{OfLog, log-short, no-log-base, no-entry}
 use Rattle.new_log.proofs.Entry.{some-entry}

@@ -6,11 +6,11 @@ use mathlib.Core.List.{List, _∷_}
 use lib.Dec.{eqb}
 use Rattle.fields.specs.Number.{u64At}
 use Rattle.sectors.specs.Sector.{sectorAt}
-use Rattle.versions.specs.declared.Version.{Version}
-use Rattle.versions.specs.declared.Cursor.{Cursor}
-use Rattle.versions.specs.Versions.{bytesIn}
-use Rattle.versions.specs.Steps.{rest, Stands, Moves}
-use Rattle.versions.proofs.Steps.{past, past-split}
+use Rattle.log_versions.specs.declared.Version.{Version}
+use Rattle.log_versions.specs.declared.Cursor.{Cursor}
+use Rattle.log_versions.specs.Versions.{bytesIn}
+use Rattle.log_versions.specs.Contracts.{rest, Stands, Moves}
+use Rattle.log_versions.proofs.Steps.{past, past-split}
 use Rattle.new_log.specs.Tests.{allStamped}
 
 module _ (l : List ℕ) (s : ℕ) where

@@ -7,8 +7,8 @@ use mathlib.Core.List.{List, [], _∷_, _++_, List·Memᴰ, List·Memᴰ·head, 
 use lib.Dec.{eqb}
 use borrow.Author.Tests.{eqb-true, eq-eqb}
 use Rattle.sectors.specs.Sector.{sectorAt}
-use Rattle.versions.specs.declared.Version.{Version}
-use Rattle.versions.specs.Versions.{bytesIn, names, lastPlace}
+use Rattle.log_versions.specs.declared.Version.{Version}
+use Rattle.log_versions.specs.Versions.{bytesIn, names, lastPlace}
 
 -- a version of page p in a list of them, whose bytes lie at a place
 pub record Found (p : ℕ) (vs : List Version) (place : ℕ) : Type 0 where

@@ -10,8 +10,8 @@ use Rattle.fields.specs.declared.Verdict.the-variants.{Sound, Flawed}
 use Rattle.fields.specs.Faults.{flaw, nowhere}
 use Rattle.fields.proofs.Firsts.{on, stop, holds, fails}
 use Rattle.base.specs.Block.{sector}
-use Rattle.entries.specs.Entries.{Entry, counted, chainOf}
-use Rattle.entries.proofs.Counted.{none-exactly}
+use Rattle.log_entries.specs.Entries.{Entry, counted, chainOf}
+use Rattle.log_entries.proofs.Counted.{none-exactly}
 use Rattle.new_log.specs.Tests.{isEmpty, isLogBase, logFault}
 
 module _ (l : List ℕ) where

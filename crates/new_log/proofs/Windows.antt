@@ -10,8 +10,8 @@ use borrow.Author.Tests.{eqb-true, ne-eqb, leb-true, leb-false, ltb-true, ltb-fa
 use Rattle.fields.proofs.Bools.{and-inv}
 use Rattle.bitmap.specs.Bits.{isMarked, withBit}
 use Rattle.bitmap.proofs.Marks.{with-bit, with-length, eqb-cong}
-use Rattle.versions.specs.declared.Version.{Version}
-use Rattle.versions.specs.Versions.{names, lastPlace}
+use Rattle.log_versions.specs.declared.Version.{Version}
+use Rattle.log_versions.specs.Versions.{names, lastPlace}
 use Rattle.new_log.specs.Windows.{lastBit, inWindow, Windowed}
 use Rattle.new_log.proofs.Versions.{not-named}
 

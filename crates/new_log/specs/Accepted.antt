@@ -7,8 +7,8 @@ use lib.ListN.{length}
 use Rattle.fields.specs.Number.{u32At, u64At}
 use Rattle.base.specs.Block.{sector, usable}
 use Rattle.sectors.specs.Sector.{page}
-use Rattle.entries.specs.Entries.{isEntry}
-use Rattle.versions.specs.Versions.{versionsOf}
+use Rattle.log_entries.specs.Entries.{isEntry}
+use Rattle.log_versions.specs.Versions.{versionsOf}
 
 pub record Good (l : List ℕ) : Type 0 where
   -- 21, with type 6

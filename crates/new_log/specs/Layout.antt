@@ -5,8 +5,8 @@ use mathlib.Core.List.{List}
 use Rattle.bitmap.specs.declared.Next.{Next}
 use Rattle.bitmap.specs.Bits.{nextAmong, mapOf}
 use Rattle.sectors.specs.Logged.{inBelow, putBelow}
-use Rattle.entries.specs.Entries.{chainOf}
-use Rattle.versions.specs.Versions.{isLogged, logged}
+use Rattle.log_entries.specs.Entries.{chainOf}
+use Rattle.log_versions.specs.Versions.{isLogged, logged}
 
 -- "24 reads the largest counted bins size"
 abbrev pub logBins : List ℕ → ℕ

@@ -9,7 +9,7 @@ use Rattle.fields.specs.declared.Flaw.{Flaw}
 use Rattle.fields.specs.Number.{u32At}
 use Rattle.fields.specs.Faults.{flaw, nowhere}
 use Rattle.base.specs.Block.{sector}
-use Rattle.entries.specs.Entries.{isEntry}
+use Rattle.log_entries.specs.Entries.{isEntry}
 use Rattle.new_log.specs.Tests.{isLogBase}
 
 pub data OfLog (l : List ℕ) : Flaw → Type 0 where

@@ -13,9 +13,9 @@ use Rattle.fields.specs.Faults.{flaw, nowhere, unless, _next_}
 use Rattle.base.specs.Block.{sector, usable, isSettled}
 use Rattle.sectors.specs.Sector.{page}
 use Rattle.sectors.specs.Closing.{closingSector}
-use Rattle.entries.specs.Entries.{Entry, counted, chainOf}
-use Rattle.versions.specs.Versions.{versionsOf}
-use Rattle.entries.specs.declared.Chain.{Chain}
+use Rattle.log_entries.specs.Entries.{Entry, counted, chainOf}
+use Rattle.log_versions.specs.Versions.{versionsOf}
+use Rattle.log_entries.specs.declared.Chain.{Chain}
 use Rattle.new_log.specs.declared.Head.{Head}
 use Rattle.new_log.specs.declared.Head.the-variants as head
 

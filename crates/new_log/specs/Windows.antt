@@ -8,7 +8,7 @@ use lib.ListN.{length}
 use Rattle.fields.specs.Bytes.{sameBytes}
 use Rattle.bitmap.specs.Bits.{isMarked, withBit}
 use Rattle.sectors.specs.Sector.{sectorAt, page}
-use Rattle.versions.specs.declared.Version.{Version}
+use Rattle.log_versions.specs.declared.Version.{Version}
 
 -- what is said of the last version that names page p (b: where none does); `says` goes by a page and by where the version's bytes lie
 unfoldable pub lastBit : (ℕ → ℕ → Bool) → Bool → ℕ → List Version → Bool

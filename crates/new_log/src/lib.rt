@@ -1,10 +1,10 @@
 // The new-format log: its own tests, its pages, what it says of a hive, and the repair's stores.
 use bitmap::Next;
-use entries::Chain;
 use fields::Fault;
 use fields::Flaw;
 use fields::Offset;
 use fields::Place;
+use log_entries::Chain;
 ghost use mathlib.Core.Path.{_≡_};
 ghost use mathlib.Core.Bool.{not, _&&_, _||_};
 ghost use mathlib.Core.List.{_++_};
@@ -18,8 +18,8 @@ ghost use Rattle.fields.specs.Bytes.{sameBytes};
 ghost use Rattle.sectors.specs.Sector.{sectorAt, stored, pagePlace, page as pageOf};
 ghost use Rattle.sectors.specs.Logged.{inBelow};
 ghost use Rattle.sectors.specs.Closing.{closingSector};
-ghost use Rattle.entries.specs.Entries.{chainOf};
-ghost use Rattle.versions.specs.Versions.{versions as versionsIn, versionsOf, isLogged, loggedPlace, logged};
+ghost use Rattle.log_entries.specs.Entries.{chainOf};
+ghost use Rattle.log_versions.specs.Versions.{versions as versionsIn, versionsOf, isLogged, loggedPlace, logged};
 ghost use Rattle.new_log.specs.Layout.{logBins, pageCount, loggedBelow, loggedCount, nextLogged, marksOf, allIn, allPut};
 ghost use Rattle.new_log.specs.Tests.{isLogBase, logFault, headed, allStamped, applies as isOf, renewed, closingOf};
 ghost use Rattle.new_log.specs.Windows.{hasPage, inWindow, Windowed, always, differs};
@@ -40,7 +40,7 @@ fn is_log_base(s: &[u8]) -> bool
     if !base::usable(s, 6) {
         return false;
     }
-    base::is_settled(s)
+    base::sequences_equal(s)
 }
 
 // 21; 22. The one pass that hashes: what it finds is handed on.
@@ -59,7 +59,7 @@ pub fn read(log: &[u8]) -> Head
             place: Offset(0),
         });
     }
-    let chain = entries::chain_of(log);
+    let chain = log_entries::chain_of(log);
     if chain.entries == 0 {
         return Head::Flawed(Flaw {
             fault: Fault::LogShort,
@@ -89,10 +89,10 @@ fn mark_window(log: &[u8], chain: Chain, base: usize, map: &mut [u8])
     requires { ⌜ chain ≡ chainOf (now log) ⌝ }
     ensures { λ _. ⌜ Windowed always base (versionsIn (now (log .entry))) (now (map .entry)) (now (map .exit)) ⌝ }
 {
-    let mut c = versions::first(log, chain);
+    let mut c = log_versions::first(log, chain);
     while 0 < c.pages {
         put_page(map, base, c.page, true);
-        c = versions::next(log, c);
+        c = log_versions::next(log, c);
     }
 }
 
@@ -184,12 +184,12 @@ pub fn is_logged(log: &[u8], chain: Chain, page: usize) -> bool
     requires { ⌜ chain ≡ chainOf (now log) ⌝ }
     ensures { λ r. ⌜ r ≡ isLogged (now (log .entry)) page ⌝ }
 {
-    let mut c = versions::first(log, chain);
+    let mut c = log_versions::first(log, chain);
     while 0 < c.pages {
         if c.page == page {
             return true;
         }
-        c = versions::next(log, c);
+        c = log_versions::next(log, c);
     }
     false
 }
@@ -200,12 +200,12 @@ pub fn logged_place(log: &[u8], chain: Chain, page: usize) -> Place
     ensures { λ r. ⌜ r .0 ≡ loggedPlace (now (log .entry)) page ⌝ }
 {
     let mut place: usize = 0;
-    let mut c = versions::first(log, chain);
+    let mut c = log_versions::first(log, chain);
     while 0 < c.pages {
         if c.page == page {
             place = c.place;
         }
-        c = versions::next(log, c);
+        c = log_versions::next(log, c);
     }
     Place(place)
 }
@@ -228,12 +228,12 @@ fn all_stamped(log: &[u8], chain: Chain, stamp: u64) -> bool
     requires { ⌜ chain ≡ chainOf (now log) ⌝ }
     ensures { λ r. ⌜ r ≡ allStamped stamp (versionsOf (now (log .entry)) 0) ⌝ }
 {
-    let mut c = versions::first(log, chain);
+    let mut c = log_versions::first(log, chain);
     while 0 < c.pages {
         if !is_stamped(log, c.page, c.place, stamp) {
             return false;
         }
-        c = versions::next(log, c);
+        c = log_versions::next(log, c);
     }
     true
 }
@@ -290,10 +290,10 @@ fn differ_window(hive: &[u8], log: &[u8], chain: Chain, base: usize, map: &mut [
     requires { ⌜ 4096 + logBins (now log) ≤ length (now hive) ⌝ }
     ensures { λ _. ⌜ Windowed (differs (now (hive .entry)) (now (log .entry))) base (versionsIn (now (log .entry))) (now (map .entry)) (now (map .exit)) ⌝ }
 {
-    let mut c = versions::first(log, chain);
+    let mut c = log_versions::first(log, chain);
     while 0 < c.pages {
         put_differs(hive, log, map, base, c.page, c.place);
-        c = versions::next(log, c);
+        c = log_versions::next(log, c);
     }
 }
 
@@ -332,17 +332,17 @@ pub fn put_all(hive: &mut [u8], log: &[u8], chain: Chain)
     requires { ⌜ 4096 + logBins (now log) ≤ length (now hive) ⌝ }
     ensures { λ _. ⌜ now (hive .exit) ≡ allPut (now (hive .entry)) (now (log .entry)) ⌝ }
 {
-    let mut c = versions::first(log, chain);
+    let mut c = log_versions::first(log, chain);
     while 0 < c.pages {
         let to = sectors::page_place(c.page);
         let from = c.place;
         sectors::store(hive, to, log, Place(from));
-        c = versions::next(log, c);
+        c = log_versions::next(log, c);
     }
 }
 
 // Makes the log's first sector the closing one.
-fn renew(dst: &mut [u8], number: u32, bins: u32)
+fn put_number_and_size(dst: &mut [u8], number: u32, bins: u32)
     requires { ⌜ 512 ≤ length (now dst) ⌝ }
     ensures { λ _. ⌜ now (dst .exit) ≡ closingSector (renewed (now (dst .entry)) number bins) ⌝ }
 {
@@ -360,5 +360,5 @@ pub fn store_closing(hive: &mut [u8], log: &[u8], chain: Chain)
     ensures { λ _. ⌜ now (hive .exit) ≡ stored (now (hive .entry)) 0 (closingOf (now (log .entry))) ⌝ }
 {
     sectors::store(hive, Place(0), log, Place(0));
-    renew(&mut hive[0..512], chain.last, chain.bins as u32);
+    put_number_and_size(&mut hive[0..512], chain.last, chain.bins as u32);
 }

@@ -43,7 +43,7 @@ fn is_log_base(s: &[u8]) -> bool
     if !base::usable(s, kind) {
         return false;
     }
-    base::is_settled(s)
+    base::sequences_equal(s)
 }
 
 // 21; 22 for the bitmap; 23.

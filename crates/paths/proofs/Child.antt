@@ -17,7 +17,7 @@ use Rattle.tree.specs.Tree.{levels, hiveOf, keysOf}
 use Rattle.tree.specs.WellFormed.{CleanAndWellFormed, TreeStands}
 use Rattle.search.specs.declared.How.the-variants.{InTurn}
 use Rattle.search.specs.declared.Look.{Look}
-use Rattle.search.specs.declared.Look.the-variants.{Found, Missing, Faulty}
+use Rattle.search.specs.declared.Look.the-variants.{Found, Missing, Flawed}
 use Rattle.search.specs.Quick.{belowBy}
 use Rattle.search.proofs.Finds.{key-good}
 use Rattle.paths.specs.declared.KeyFound.the-variants.{At, Refused}
@@ -26,7 +26,7 @@ use Rattle.paths.specs.declared.Way.the-variants as way
 use Rattle.paths.specs.Descent.{onFound, descendBy, descend, opened, lookupKeyBy}
 use Rattle.paths.specs.Answers.{askFault, keyFound}
 use Rattle.paths.specs.Reach.{Holds}
-use Rattle.paths.specs.Steps.{isStep, childLookBy, childBy, childAnswer, quickChild}
+use Rattle.paths.specs.Children.{isStep, childLookBy, childBy, childAnswer, quickChild}
 use Rattle.paths.proofs.Finds.{found-holds, holds-found, never-faulty}
 use Rattle.paths.proofs.Exact.{found-look-is}
 use Rattle.paths.proofs.Listed.{listed-tree}
@@ -77,4 +77,4 @@ module _ (h : List ℕ) (w : CleanAndWellFormed h) (o : Offset) (i : List·Mem�
         by : (l : Look) → below ≡ l → childAnswer h o x ≡ Refused (refusalOf o (flaw NoKey nowhere))
         by (Found c) q = absurd (f c (holds (one-part q)))
         by Missing q = child-way ∙ ap keyFound (one-part q)
-        by (Faulty g) q = absurd (never-faulty (binsData h) (hiveOf h) (w .formed .tiled) (suc (tree-of .0)) o (x ∷ []) (tree-of .1) (one-part q))
+        by (Flawed g) q = absurd (never-faulty (binsData h) (hiveOf h) (w .formed .tiled) (suc (tree-of .0)) o (x ∷ []) (tree-of .1) (one-part q))

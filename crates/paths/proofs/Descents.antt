@@ -19,7 +19,7 @@ use Rattle.records.specs.Keys.{keyFault, keyOf, keyed}
 use Rattle.records.proofs.LawsAnswer.{keyed-whole, keyed-flawed}
 use Rattle.search.specs.declared.How.{How}
 use Rattle.search.specs.declared.Look.{Look}
-use Rattle.search.specs.declared.Look.the-variants.{Found, Missing, Faulty}
+use Rattle.search.specs.declared.Look.the-variants.{Found, Missing, Flawed as Faulty}
 use Rattle.search.specs.Quick.{belowBy}
 use Rattle.search.proofs.Quick_found.{by-tested}
 use Rattle.paths.specs.declared.Way.{Way}
@@ -84,7 +84,7 @@ module _ (how : How) (d : List ℕ) (from : Offset) (us : List ℕ) where
       unfolding onFound
       descended-missing e = turn (behind (drop start us)) (part-first us start end more ends (w .good)) ∙ rw e
 
-      pub descended-faulty : {f : Flaw} → l ≡ Faulty f → descendBy how d from (partsOf us) ≡ way.Faulty (refusalOf key f)
+      pub descended-faulty : {f : Flaw} → l ≡ Faulty f → descendBy how d from (partsOf us) ≡ way.Refused (refusalOf key f)
       unfolding onFound
       descended-faulty e = turn (behind (drop start us)) (part-first us start end more ends (w .good)) ∙ rw e
 
@@ -107,7 +107,7 @@ module _ (how : How) (d : List ℕ) (from : Offset) (us : List ℕ) where
 
 -- ---- from the root
 module _ (d : List ℕ) (root : Offset) (xs : List (List ℕ)) where
-  pub root-bad : (how : How) {f : Flaw} → keyed (keyFault Header d [] root) (keyOf d root) ≡ key.Flawed f → lookupKeyBy how d root xs ≡ way.Faulty (refusalOf noKey f)
+  pub root-bad : (how : How) {f : Flaw} → keyed (keyFault Header d [] root) (keyOf d root) ≡ key.Flawed f → lookupKeyBy how d root xs ≡ way.Refused (refusalOf noKey f)
   unfolding lookupKeyBy
   root-bad how e = rw (keyed-flawed (keyFault Header d [] root) _ e)
 

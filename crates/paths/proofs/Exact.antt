@@ -18,7 +18,7 @@ use Rattle.tree.specs.WellFormed.{CleanAndWellFormed}
 use Rattle.search.proofs.Finds.{key-good}
 use Rattle.paths.specs.declared.KeyFound.the-variants.{At, Refused}
 use Rattle.paths.specs.declared.Way.{Way}
-use Rattle.paths.specs.declared.Way.the-variants.{Found, Missing, Faulty}
+use Rattle.paths.specs.declared.Way.the-variants.{Found, Missing, Refused as Faulty}
 use Rattle.paths.specs.Paths.{partsOf, isPath, pathFault}
 use Rattle.paths.specs.Descent.{descend, lookupKeyBy}
 use Rattle.paths.specs.Answers.{openFault, keyLookBy, keyLook, keyFound, findBy, findAnswer}

@@ -15,7 +15,7 @@ use Rattle.tree.specs.declared.Hive.{Hive}
 use Rattle.tree.specs.Tree.{nameAt}
 use Rattle.tree.specs.WellFormed.{TreeStands, key}
 use Rattle.search.specs.declared.Look.{Look}
-use Rattle.search.specs.declared.Look.the-variants.{Found, Missing, Faulty}
+use Rattle.search.specs.declared.Look.the-variants.{Found, Missing, Flawed}
 use Rattle.search.specs.Search.{searchKeys}
 use Rattle.search.specs.Quick.{belowBy}
 use Rattle.search.proofs.Finds.{found-in, no-fault, find-there, key-good, search-below}
@@ -37,7 +37,7 @@ module _ (d : List ℕ) (hive : Hive) (tiles : BinsTile d 0) where
           let f = found-in d x (children d o) q in
           below (f .1) (f .3) (rest (f .0) (f .1) (ap (λ (z : Offset). descend d z xs) (sym (f .2)) ∙ p))
       by Missing q rest p = absurd (let z : _≡_ {A = ℕ} 0 1 = cc in omega arith)
-      by (Faulty f) q rest p = absurd (let z : _≡_ {A = ℕ} 0 1 = cc in omega arith)
+      by (Flawed f) q rest p = absurd (let z : _≡_ {A = ℕ} 0 1 = cc in omega arith)
 
   pub holds-found : (n : ℕ) (o : Offset) (xs : List (List ℕ)) {e : Offset} → TreeStands d hive n o → Holds d o xs e → descend d o xs ≡ way.Found e
   unfolding descendBy onFound belowBy
@@ -46,20 +46,20 @@ module _ (d : List ℕ) (hive : Hive) (tiles : BinsTile d 0) where
       rw (search-below d hive tiles (hive .minor) o s x, find-there d x (children d o) a (λ b j. key-good d hive tiles n (b .at) (tree b j)) c i q)
       (holds-found n (c .at) xs (tree c i) r)
 
-  pub never-faulty : (n : ℕ) (o : Offset) (xs : List (List ℕ)) {r : Refusal} → TreeStands d hive n o → descend d o xs ≡ way.Faulty r → ⊥
+  pub never-faulty : (n : ℕ) (o : Offset) (xs : List (List ℕ)) {r : Refusal} → TreeStands d hive n o → descend d o xs ≡ way.Refused r → ⊥
   unfolding descendBy onFound belowBy
   never-faulty n o [] t p = let z : _≡_ {A = ℕ} 0 1 = cc in omega arith
   never-faulty (suc n) o (x ∷ xs) {r} (key s a ch tree) p =
       by (searchKeys d x (children d o)) refl (λ c i q. never-faulty n (c .at) xs (tree c i) q) (rw (search-below d hive tiles (hive .minor) o s x) at p)
     where
       by : (w : Look) → searchKeys d x (children d o) ≡ w
-          → ((c : Child) → List·Memᴰ c (children d o) → descend d (c .at) xs ≡ way.Faulty r → ⊥)
-          → onFound o w (λ c. descend d c xs) ≡ way.Faulty r → ⊥
+          → ((c : Child) → List·Memᴰ c (children d o) → descend d (c .at) xs ≡ way.Refused r → ⊥)
+          → onFound o w (λ c. descend d c xs) ≡ way.Refused r → ⊥
       by (Found y) q rest p =
           let g = found-in d x (children d o) q in
           rest (g .0) (g .1) (ap (λ (z : Offset). descend d z xs) (sym (g .2)) ∙ p)
       by Missing q rest p = let z : _≡_ {A = ℕ} 0 1 = cc in omega arith
-      by (Faulty g) q rest p = no-fault d x (children d o) (λ c i. key-good d hive tiles n (c .at) (tree c i)) q
+      by (Flawed g) q rest p = no-fault d x (children d o) (λ c i. key-good d hive tiles n (c .at) (tree c i)) q
 
   -- where the way ends without a key, it has come to the deepest that the tree holds along it
   pub missing-deepest : (n : ℕ) (o : Offset) (xs : List (List ℕ)) {k : Offset} → TreeStands d hive n o → descend d o xs ≡ way.Missing k → Deepest d o xs k
@@ -112,4 +112,4 @@ module _ (d : List ℕ) (hive : Hive) (tiles : BinsTile d 0) where
               let z : x ≡ v = cc in
               let l = sym (there b i (subst (λ (j : List ℕ). compare (nameAt d (b .at)) j ≡ Same) (sym z) m)) ∙ q in
               absurd (let y : _≡_ {A = ℕ} 0 1 = cc in omega arith)
-      by (Faulty f) q rest p = absurd (let z : _≡_ {A = ℕ} 0 1 = cc in omega arith)
+      by (Flawed f) q rest p = absurd (let z : _≡_ {A = ℕ} 0 1 = cc in omega arith)

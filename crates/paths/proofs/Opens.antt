@@ -15,7 +15,7 @@ use Rattle.records.specs.Keys.{keyFault}
 use Rattle.tree.specs.Tree.{hiveOf}
 use Rattle.search.specs.declared.How.{How}
 use Rattle.paths.specs.declared.KeyFound.the-variants.{At}
-use Rattle.paths.specs.declared.Way.the-variants.{Found, Faulty}
+use Rattle.paths.specs.declared.Way.the-variants.{Found, Refused}
 use Rattle.paths.specs.Paths.{partsOf, isPath, pathFault}
 use Rattle.paths.specs.Descent.{lookupKeyBy}
 use Rattle.paths.specs.Answers.{askFault, openFault, keyLookBy, findBy}
@@ -53,7 +53,7 @@ module _ (h us : List ℕ) where
 
 -- the key, by either search
 module _ (how : How) (h us : List ℕ) where
-  pub look-stop : {f : Flaw} → openFault h us ≡ Flawed f → keyLookBy how h us ≡ Faulty (refusalOf noKey f)
+  pub look-stop : {f : Flaw} → openFault h us ≡ Flawed f → keyLookBy how h us ≡ Refused (refusalOf noKey f)
   unfolding keyLookBy
   look-stop e = rw e
 

@@ -21,7 +21,7 @@ use Rattle.tree.specs.WellFormed.{TreeStands, key, CleanAndWellFormed}
 use Rattle.search.specs.declared.How.{How}
 use Rattle.search.specs.declared.How.the-variants.{InTurn, Halving}
 use Rattle.search.specs.declared.Look.{Look}
-use Rattle.search.specs.declared.Look.the-variants.{Found, Missing, Faulty}
+use Rattle.search.specs.declared.Look.the-variants.{Found, Missing, Flawed}
 use Rattle.search.specs.Search.{searchBelow}
 use Rattle.search.specs.Quick.{belowBy}
 use Rattle.search.proofs.Quick.{quick-below}
@@ -63,7 +63,7 @@ module _ (d : List ℕ) (bytes : (i : ℕ) → getD d i 0 < 256) (hive : Hive) (
           let f = below-found d x o q in
           subst (λ (z : Offset). descendBy Halving d z xs ≡ descendBy InTurn d z xs) (sym (f .2)) (rest (f .0) (f .1))
       by Missing q rest = refl
-      by (Faulty f) q rest = refl
+      by (Flawed f) q rest = refl
 
 -- ---- in an accepted hive
 module _ (h : List ℕ) (bytes : (i : ℕ) → getD h i 0 < 256) (w : CleanAndWellFormed h) (us : List ℕ) where
@@ -92,7 +92,7 @@ descend-called how d o (x ∷ xs) {e} p = by (belowBy how d x (keyOf d o)) refl 
         let f = by-found d x how o q in
         below (f .1) (f .3) (rest (f .0 .at) (ap (λ (z : Offset). descendBy how d z xs) (sym (f .2)) ∙ p))
     by Missing q rest p = absurd (let z : _≡_ {A = ℕ} 0 1 = cc in omega arith)
-    by (Faulty f) q rest p = absurd (let z : _≡_ {A = ℕ} 0 1 = cc in omega arith)
+    by (Flawed f) q rest p = absurd (let z : _≡_ {A = ℕ} 0 1 = cc in omega arith)
 
 module _ (how : How) (h us : List ℕ) where
   look-called : {o : Offset} → keyLookBy how h us ≡ way.Found o → Holds (binsData h) (hiveOf h .root) (partsOf us) o

@@ -26,13 +26,13 @@ use Rattle.search.proofs.Quick_found.{by-tested, by-found, by-each}
 use Rattle.search.proofs.Refusals.{Each}
 use Rattle.paths.specs.declared.KeyFound.the-variants.{Refused}
 use Rattle.search.specs.declared.Look.{Look}
-use Rattle.search.specs.declared.Look.the-variants.{Found, Missing, Faulty}
+use Rattle.search.specs.declared.Look.the-variants.{Found, Missing, Flawed as Faulty}
 use Rattle.paths.specs.declared.Way.{Way}
 use Rattle.paths.specs.declared.Way.the-variants as way
 use Rattle.paths.specs.Paths.{isPath, pathFault, partsOf}
 use Rattle.paths.specs.Descent.{onFound, descendBy, opened, lookupKeyBy}
 use Rattle.paths.specs.Answers.{askFault, openFault, keyLookBy, keyFound, findBy}
-use Rattle.paths.specs.Steps.{isStep, childLookBy, childBy}
+use Rattle.paths.specs.Children.{isStep, childLookBy, childBy}
 use Rattle.paths.specs.Refused.{OnWay, the-root, a-child, OfKeyBy, of-base, no-path, of-root, of-lists, no-key, OfChildBy, by-base, no-step, by-given, by-lists, no-child}
 
 -- ---- all refusals of a way

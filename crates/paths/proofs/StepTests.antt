@@ -16,12 +16,12 @@ use Rattle.fields.proofs.Bools.{and-inv, and-both}
 use Rattle.base.specs.Block.{binsData}
 use Rattle.names.specs.Codes.{hasCode, backslash}
 use Rattle.search.specs.declared.How.{How}
-use Rattle.paths.specs.declared.Way.the-variants.{Faulty}
+use Rattle.paths.specs.declared.Way.the-variants.{Refused}
 use Rattle.paths.specs.Paths.{firstPart, partsOf, isPart, isPath}
 use Rattle.paths.specs.Descent.{lookupKeyBy}
 use Rattle.paths.specs.Answers.{askFault}
 use Rattle.paths.specs.Reach.{joinedBy}
-use Rattle.paths.specs.Steps.{isStep, childLookBy}
+use Rattle.paths.specs.Children.{isStep, childLookBy}
 use Rattle.paths.proofs.Splits.{PartName, no-names, names-on, parts-joined, path-joined}
 
 -- a name without a backslash is its own first part
@@ -72,7 +72,7 @@ module _ (x : List ℕ) where
 
 -- the child of a key
 module _ (how : How) (h : List ℕ) (o : Offset) (x : List ℕ) where
-  pub child-stop : {f : Flaw} → askFault h (isStep x) ≡ Flawed f → childLookBy how h o x ≡ Faulty (refusalOf noKey f)
+  pub child-stop : {f : Flaw} → askFault h (isStep x) ≡ Flawed f → childLookBy how h o x ≡ Refused (refusalOf noKey f)
   unfolding childLookBy
   child-stop e = rw e
 

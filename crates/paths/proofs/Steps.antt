@@ -21,7 +21,7 @@ use Rattle.records.specs.Keys.{keyFault, keyOf}
 use Rattle.tree.specs.Tree.{hiveOf}
 use Rattle.search.specs.declared.How.{How}
 use Rattle.search.specs.declared.Look.{Look}
-use Rattle.search.specs.declared.Look.the-variants.{Found, Missing, Faulty}
+use Rattle.search.specs.declared.Look.the-variants.{Found, Missing, Flawed as Faulty}
 use Rattle.search.specs.Quick.{belowBy}
 use Rattle.search.proofs.Quick_found.{by-tested}
 use Rattle.paths.specs.declared.KeyFound.{KeyFound}
@@ -30,7 +30,7 @@ use Rattle.paths.specs.declared.Way.the-variants as way
 use Rattle.paths.specs.Paths.{joinFirst, split, partsOf, isPart, areParts, isPath}
 use Rattle.paths.specs.Descent.{onFound, descendBy, opened, lookupKeyBy}
 use Rattle.paths.specs.Answers.{askFault, keyLookBy, keyFound, findBy}
-use Rattle.paths.specs.Steps.{isStep, childBy, onKey, stepsBy, joinedTo}
+use Rattle.paths.specs.Children.{isStep, childBy, onKey, stepsBy, joinedTo}
 use Rattle.paths.proofs.Parts.{split-is}
 use Rattle.paths.proofs.Splits.{PartNames, no-names, names-on, split-last}
 use Rattle.paths.proofs.Opens.{ask-base, ask-good, ask-bad, open-is, look-stop, look-on}

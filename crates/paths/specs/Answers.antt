@@ -13,7 +13,7 @@ use Rattle.search.specs.declared.How.the-variants.{InTurn, Halving}
 use Rattle.paths.specs.declared.KeyFound.{KeyFound}
 use Rattle.paths.specs.declared.KeyFound.the-variants.{At, Refused}
 use Rattle.paths.specs.declared.Way.{Way}
-use Rattle.paths.specs.declared.Way.the-variants.{Found, Missing, Faulty}
+use Rattle.paths.specs.declared.Way.the-variants.{Found, Missing, Refused as Faulty}
 use Rattle.paths.specs.Paths.{partsOf, pathFault}
 use Rattle.paths.specs.Descent.{opened, lookupKeyBy}
 

@@ -10,7 +10,7 @@ use Rattle.records.specs.Keys.{keyFault, keyOf}
 use Rattle.search.specs.declared.How.{How}
 use Rattle.search.specs.declared.How.the-variants.{InTurn}
 use Rattle.search.specs.declared.Look.{Look}
-use Rattle.search.specs.declared.Look.the-variants.{Found, Missing, Faulty}
+use Rattle.search.specs.declared.Look.the-variants.{Found, Missing, Flawed as Faulty}
 use Rattle.search.specs.Quick.{belowBy}
 use Rattle.paths.specs.declared.Way.{Way}
 use Rattle.paths.specs.declared.Way.the-variants as way
@@ -19,7 +19,7 @@ use Rattle.paths.specs.declared.Way.the-variants as way
 unfoldable pub onFound : Offset → Look → (Offset → Way) → Way
 onFound k (Found o) go = go o
 onFound k Missing go = way.Missing k
-onFound k (Faulty f) go = way.Faulty (refusalOf k f)
+onFound k (Faulty f) go = way.Refused (refusalOf k f)
 
 -- along the parts of a path, from a key, by either search
 unfoldable pub descendBy : How → List ℕ → Offset → List (List ℕ) → Way
@@ -32,7 +32,7 @@ descend d o xs = descendBy InTurn d o xs
 -- a test that is made before any key is accepted, then what follows it
 abbrev pub opened : Verdict → Way → Way
 opened Sound w = w
-opened (Flawed f) w = way.Faulty (refusalOf noKey f)
+opened (Flawed f) w = way.Refused (refusalOf noKey f)
 
 -- "The root's own record is read (11, 12) for every path."
 unfoldable pub lookupKeyBy : How → List ℕ → Offset → List (List ℕ) → Way

@@ -1,6 +1,6 @@
 pub mod Paths
 pub mod Descent
 pub mod Answers
-pub mod Steps
+pub mod Children
 pub mod Reach
 pub mod Refused

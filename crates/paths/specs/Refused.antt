@@ -23,7 +23,7 @@ use Rattle.search.specs.declared.How.the-variants.{InTurn}
 use Rattle.search.specs.declared.Look.the-variants.{Missing}
 use Rattle.search.specs.Quick.{belowBy}
 use Rattle.paths.specs.Paths.{partsOf, isPath}
-use Rattle.paths.specs.Steps.{isStep}
+use Rattle.paths.specs.Children.{isStep}
 
 -- the keys on the way of a path, each with the parts that are still to go
 pub data OnWay (h us : List ℕ) : List (List ℕ) → Offset → Type 0 where

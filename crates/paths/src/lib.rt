@@ -19,7 +19,7 @@ ghost use Rattle.records.specs.Keys.{keyFault};
 ghost use Rattle.paths.specs.Paths.{firstPart, partsOf, isPath};
 ghost use Rattle.paths.specs.Descent.{descendBy, lookupKeyBy};
 ghost use Rattle.paths.specs.Answers.{askFault, keyLookBy, keyFound, findBy, findAnswer, quickAnswer};
-ghost use Rattle.paths.specs.Steps.{isStep, childLookBy, childBy};
+ghost use Rattle.paths.specs.Children.{isStep, childLookBy, childBy};
 
 const BACKSLASH: u16 = 92;
 
@@ -73,7 +73,7 @@ fn part_end(path: &[u16], start: usize) -> usize
 pub enum Way {
     Found(Offset),
     Missing(Offset),
-    Faulty(Refusal),
+    Refused(Refusal),
 }
 
 // Along the parts of a path, from a key that was tested. Each search is made on behalf of the key that the way stands on.
@@ -91,8 +91,8 @@ fn descend(bins: &[u8], from: Offset, path: &[u16], how: How) -> Way
             Look::Missing => {
                 return Way::Missing(key);
             }
-            Look::Faulty(f) => {
-                return Way::Faulty(fields::refused(key, f));
+            Look::Flawed(f) => {
+                return Way::Refused(fields::refused(key, f));
             }
             Look::Found(o) => {
                 key = o;
@@ -112,7 +112,7 @@ fn lookup_key(bins: &[u8], root: Offset, path: &[u16], how: How) -> Way
     ensures { λ r. ⌜ r ≡ lookupKeyBy how (now (bins .entry)) root (partsOf (now (path .entry))) ⌝ }
 {
     match records::key_at(bins, b"", Rule::Header, root) {
-        Keyed::Flawed(f) => Way::Faulty(fields::refused(Offset(fields::NO_KEY), f)),
+        Keyed::Flawed(f) => Way::Refused(fields::refused(Offset(fields::NO_KEY), f)),
         Keyed::Whole(_) => descend(bins, root, path, how),
     }
 }
@@ -138,7 +138,7 @@ pub fn key_look(hive: &[u8], path: &[u16], how: How) -> Way
     ensures { λ r. ⌜ r ≡ keyLookBy how (now (hive .entry)) (now (path .entry)) ⌝ }
 {
     match ask_flaw(hive, is_path(path)) {
-        Verdict::Flawed(f) => Way::Faulty(fields::refused(Offset(fields::NO_KEY), f)),
+        Verdict::Flawed(f) => Way::Refused(fields::refused(Offset(fields::NO_KEY), f)),
         Verdict::Sound => lookup_key(base::bins_of(hive), base::root_of(hive), path, how),
     }
 }
@@ -161,7 +161,7 @@ fn key_on(w: Way) -> KeyFound
                 place: Offset(0),
             },
         )),
-        Way::Faulty(r) => KeyFound::Refused(r),
+        Way::Refused(r) => KeyFound::Refused(r),
     }
 }
 
@@ -204,7 +204,7 @@ fn child_look(hive: &[u8], key: Offset, name: &[u16], how: How) -> Way
     ensures { λ r. ⌜ r ≡ childLookBy how (now (hive .entry)) key (now (name .entry)) ⌝ }
 {
     match ask_flaw(hive, is_step(name)) {
-        Verdict::Flawed(f) => Way::Faulty(fields::refused(Offset(fields::NO_KEY), f)),
+        Verdict::Flawed(f) => Way::Refused(fields::refused(Offset(fields::NO_KEY), f)),
         Verdict::Sound => lookup_key(base::bins_of(hive), key, name, how),
     }
 }

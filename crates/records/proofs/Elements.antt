@@ -12,7 +12,7 @@ use Rattle.cells.specs.Named.{dataAt}
 use Rattle.records.specs.declared.Key.{Key}
 use Rattle.records.specs.declared.Leaves.{Leaves}
 use Rattle.records.specs.Lists.{childrenIn, leavesBelow, childrenBelow, leafFault, headFault, listsFault}
-use Rattle.records.specs.Steps.{leavesAt, leafNamed, leavesNamed, LeavesLie}
+use Rattle.records.specs.Contracts.{leavesAt, leafNamed, leavesNamed, LeavesLie}
 use Rattle.records.proofs.ListFacts.{list-room}
 use Rattle.records.proofs.LawsLists.{below-none, below-some, lists-head, lists-leaf}
 use Rattle.records.proofs.LawsPlaces.{named-at, named-length, head-tested, leaves-are}

@@ -15,7 +15,7 @@ use Rattle.records.specs.declared.Headed.the-variants as head
 use Rattle.records.specs.declared.Name.{Name}
 use Rattle.records.specs.declared.Totalled.the-variants as total
 use Rattle.records.specs.Keys.{keyed, called}
-use Rattle.records.specs.Steps.{headed, leafed, totalled}
+use Rattle.records.specs.Contracts.{headed, leafed, totalled}
 
 pub keyed-whole : (v : Verdict) (k : Key) {k′ : Key} → keyed v k ≡ key.Whole k′ → (v ≡ Sound) × (k′ ≡ k)
 keyed-whole Sound k {k′} e = (refl, let q : k ≡ k′ = cc in sym q)

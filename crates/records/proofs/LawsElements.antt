@@ -9,7 +9,7 @@ use Rattle.cells.specs.Named.{dataAt}
 use Rattle.records.specs.declared.Child.{Child}
 use Rattle.records.specs.declared.Leaf.{Leaf}
 use Rattle.records.specs.Lists.{countOf, childrenFrom, leafChildren}
-use Rattle.records.specs.Steps.{leafIn, leafOf, childNamed, elementsFrom, elementsOf, noChild}
+use Rattle.records.specs.Contracts.{leafIn, leafOf, childNamed, elementsFrom, elementsOf, noChild}
 use Rattle.records.proofs.LawsPlaces.{child-is}
 
 module _ (d : List ℕ) (l : Leaf) where

@@ -15,7 +15,7 @@ use Rattle.records.specs.declared.Child.{Child}
 use Rattle.records.specs.declared.Leaves.{Leaves}
 use Rattle.records.specs.Offsets.{offsetAt, offsetsAt}
 use Rattle.records.specs.Lists.{isLi, isRi, countOf, widthOf, isLeaf, isList, childAt, leafChildren, leavesOf, leafFault, headFault}
-use Rattle.records.specs.Steps.{leavesIn, leavesAt, leafNamed, leavesNamed, LeavesLie, leafIn, leafOf, childNamed, ElementsLie}
+use Rattle.records.specs.Contracts.{leavesIn, leavesAt, leafNamed, leavesNamed, LeavesLie, leafIn, leafOf, childNamed, ElementsLie}
 use Rattle.records.proofs.LawsRecord.{record-tested}
 use Rattle.records.proofs.ListFacts.{IsLeaf, leaf-facts, index-facts, list-room}
 use Rattle.records.proofs.LawsSequence.{offsets-length, offsets-at, leaf-children-length, leaf-children-at}

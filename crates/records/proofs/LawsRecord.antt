@@ -13,7 +13,7 @@ use Rattle.fields.specs.declared.Verdict.the-variants.{Sound, Flawed}
 use Rattle.fields.specs.Faults.{flaw, unless, _next_}
 use Rattle.fields.proofs.Firsts.{on, stop, both, sound, held, holds, fails}
 use Rattle.cells.specs.declared.Cell.{Cell}
-use Rattle.cells.specs.declared.Found.the-variants.{Named, Missing}
+use Rattle.cells.specs.declared.Found.the-variants.{Named, Flawed as Missing}
 use Rattle.cells.specs.declared.Rule.{Rule}
 use Rattle.cells.specs.Named.{cellOf, cellFault, dataOf, dataAt, partIn}
 use Rattle.cells.proofs.Parts.{part-length}

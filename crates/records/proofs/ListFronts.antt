@@ -9,7 +9,7 @@ use Rattle.fields.specs.Bytes.{sameBytes, standsAt}
 use Rattle.cells.specs.Named.{dataAt, partIn}
 use Rattle.cells.proofs.Parts.{u16-part}
 use Rattle.records.specs.Lists.{countOf, widthOf}
-use Rattle.records.specs.Steps.{leavesIn, leavesAt, leafIn, leafOf}
+use Rattle.records.specs.Contracts.{leavesIn, leavesAt, leafIn, leafOf}
 
 module _ (d : List ℕ) (o : Offset) where
   -- a signature of two bytes

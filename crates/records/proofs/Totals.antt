@@ -19,7 +19,7 @@ use Rattle.records.specs.declared.Headed.the-variants as head
 use Rattle.records.specs.declared.Leafed.the-variants as leaf
 use Rattle.records.specs.declared.Totalled.the-variants as total
 use Rattle.records.specs.Lists.{countOf, childrenIn, childrenBelow, leafFault, headFault, listsFault}
-use Rattle.records.specs.Steps.{leavesAt, leafNamed, leavesNamed, LeavesLie, leafIn, leafOf, headed, leafed, totalled, totalOver}
+use Rattle.records.specs.Contracts.{leavesAt, leafNamed, leavesNamed, LeavesLie, leafIn, leafOf, headed, leafed, totalled, totalOver}
 use Rattle.records.proofs.LawsAnswer.{headed-whole, headed-flawed, leafed-whole, leafed-flawed}
 use Rattle.records.proofs.LawsSequence.{count-on, count-end}
 use Rattle.records.proofs.LawsPlaces.{named-length, named-at, leaves-lie, leaves-are, leaves-few, leaf-tested}

@@ -14,7 +14,7 @@ use Rattle.fields.specs.Bytes.{standsAt}
 use Rattle.fields.specs.Faults.{flaw, unless, _next_}
 use Rattle.cells.specs.declared.Rule.{Rule}
 use Rattle.cells.specs.Named.{cellFault, dataAt, partIn}
-use Rattle.cells.specs.Steps.{PartIn}
+use Rattle.cells.specs.Contracts.{PartIn}
 use Rattle.names.specs.Codes.{codes, charactersIn, hasCode, backslash}
 use Rattle.records.specs.declared.Called.{Called}
 use Rattle.records.specs.declared.Called.the-variants as name

@@ -16,7 +16,7 @@ ghost use Rattle.cells.specs.declared.Rule.the-variants.{Header};
 ghost use Rattle.cells.specs.Named.{dataAt};
 ghost use Rattle.records.specs.Keys.{isFlagged, isWhole, isKeyName, isKey, keyIn, keyFault, keyOf, securityOf, keyed, called, NameIn, nameBytes, codesOf};
 ghost use Rattle.records.specs.Lists.{hasElements, widthOf, hasLeafSignature, isLeaf, isList, childrenBelow, leafFault, headFault, listsFault};
-ghost use Rattle.records.specs.Steps.{leavesIn, leavesAt, headed, LeavesLie, leafNamed, leafIn, leafOf, leafed, ElementsLie, childNamed, totalled, totalOver};
+ghost use Rattle.records.specs.Contracts.{leavesIn, leavesAt, headed, LeavesLie, leafNamed, leafIn, leafOf, leafed, ElementsLie, childNamed, totalled, totalOver};
 
 // A stored name: its bytes lie in the data of a cell, from a position on.
 pub struct Name {
@@ -134,7 +134,7 @@ pub fn key_at(bins: &[u8], map: &[u8], rule: Rule, o: Offset) -> Keyed
     ensures { λ r. ⌜ r ≡ keyed (keyFault rule (now (bins .entry)) (now (map .entry)) o) (keyOf (now (bins .entry)) o) ⌝ }
 {
     match cells::find_cell(bins, map, rule, o) {
-        Found::Missing(f) => Keyed::Flawed(f),
+        Found::Flawed(f) => Keyed::Flawed(f),
         Found::Named(c) => {
             let r = cells::cell_data(bins, c);
             if !is_key(r) {
@@ -159,7 +159,7 @@ pub fn name_at(bins: &[u8], o: Offset) -> Called
     ensures { λ r. ⌜ r ≡ called (keyFault Header (now (bins .entry)) [] o) (keyOf (now (bins .entry)) o .name) ⌝ }
 {
     match cells::find_cell(bins, b"", Rule::Header, o) {
-        Found::Missing(f) => Called::Flawed(f),
+        Found::Flawed(f) => Called::Flawed(f),
         Found::Named(c) => {
             let r = cells::cell_data(bins, c);
             if !is_key(r) {
@@ -344,7 +344,7 @@ pub fn head_at(bins: &[u8], map: &[u8], rule: Rule, o: Offset) -> Headed
     ensures { λ r. ⌜ r ≡ headed (headFault rule (now (bins .entry)) (now (map .entry)) o) (leavesAt (now (bins .entry)) o) ⌝ }
 {
     match cells::find_cell(bins, map, rule, o) {
-        Found::Missing(f) => Headed::Flawed(f),
+        Found::Flawed(f) => Headed::Flawed(f),
         Found::Named(c) => {
             let r = cells::cell_data(bins, c);
             if !is_list(r) {
@@ -412,7 +412,7 @@ pub fn leaf_at(bins: &[u8], map: &[u8], rule: Rule, o: Offset) -> Leafed
     ensures { λ r. ⌜ r ≡ leafed (leafFault rule (now (bins .entry)) (now (map .entry)) o) (leafOf (now (bins .entry)) o) ⌝ }
 {
     match cells::find_cell(bins, map, rule, o) {
-        Found::Missing(f) => Leafed::Flawed(f),
+        Found::Flawed(f) => Leafed::Flawed(f),
         Found::Named(c) => {
             let r = cells::cell_data(bins, c);
             if !is_leaf(r) {

@@ -16,43 +16,43 @@ use Rattle.fields.specs.Faults.{flaw, nowhere, noKey, refusalOf, unless}
 use Rattle.fields.proofs.Firsts.{on, stop, both, held, holds, fails}
 use Rattle.base.specs.Block.{sector, clean}
 use Rattle.logs.specs.declared.Head.the-variants as head
-use Rattle.logs.specs.declared.Read.{Read}
+use Rattle.logs.specs.declared.LogFormat.{LogFormat}
 use Rattle.logs.specs.declared.Tested.the-variants as log
 use Rattle.logs.specs.Logs.{headed, logFault, logBins, pageCount, loggedCount, tested, applies}
 use Rattle.recovery.specs.declared.Begun.the-variants as ready
 use Rattle.recovery.specs.declared.Started.{Started}
 use Rattle.recovery.specs.declared.Started.the-variants.{Clean, Pages, Refused}
-use Rattle.recovery.specs.Steps.{begunBy}
+use Rattle.recovery.specs.Contracts.{begunBy}
 use Rattle.recovery.specs.AtOnce.{markedFault}
 use Rattle.recovery.specs.Calls.{hiveFault, testFault, started, startAnswer}
 
 -- ---- the log's own tests
 
-pub logged-sound : (v : Verdict) (r x : Read) (n m : ℕ) → tested v r n ≡ log.Logged x m → (v ≡ Sound) × (r ≡ x) × (n ≡ m)
+pub logged-sound : (v : Verdict) (r x : LogFormat) (n m : ℕ) → tested v r n ≡ log.Logged x m → (v ≡ Sound) × (r ≡ x) × (n ≡ m)
 logged-sound Sound r x n m e = (refl, cc, cc)
 logged-sound (Flawed f) r x n m e = absurd (let z : _≡_ {A = ℕ} 0 1 = cc in omega arith)
 
-pub flawed-log : (v : Verdict) (r : Read) (n : ℕ) (f : Flaw) → tested v r n ≡ log.Flawed f → v ≡ Flawed f
+pub flawed-log : (v : Verdict) (r : LogFormat) (n : ℕ) (f : Flaw) → tested v r n ≡ log.Flawed f → v ≡ Flawed f
 flawed-log Sound r n f e = absurd (let z : _≡_ {A = ℕ} 0 1 = cc in omega arith)
 flawed-log (Flawed g) r n f e = cc
 
-pub good-head : (v : Verdict) (r x : Read) → headed v r ≡ head.Good x → (v ≡ Sound) × (r ≡ x)
+pub good-head : (v : Verdict) (r x : LogFormat) → headed v r ≡ head.Good x → (v ≡ Sound) × (r ≡ x)
 good-head Sound r x e = (refl, cc)
 good-head (Flawed f) r x e = absurd (let z : _≡_ {A = ℕ} 0 1 = cc in omega arith)
 
-pub flawed-head : (v : Verdict) (r : Read) (f : Flaw) → headed v r ≡ head.Flawed f → v ≡ Flawed f
+pub flawed-head : (v : Verdict) (r : LogFormat) (f : Flaw) → headed v r ≡ head.Flawed f → v ≡ Flawed f
 flawed-head Sound r f e = absurd (let z : _≡_ {A = ℕ} 0 1 = cc in omega arith)
 flawed-head (Flawed g) r f e = cc
 
 -- ---- what the first tests give to the rest of a call
 
-module _ (r : Read) (k : ℕ) where
+module _ (r : LogFormat) (k : ℕ) where
   pub begun-clean : (s : Started) → begunBy s r k ≡ ready.Clean → s ≡ Clean
   begun-clean Clean e = refl
   begun-clean (Pages n) e = absurd (let z : _≡_ {A = ℕ} 0 1 = cc in omega arith)
   begun-clean (Refused x) e = absurd (let z : _≡_ {A = ℕ} 0 1 = cc in omega arith)
 
-  pub begun-ready : (s : Started) (x : Read) (n : ℕ) → begunBy s r k ≡ ready.Ready x n → (m : ℕ) × (s ≡ Pages m) × (x ≡ r) × (n ≡ k)
+  pub begun-ready : (s : Started) (x : LogFormat) (n : ℕ) → begunBy s r k ≡ ready.Ready x n → (m : ℕ) × (s ≡ Pages m) × (x ≡ r) × (n ≡ k)
   begun-ready Clean x n e = absurd (let z : _≡_ {A = ℕ} 0 1 = cc in omega arith)
   begun-ready (Pages m) x n e = (m, refl, cc, cc)
   begun-ready (Refused y) x n e = absurd (let z : _≡_ {A = ℕ} 0 1 = cc in omega arith)

@@ -8,7 +8,7 @@ use fields::Refusal;
 use fields::Verdict;
 use logs::Facts;
 use logs::Head;
-use logs::Read;
+use logs::LogFormat;
 use logs::Tested;
 ghost use mathlib.Core.Path.{_≡_};
 ghost use lib.ListN.{length};
@@ -16,7 +16,7 @@ ghost use Rattle.fields.specs.declared.Verdict.the-variants.{Sound};
 ghost use Rattle.fields.specs.Faults.{flaw, nowhere, noKey, refusalOf};
 ghost use Rattle.sectors.specs.Sector.{stored, pagePlace};
 ghost use Rattle.logs.specs.Logs.{readOf, headFault, logFault, loggedCount, countedOf, logged, nextLogged, closingOf};
-ghost use Rattle.recovery.specs.Steps.{begunBy};
+ghost use Rattle.recovery.specs.Contracts.{begunBy};
 ghost use Rattle.recovery.specs.Calls.{hiveFault, testFault, started, startAnswer, installed, closed, changed, pageAnswer, pageHive, closeAnswer, closeHive, nextOf, nextAnswer};
 ghost use Rattle.recovery.specs.AtOnce.{allAnswer, allHive, markOf, markAnswer, markedAnswer, markedMap, factsAnswer};
 ghost use Rattle.recovery.specs.Settling.{settleAnswer, settleHive};
@@ -66,7 +66,7 @@ pub enum LogFacts {
 // What the tests that every call makes first give to the rest of the call.
 enum Begun {
     Clean,
-    Ready { read: Read, counted: usize },
+    Ready { read: LogFormat, counted: usize },
     Refused(Refusal),
 }
 
@@ -84,7 +84,7 @@ fn refuse(fault: Fault) -> Refusal
 }
 
 // 24; 25.
-fn hive_flaw(hive: &[u8], log: &[u8], read: Read) -> Verdict
+fn hive_flaw(hive: &[u8], log: &[u8], read: LogFormat) -> Verdict
     requires { ⌜ logFault (now log) ≡ Sound ⌝ }
     requires { ⌜ read ≡ readOf (now log) ⌝ }
     ensures { λ r. ⌜ r ≡ hiveFault (now (hive .entry)) (now (log .entry)) ⌝ }
@@ -136,7 +136,7 @@ pub fn start(hive: &[u8], log: &[u8]) -> Started
 }
 
 // A page call whose tests are passed.
-fn install(hive: &mut [u8], log: &[u8], read: Read, n: usize) -> Stepped
+fn install(hive: &mut [u8], log: &[u8], read: LogFormat, n: usize) -> Stepped
     requires { ⌜ testFault (now hive) (now log) ≡ Sound ⌝ }
     requires { ⌜ read ≡ readOf (now log) ⌝ }
     ensures { λ r. ⌜ r ≡ installed (now (log .entry)) n ⌝ }
@@ -152,7 +152,7 @@ fn install(hive: &mut [u8], log: &[u8], read: Read, n: usize) -> Stepped
 }
 
 // A closing call whose tests are passed. The closing sector comes after the pages: before them "the file looks clean and is half old".
-fn seal(hive: &mut [u8], log: &[u8], read: Read) -> Stepped
+fn seal(hive: &mut [u8], log: &[u8], read: LogFormat) -> Stepped
     requires { ⌜ testFault (now hive) (now log) ≡ Sound ⌝ }
     requires { ⌜ read ≡ readOf (now log) ⌝ }
     ensures { λ r. ⌜ r ≡ closed (now (hive .entry)) (now (log .entry)) ⌝ }
@@ -189,7 +189,7 @@ pub fn close(hive: &mut [u8], log: &[u8]) -> Stepped
     }
 }
 
-fn next_of(log: &[u8], read: Read, from: usize) -> NextPage
+fn next_of(log: &[u8], read: LogFormat, from: usize) -> NextPage
     requires { ⌜ logFault (now log) ≡ Sound ⌝ }
     requires { ⌜ read ≡ readOf (now log) ⌝ }
     ensures { λ r. ⌜ r ≡ nextOf (now (log .entry)) (nextLogged (now (log .entry)) from) ⌝ }
@@ -231,7 +231,7 @@ pub fn all_pages(hive: &mut [u8], log: &[u8]) -> Stepped
     }
 }
 
-fn mark_of(log: &[u8], read: Read, from: usize) -> NextMark
+fn mark_of(log: &[u8], read: LogFormat, from: usize) -> NextMark
     requires { ⌜ headFault (now log) ≡ Sound ⌝ }
     requires { ⌜ read ≡ readOf (now log) ⌝ }
     ensures { λ r. ⌜ r ≡ markOf (nextLogged (now (log .entry)) from) ⌝ }

@@ -21,7 +21,7 @@ use Rattle.remnants.specs.declared.Kind.the-variants as kind
 use Rattle.remnants.specs.declared.Remain.{Remain}
 use Rattle.remnants.specs.Remnants.{restOf, kindAt, remainOf, remainAt, spot, spotsN, spotsIn, spotsOf, remnantsOf}
 use Rattle.remnants.specs.Found.{Inside, restIn, Left, a-key, a-value}
-use Rattle.remnants.specs.Steps.{isSome}
+use Rattle.remnants.specs.Contracts.{isSome}
 use Rattle.remnants.proofs.Held.{a-key as is-a-key, a-value as is-a-value, key-is, value-is, kind-of-rest, remain-offset}
 
 -- a record of a free cell, by its offset

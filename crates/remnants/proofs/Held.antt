@@ -17,7 +17,7 @@ use Rattle.remnants.specs.declared.Kind.{Kind}
 use Rattle.remnants.specs.declared.Kind.the-variants as kind
 use Rattle.remnants.specs.declared.Remain.{Remain}
 use Rattle.remnants.specs.Remnants.{restOf, kindOf, kindAt, remainOf, remainAt, spot}
-use Rattle.remnants.specs.Steps.{isSome}
+use Rattle.remnants.specs.Contracts.{isSome}
 
 module _ (r : List ℕ) where
   pub a-key : isKey r ≡ true → kindOf r ≡ kind.Key

@@ -38,9 +38,9 @@ module _ (h : List ℕ) where
       every-next (OfTiles h) (baseFault h) (flawIn (surveyOf (layout (binsData h) 0) 0 0 0)) (λ f e. of-base (base-refuses h f e))
       (λ s f e. of-bins (bins-refuse (binsData h) (untiled (surveyOf (layout (binsData h) 0) 0 0 0) e)))
     where
-      untiled : (s : Surveyed) {f : Flaw} → flawIn s ≡ Flawed f → s ≡ survey.Refused f
+      untiled : (s : Surveyed) {f : Flaw} → flawIn s ≡ Flawed f → s ≡ survey.Flawed f
       untiled (survey.Tiled t) e = absurd (let z : _≡_ {A = ℕ} 0 1 = cc in omega arith)
-      untiled (survey.Refused g) e = cc
+      untiled (survey.Flawed g) e = cc
 
   -- where the base block is refused, so is the survey
   pub base-stops : {f : Flaw} → baseFault h ≡ Flawed f → tilesFault h ≡ Flawed f

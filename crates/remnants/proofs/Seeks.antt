@@ -7,14 +7,14 @@ use mathlib.Core.Logic.{⊎-elim}
 use mathlib.Core.List.{List, [], _∷_, _++_}
 use lib.ListN.{length}
 use Rattle.cells.specs.declared.Gap.{Gap}
-use Rattle.cells.specs.Steps.{Stands, freeFrom, NextFree}
+use Rattle.cells.specs.Contracts.{Stands, freeFrom, NextFree}
 use Rattle.cells.proofs.Gaps.{free-start, free-end}
 use Rattle.remnants.specs.declared.Kind.the-variants as kind
 use Rattle.remnants.specs.declared.Hit.{Hit}
 use Rattle.remnants.specs.declared.Cursor.{Cursor}
 use Rattle.remnants.specs.declared.Remain.{Remain}
 use Rattle.remnants.specs.Remnants.{remainAt, spotsIn, spotsOf, remnantsOf, notBelow}
-use Rattle.remnants.specs.Steps.{isSome, Free, Spotted, Hits, left, leftAt, cursor, At, Sought, Sees, soughtLeft}
+use Rattle.remnants.specs.Contracts.{isSome, Free, Spotted, Hits, left, leftAt, cursor, At, Sought, Sees, soughtLeft}
 use Rattle.remnants.proofs.Held.{remain-offset}
 use Rattle.remnants.proofs.Spots.{below-append, below-keeps, below-nil, spots-end, spots-some, spots-gap, spots-nil}
 

@@ -10,13 +10,13 @@ use borrow.Author.Tests.{le-leb, lt-leb, ltb-true, ltb-false}
 use lib.ListN.{getD}
 use Rattle.cells.specs.Named.{dataTo}
 use Rattle.cells.specs.Free.{Span}
-use Rattle.cells.specs.Steps.{gapOf, Without}
+use Rattle.cells.specs.Contracts.{gapOf, Without}
 use Rattle.cells.proofs.Gaps.{gap-some, gap-none}
 use Rattle.remnants.specs.declared.Kind.{Kind}
 use Rattle.remnants.specs.declared.Kind.the-variants as kind
 use Rattle.remnants.specs.declared.Remain.{Remain}
 use Rattle.remnants.specs.Remnants.{kindAt, remainAt, spot, spotsN, spotsIn, spotsOf, notBelow}
-use Rattle.remnants.specs.Steps.{isSome, Free, Skipped, Going, Hits}
+use Rattle.remnants.specs.Contracts.{isSome, Free, Skipped, Going, Hits}
 use Rattle.remnants.proofs.Held.{remain-offset, spot-none, unsigned}
 
 module _ (from : ℕ) where

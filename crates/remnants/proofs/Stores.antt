@@ -14,7 +14,7 @@ use Rattle.remnants.specs.declared.Cursor.{Cursor}
 use Rattle.remnants.specs.declared.Remain.{Remain}
 use Rattle.remnants.specs.declared.Filled.the-variants as filled
 use Rattle.remnants.specs.Remnants.{remainAt, wordsOf, rowsOf, fitting, filledWith, poured}
-use Rattle.remnants.specs.Steps.{isSome, cursor, Sought, Sees, soughtLeft, pourFrom, countFrom}
+use Rattle.remnants.specs.Contracts.{isSome, cursor, Sought, Sees, soughtLeft, pourFrom, countFrom}
 use Rattle.remnants.proofs.Seeks.{first-left}
 
 pub stored : (l : List ℕ) (i a b n w : ℕ) → set (set (set (set l i a) (i + 1) b) (i + 2) n) (i + 3) w ≡ sets l i (a ∷ b ∷ n ∷ w ∷ [])

@@ -11,7 +11,7 @@ use Rattle.cells.specs.declared.Surveyed.the-variants as survey
 use Rattle.cells.specs.declared.Tally.{Tally}
 use Rattle.cells.specs.Tiling.{layout, surveyOf}
 use Rattle.cells.specs.Tiled.{BinsTile, cells-end}
-use Rattle.cells.specs.Steps.{Stands}
+use Rattle.cells.specs.Contracts.{Stands}
 use Rattle.cells.proofs.Fronts.{base-pages}
 use Rattle.cells.proofs.Tiles.{tiled-exactly}
 use Rattle.remnants.specs.Remnants.{flawIn, tilesFault}
@@ -29,7 +29,7 @@ module _ (h : List ℕ) where
 
     counted : (s : Surveyed) → flawIn s ≡ Sound → (t : Tally) × (s ≡ survey.Tiled t)
     counted (survey.Tiled t) p = (t, refl)
-    counted (survey.Refused f) p = absurd (let z : _≡_ {A = ℕ} 0 1 = cc in omega arith)
+    counted (survey.Flawed f) p = absurd (let z : _≡_ {A = ℕ} 0 1 = cc in omega arith)
 
     -- bins and cells that pass tile the bins data
     pub tiles : BinsTile (binsData h) 0

@@ -79,7 +79,7 @@ notBelow from (x ∷ xs) = cond (leb from (x .at .0)) (x ∷ notBelow from xs) (
 -- "Only bins and cells need be well formed for this: 1 to 7, 9 and 10 apply"
 abbrev pub flawIn : Surveyed → Verdict
 flawIn (survey.Tiled t) = Sound
-flawIn (survey.Refused f) = Flawed f
+flawIn (survey.Flawed f) = Flawed f
 
 unfoldable pub tilesFault : List ℕ → Verdict
 tilesFault h = baseFault h next flawIn (surveyOf (layout (binsData h) 0) 0 0 0)

@@ -12,9 +12,9 @@ ghost use Prim.Native.Nat.{_+_, _%_, _≤_};
 ghost use lib.ListN.{length};
 ghost use lib.Seq.{sets};
 ghost use Rattle.base.specs.Block.{binsLimit};
-ghost use Rattle.cells.specs.Steps.{Stands};
+ghost use Rattle.cells.specs.Contracts.{Stands};
 ghost use Rattle.remnants.specs.Remnants.{kindOf, kindAt, remainOf, remainAt, remnantsOf, notBelow, firstOf, tilesFault, remnantAnswer, kindWord, wordsOf, filledWith, rowsAnswer, poured, rowsOut};
-ghost use Rattle.remnants.specs.Steps.{isSome, Spotted, Free, Skipped, Hits, At, cursor, Sought, Sees, soughtLeft, countFrom, pourFrom};
+ghost use Rattle.remnants.specs.Contracts.{isSome, Spotted, Free, Skipped, Hits, At, cursor, Sought, Sees, soughtLeft, countFrom, pourFrom};
 
 // What a position of a free cell holds.
 pub enum Kind {
@@ -242,7 +242,7 @@ fn tiles_flaw(hive: &[u8]) -> Verdict
         Verdict::Flawed(f) => Verdict::Flawed(f),
         Verdict::Sound => match cells::count_tiles(base::bins_of(hive)) {
             Surveyed::Tiled(_) => Verdict::Sound,
-            Surveyed::Refused(f) => Verdict::Flawed(f),
+            Surveyed::Flawed(f) => Verdict::Flawed(f),
         },
     }
 }

@@ -56,7 +56,7 @@ fn land(disk: &mut [u8], mem: &[u8], at: usize) {
     if mem.len() - 512 < at {
         return;
     }
-    orders::put_part(disk, &mem[at..at + 512], at);
+    test_lines::put_part(disk, &mem[at..at + 512], at);
 }
 
 fn land_page(disk: &mut [u8], mem: &[u8], n: usize) {
@@ -72,10 +72,10 @@ fn take_in(mem: &mut [u8], disk: &mut [u8], log: &mut [u8], part: &[u8], kind: u
             io::write_all(1, part);
         }
         3 => {
-            orders::put(mem, part);
-            orders::put(disk, part);
+            test_lines::put(mem, part);
+            test_lines::put(disk, part);
         }
-        _ => orders::put(log, part),
+        _ => test_lines::put(log, part),
     }
 }
 
@@ -120,7 +120,7 @@ fn repair(mem: &mut [u8], disk: &mut [u8], log: &[u8], kind: u8, n: usize) {
         8 => say::next(recovery::next_page(log, n)),
         9 => land_page(disk, mem, n),
         10 => land(disk, mem, 0),
-        11 => orders::put_part(mem, disk, 0),
+        11 => test_lines::put_part(mem, disk, 0),
         12 => say::disk(disk),
         13 => say::stepped(recovery::all_pages(mem, log)),
         14 => say::mark(recovery::next_mark(log, n)),

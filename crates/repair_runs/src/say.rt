@@ -1,11 +1,11 @@
 // What is written of each answer.
-use orders::end;
-use orders::number;
 use recovery::Marked;
 use recovery::NextMark;
 use recovery::NextPage;
 use recovery::Started;
 use recovery::Stepped;
+use test_lines::end;
+use test_lines::number;
 
 pub fn started(a: Started) {
     match a {
@@ -17,7 +17,7 @@ pub fn started(a: Started) {
             end();
         }
         Started::Refused(r) => {
-            orders::refused(r);
+            test_lines::refused(r);
         }
     }
 }
@@ -31,7 +31,7 @@ pub fn stepped(a: Stepped) {
             io::write_all(1, b"done\n");
         }
         Stepped::Refused(r) => {
-            orders::refused(r);
+            test_lines::refused(r);
         }
     }
 }
@@ -48,7 +48,7 @@ pub fn next(a: NextPage) {
             end();
         }
         NextPage::Refused(r) => {
-            orders::refused(r);
+            test_lines::refused(r);
         }
     }
 }
@@ -64,7 +64,7 @@ pub fn mark(a: NextMark) {
             end();
         }
         NextMark::Refused(r) => {
-            orders::refused(r);
+            test_lines::refused(r);
         }
     }
 }
@@ -76,7 +76,7 @@ pub fn all_marked(a: Marked) {
             end();
         }
         Marked::Refused(r) => {
-            orders::refused(r);
+            test_lines::refused(r);
         }
     }
 }

@@ -26,17 +26,17 @@ use Rattle.records.specs.declared.Leaves.{Leaves}
 use Rattle.records.specs.declared.Name.{Name}
 use Rattle.records.specs.Keys.{keyFault, keyOf, called, codesOf}
 use Rattle.records.specs.Lists.{leafFault, headFault}
-use Rattle.records.specs.Steps.{leafOf, leafed, childNamed, elementsOf, leavesAt, headed, leavesNamed}
+use Rattle.records.specs.Contracts.{leafOf, leafed, childNamed, elementsOf, leavesAt, headed, leavesNamed}
 use Rattle.records.proofs.LawsAnswer.{called-whole, called-flawed, leafed-whole, leafed-flawed, headed-whole, headed-flawed}
 use Rattle.records.proofs.LawsPlaces.{leaf-some, leaf-count, leaves-are}
 use Rattle.records.proofs.LawsElements.{elements-length, element-at, elements-are}
 use Rattle.tree.specs.Tree.{nameAt, isBefore}
 use Rattle.search.specs.declared.Look.{Look}
-use Rattle.search.specs.declared.Look.the-variants.{Found, Missing, Faulty}
+use Rattle.search.specs.declared.Look.the-variants.{Found, Missing, Flawed as Faulty}
 use Rattle.search.specs.declared.Turn.{Turn}
 use Rattle.search.specs.declared.Turn.the-variants.{Left, Right, Stop}
 use Rattle.search.specs.Quick.{turnedBy, middle, halve, halving, toward, onSoundTurn, askKey, quickKeys, firstChild, lastChild, isAfter, askKeys, askLeaf, quickBelow}
-use Rattle.search.specs.Steps.{byOffset, askedLast}
+use Rattle.search.specs.Contracts.{byOffset, askedLast}
 
 -- ---- one key, by its offset
 module _ (d x : List ℕ) (o : Offset) where

@@ -28,7 +28,7 @@ use Rattle.records.proofs.Facts.{signed-exactly, key-exactly}
 use Rattle.tree.proofs.Facts.{leaf-exactly, list-exactly}
 use Rattle.tree.proofs.Stands.{of-cell, of-leaf, of-key}
 use Rattle.search.specs.declared.Look.{Look}
-use Rattle.search.specs.declared.Look.the-variants.{Found, Missing, Faulty}
+use Rattle.search.specs.declared.Look.the-variants.{Found, Missing, Flawed as Faulty}
 use Rattle.search.specs.Search.{onSound, orElse, firstOf, keyNamed, searchKeys, searchLeaf, searchLeaves, searchBelow}
 
 -- the ways of a search

@@ -17,7 +17,7 @@ use Rattle.records.specs.Keys.{keyFault}
 use Rattle.records.specs.Lists.{leafFault, headFault, leafChildren, leavesOf}
 use Rattle.tree.specs.Tree.{nameAt}
 use Rattle.search.specs.declared.Look.{Look}
-use Rattle.search.specs.declared.Look.the-variants.{Found, Missing, Faulty}
+use Rattle.search.specs.declared.Look.the-variants.{Found, Missing, Flawed as Faulty}
 use Rattle.search.specs.Search.{onSound, orElse, firstOf, keyNamed, searchLeaf, searchLeaves, searchBelow}
 
 -- a search that finds has found it at one of its things

@@ -22,7 +22,7 @@ use Rattle.names.proofs.LawsOrder.{transitive, after-turned, before-turned, sam
 use Rattle.records.specs.declared.Child.{Child}
 use Rattle.records.specs.Keys.{keyFault, keyOf}
 use Rattle.records.specs.Lists.{leafChildren, leavesOf, childrenIn, leavesBelow, childrenBelow, leafFault, headFault}
-use Rattle.records.specs.Steps.{noChild, leavesAt}
+use Rattle.records.specs.Contracts.{noChild, leavesAt}
 use Rattle.records.proofs.LawsPlaces.{leaf-some, leaf-tested, leaves-lie, leaves-are, leaves-few, named-length}
 use Rattle.records.proofs.LawsSequence.{leaf-children-length}
 use Rattle.tree.specs.declared.Hive.{Hive}
@@ -30,9 +30,9 @@ use Rattle.tree.specs.Tree.{nameAt, isBefore}
 use Rattle.tree.specs.WellFormed.{Ascends, none, more, TreeStands, key}
 use Rattle.tree.proofs.Accepted.{before-is}
 use Rattle.records.proofs.Elements.{at-in}
-use Rattle.tree.proofs.Walks.{last-at}
+use Rattle.tree.proofs.Subtrees.{last-at}
 use Rattle.search.specs.declared.Look.{Look}
-use Rattle.search.specs.declared.Look.the-variants.{Found, Missing, Faulty}
+use Rattle.search.specs.declared.Look.the-variants.{Found, Missing, Flawed}
 use Rattle.search.specs.declared.Turn.the-variants.{Left, Right, Stop}
 use Rattle.search.specs.Search.{orElse, firstOf, keyNamed, searchKeys, searchLeaf, searchLeaves, searchBelow}
 use Rattle.search.specs.Quick.{halving, askKey, quickKeys, firstChild, lastChild, isAfter, askKeys, askLeaf, quickBelow}
@@ -62,7 +62,7 @@ module _ {A : Type 0} (each : A → Look) where
   unfolding orElse
   or-none Missing = refl
   or-none (Found o) = refl
-  or-none (Faulty f) = refl
+  or-none (Flawed f) = refl
 
   first-skips : (x : A) (xs : List A) → each x ≡ Missing → firstOf each (x ∷ xs) ≡ firstOf each xs
   unfolding firstOf orElse

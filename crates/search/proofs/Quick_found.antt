@@ -22,7 +22,7 @@ use Rattle.records.specs.declared.Child.{Child}
 use Rattle.records.specs.declared.Key.{Key}
 use Rattle.records.specs.Keys.{keyFault, keyOf}
 use Rattle.records.specs.Lists.{leafFault, headFault, leafChildren, leavesOf, childrenIn, children}
-use Rattle.records.specs.Steps.{noChild}
+use Rattle.records.specs.Contracts.{noChild}
 use Rattle.records.proofs.LawsPlaces.{leaf-some}
 use Rattle.values.specs.Refused.{one-of, its-list, its-leaf, its-child}
 use Rattle.values.proofs.Refusals.{key-unfit, list-fit, list-unfit, leaf-unfit}
@@ -31,7 +31,7 @@ use Rattle.records.proofs.Elements.{at-in}
 use Rattle.search.specs.declared.How.{How}
 use Rattle.search.specs.declared.How.the-variants.{InTurn, Halving}
 use Rattle.search.specs.declared.Look.{Look}
-use Rattle.search.specs.declared.Look.the-variants.{Found, Missing, Faulty}
+use Rattle.search.specs.declared.Look.the-variants.{Found, Missing, Flawed as Faulty}
 use Rattle.search.specs.declared.Turn.{Turn}
 use Rattle.search.specs.declared.Turn.the-variants.{Left, Right, Stop}
 use Rattle.search.specs.Search.{onSound}

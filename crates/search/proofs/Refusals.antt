@@ -24,7 +24,7 @@ use Rattle.values.specs.Refused.{Among, Lists, one-of, its-list, its-leaf, its-
 use Rattle.values.proofs.Refusals.{key-unfit, list-fit, list-unfit, leaf-unfit}
 use Rattle.tree.specs.Tree.{nameAt}
 use Rattle.search.specs.declared.Look.{Look}
-use Rattle.search.specs.declared.Look.the-variants.{Found, Missing, Faulty}
+use Rattle.search.specs.declared.Look.the-variants.{Found, Missing, Flawed as Faulty}
 use Rattle.search.specs.Search.{onSound, orElse, firstOf, keyNamed, searchLeaf, searchLeaves, searchBelow}
 use Rattle.search.proofs.Found.{first-at, sound-found}
 use Rattle.search.proofs.Finds.{named-in}

@@ -18,14 +18,14 @@ use Rattle.records.specs.declared.Leaves.{Leaves}
 use Rattle.records.specs.declared.Name.{Name}
 use Rattle.records.specs.Keys.{keyFault, keyOf, called, codesOf, NameIn}
 use Rattle.records.specs.Lists.{leafFault, headFault}
-use Rattle.records.specs.Steps.{leafOf, leafed, childNamed, ElementsLie, elementsOf, leavesAt, headed, LeavesLie, leavesNamed}
+use Rattle.records.specs.Contracts.{leafOf, leafed, childNamed, ElementsLie, elementsOf, leavesAt, headed, LeavesLie, leavesNamed}
 use Rattle.records.proofs.LawsAnswer.{called-whole, called-flawed, leafed-whole, leafed-flawed, headed-whole, headed-flawed}
 use Rattle.records.proofs.LawsKey.{name-room}
 use Rattle.records.proofs.LawsPlaces.{elements-lie, leaves-lie, leaves-are}
 use Rattle.records.proofs.LawsElements.{elements-are}
-use Rattle.search.specs.declared.Look.the-variants.{Found, Missing, Faulty}
+use Rattle.search.specs.declared.Look.the-variants.{Found, Missing, Flawed as Faulty}
 use Rattle.search.specs.Search.{keyNamed, searchKeys, searchLeaf, searchLeaves, searchBelow}
-use Rattle.search.specs.Steps.{byOffset}
+use Rattle.search.specs.Contracts.{byOffset}
 use Rattle.search.proofs.Finds.{named-bad}
 
 -- one key, by its offset

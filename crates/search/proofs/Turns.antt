@@ -9,7 +9,7 @@ use Rattle.fields.specs.declared.Flaw.{Flaw}
 use Rattle.fields.specs.declared.Offset.{Offset}
 use Rattle.fields.proofs.Loops.{drop-all}
 use Rattle.search.specs.declared.Look.{Look}
-use Rattle.search.specs.declared.Look.the-variants.{Found, Missing, Faulty}
+use Rattle.search.specs.declared.Look.the-variants.{Found, Missing, Flawed}
 use Rattle.search.specs.Search.{orElse, firstOf}
 
 module _ {A : Type 0} (each : A → Look) where
@@ -17,7 +17,7 @@ module _ {A : Type 0} (each : A → Look) where
   unfolding firstOf orElse
   first-found x xs e = rw e
 
-  first-faulty : (x : A) (xs : List A) {f : Flaw} → each x ≡ Faulty f → firstOf each (x ∷ xs) ≡ Faulty f
+  first-faulty : (x : A) (xs : List A) {f : Flaw} → each x ≡ Flawed f → firstOf each (x ∷ xs) ≡ Flawed f
   unfolding firstOf orElse
   first-faulty x xs e = rw e
 
@@ -38,7 +38,7 @@ module _ {A : Type 0} (each : A → Look) where
       pub turn-found : {o : Offset} → each x ≡ Found o → firstOf each xs ≡ Found o
       turn-found e = inv ∙ rw (drop-cons xs i d more, ← is) (first-found x _ e)
 
-      pub turn-faulty : {f : Flaw} → each x ≡ Faulty f → firstOf each xs ≡ Faulty f
+      pub turn-faulty : {f : Flaw} → each x ≡ Flawed f → firstOf each xs ≡ Flawed f
       turn-faulty e = inv ∙ rw (drop-cons xs i d more, ← is) (first-faulty x _ e)
 
       pub turn-on : each x ≡ Missing → firstOf each xs ≡ firstOf each (drop (i + 1) xs)

@@ -18,12 +18,12 @@ use Rattle.records.specs.declared.Child.{Child}
 use Rattle.records.specs.declared.Key.{Key}
 use Rattle.records.specs.Keys.{keyFault}
 use Rattle.records.specs.Lists.{leafFault, headFault, leafChildren, leavesOf}
-use Rattle.records.specs.Steps.{noChild}
+use Rattle.records.specs.Contracts.{noChild}
 use Rattle.tree.specs.Tree.{nameAt, isBefore}
 use Rattle.search.specs.declared.How.{How}
 use Rattle.search.specs.declared.How.the-variants.{InTurn, Halving}
 use Rattle.search.specs.declared.Look.{Look}
-use Rattle.search.specs.declared.Look.the-variants.{Found, Missing, Faulty}
+use Rattle.search.specs.declared.Look.the-variants.{Found, Missing, Flawed as Faulty}
 use Rattle.search.specs.declared.Turn.{Turn}
 use Rattle.search.specs.declared.Turn.the-variants.{Left, Right, Stop}
 use Rattle.search.specs.Search.{onSound, searchBelow}

@@ -16,7 +16,7 @@ use Rattle.records.specs.Keys.{keyFault}
 use Rattle.records.specs.Lists.{leafFault, headFault, leafChildren, leavesOf}
 use Rattle.tree.specs.Tree.{nameAt}
 use Rattle.search.specs.declared.Look.{Look}
-use Rattle.search.specs.declared.Look.the-variants.{Found, Missing, Faulty}
+use Rattle.search.specs.declared.Look.the-variants.{Found, Missing, Flawed as Faulty}
 
 -- a test, then what follows it
 abbrev pub onSound : Verdict → Look → Look

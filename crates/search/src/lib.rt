@@ -12,16 +12,16 @@ use records::Leaves;
 ghost use mathlib.Core.Path.{_≡_};
 ghost use Prim.Native.Nat.{_<_};
 ghost use Rattle.fields.specs.Faults.{nowhere};
-ghost use Rattle.records.specs.Steps.{ElementsLie, elementsOf, LeavesLie, leavesNamed};
+ghost use Rattle.records.specs.Contracts.{ElementsLie, elementsOf, LeavesLie, leavesNamed};
 ghost use Rattle.search.specs.Search.{keyNamed, searchKeys, searchLeaf, searchLeaves, searchBelow};
 ghost use Rattle.search.specs.Quick.{halving, askKey, quickKeys, askKeys, askLeaf, quickBelow, belowBy};
-ghost use Rattle.search.specs.Steps.{byOffset, askedLast};
+ghost use Rattle.search.specs.Contracts.{byOffset, askedLast};
 
 // What a search for a key or a value by its name meets.
 pub enum Look {
     Found(Offset),
     Missing,
-    Faulty(Flaw),
+    Flawed(Flaw),
 }
 
 // One key, against a name, which is compared in place.
@@ -29,7 +29,7 @@ fn key_named(bins: &[u8], name: &[u16], at: Offset) -> Look
     ensures { λ r. ⌜ r ≡ keyNamed (now (bins .entry)) (now (name .entry)) (byOffset at) ⌝ }
 {
     match records::name_at(bins, at) {
-        Called::Flawed(f) => Look::Faulty(f),
+        Called::Flawed(f) => Look::Flawed(f),
         Called::Whole(stored) => {
             if records::is_called(bins, stored, name) {
                 Look::Found(at)
@@ -54,8 +54,8 @@ fn search_keys(bins: &[u8], name: &[u16], leaf: Leaf) -> Look
             Look::Found(o) => {
                 return Look::Found(o);
             }
-            Look::Faulty(f) => {
-                return Look::Faulty(f);
+            Look::Flawed(f) => {
+                return Look::Flawed(f);
             }
         }
         i += 1;
@@ -67,7 +67,7 @@ fn search_leaf(bins: &[u8], name: &[u16], o: Offset) -> Look
     ensures { λ r. ⌜ r ≡ searchLeaf (now (bins .entry)) (now (name .entry)) o ⌝ }
 {
     match records::leaf_at(bins, b"", Rule::Header, o) {
-        Leafed::Flawed(f) => Look::Faulty(f),
+        Leafed::Flawed(f) => Look::Flawed(f),
         Leafed::Whole(leaf) => search_keys(bins, name, leaf),
     }
 }
@@ -86,8 +86,8 @@ fn search_leaves(bins: &[u8], name: &[u16], ls: Leaves) -> Look
             Look::Found(o) => {
                 return Look::Found(o);
             }
-            Look::Faulty(f) => {
-                return Look::Faulty(f);
+            Look::Flawed(f) => {
+                return Look::Flawed(f);
             }
         }
         j += 1;
@@ -104,7 +104,7 @@ fn search_below(bins: &[u8], name: &[u16], k: Key) -> Look
     }
     let list = k.list;
     match records::head_at(bins, b"", Rule::Header, list) {
-        Headed::Flawed(f) => Look::Faulty(f),
+        Headed::Flawed(f) => Look::Flawed(f),
         Headed::Whole(ls) => search_leaves(bins, name, ls),
     }
 }
@@ -124,7 +124,7 @@ fn ask_key(bins: &[u8], name: &[u16], at: Offset) -> Turn
     ensures { λ r. ⌜ r ≡ askKey (now (bins .entry)) (now (name .entry)) (byOffset at) ⌝ }
 {
     match records::name_at(bins, at) {
-        Called::Flawed(f) => Turn::Stop(Look::Faulty(f)),
+        Called::Flawed(f) => Turn::Stop(Look::Flawed(f)),
         Called::Whole(stored) => match records::order_of(bins, stored, name) {
             Order::Before => Turn::Right,
             Order::Same => Turn::Stop(Look::Found(at)),
@@ -176,8 +176,8 @@ fn ask_last(bins: &[u8], name: &[u16], leaf: Leaf) -> Turn
         }
         Turn::Left => {}
         Turn::Stop(a) => match a {
-            Look::Faulty(f) => {
-                return Turn::Stop(Look::Faulty(f));
+            Look::Flawed(f) => {
+                return Turn::Stop(Look::Flawed(f));
             }
             Look::Found(_) => {}
             Look::Missing => {}
@@ -199,8 +199,8 @@ fn ask_keys(bins: &[u8], name: &[u16], leaf: Leaf) -> Turn
         }
         Turn::Right => {}
         Turn::Stop(a) => match a {
-            Look::Faulty(f) => {
-                return Turn::Stop(Look::Faulty(f));
+            Look::Flawed(f) => {
+                return Turn::Stop(Look::Flawed(f));
             }
             Look::Found(_) => {}
             Look::Missing => {}
@@ -213,7 +213,7 @@ fn ask_leaf(bins: &[u8], name: &[u16], o: Offset) -> Turn
     ensures { λ r. ⌜ r ≡ askLeaf (now (bins .entry)) (now (name .entry)) o ⌝ }
 {
     match records::leaf_at(bins, b"", Rule::Header, o) {
-        Leafed::Flawed(f) => Turn::Stop(Look::Faulty(f)),
+        Leafed::Flawed(f) => Turn::Stop(Look::Flawed(f)),
         Leafed::Whole(leaf) => ask_keys(bins, name, leaf),
     }
 }
@@ -258,7 +258,7 @@ fn quick_below(bins: &[u8], name: &[u16], k: Key) -> Look
     }
     let list = k.list;
     match records::head_at(bins, b"", Rule::Header, list) {
-        Headed::Flawed(f) => Look::Faulty(f),
+        Headed::Flawed(f) => Look::Flawed(f),
         Headed::Whole(ls) => quick_leaves(bins, name, ls),
     }
 }

@@ -15,7 +15,7 @@ use Rattle.security.specs.declared.Item.{Item}
 use Rattle.security.specs.declared.Batch.{Batch}
 use Rattle.security.specs.declared.Batch.the-variants.{Closed, Broken, More}
 use Rattle.security.specs.Items.{isItem, itemOf, isJoined, closesAt}
-use Rattle.security.specs.Steps.{onward, gathered, HoldsFrom, Empty}
+use Rattle.security.specs.Contracts.{onward, gathered, HoldsFrom, Empty}
 use Rattle.security.proofs.Items.{next-item}
 
 pub onward-suc : (d : List ℕ) (n : ℕ) (o : Offset) → onward d (suc n) o ≡ itemOf d (onward d n o) .forward

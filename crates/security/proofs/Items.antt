@@ -18,7 +18,7 @@ use Rattle.fields.specs.Faults.{isSound}
 use Rattle.fields.proofs.Bools.{and-inv, and-both}
 use Rattle.fields.proofs.Firsts.{is-sound}
 use Rattle.cells.specs.declared.Cell.{Cell}
-use Rattle.cells.specs.declared.Found.the-variants.{Named, Missing}
+use Rattle.cells.specs.declared.Found.the-variants.{Named, Flawed}
 use Rattle.cells.specs.declared.Rule.the-variants.{Map}
 use Rattle.cells.specs.Named.{cellOf, cellFault, dataOf, dataAt, partIn}
 use Rattle.cells.specs.Tiled.{BinsTile, Mapped}
@@ -51,7 +51,7 @@ pub record Passes (d m : List ℕ) (o : Offset) : Type 0 where
   pub signature : standsAt (dataAt d o) 0 (115 ∷ 107 ∷ []) ≡ true
 
 module _ (d m : List ℕ) (o : Offset) where
-  pub item-missing : {f : Flaw} → cellOf Map d m o ≡ Missing f → isItem d m o ≡ false
+  pub item-missing : {f : Flaw} → cellOf Map d m o ≡ Flawed f → isItem d m o ≡ false
   unfolding isItem
   item-missing e = rw (cell-flawed Map d m o e)
 

@@ -13,7 +13,7 @@ ghost use Rattle.cells.specs.Named.{dataAt};
 ghost use Rattle.chains.specs.Chains.{Chained};
 ghost use Rattle.security.specs.Items.{isSk, isItem, itemIn, itemOf, hasRoom, isLinked, isJoined};
 ghost use Rattle.security.specs.Descriptor.{isDescribed, descriptorFault, described, descriptorPlace};
-ghost use Rattle.security.specs.Steps.{gathered, taken, HoldsFrom, Empty};
+ghost use Rattle.security.specs.Contracts.{gathered, taken, HoldsFrom, Empty};
 
 // "forward and backward offsets, reference count, descriptor size": the fields of an item.
 pub struct Item {
@@ -38,7 +38,7 @@ pub fn is_item(bins: &[u8], map: &[u8], o: Offset) -> bool
     ensures { λ r. ⌜ r ≡ isItem (now (bins .entry)) (now (map .entry)) o ⌝ }
 {
     match cells::find_cell(bins, map, Rule::Map, o) {
-        Found::Missing(_) => false,
+        Found::Flawed(_) => false,
         Found::Named(c) => is_sk(cells::cell_data(bins, c)),
     }
 }
@@ -71,7 +71,7 @@ fn has_room(bins: &[u8], map: &[u8], o: Offset, size: u32) -> bool
     ensures { λ r. ⌜ r ≡ hasRoom (now (bins .entry)) o ⌝ }
 {
     match cells::find_cell(bins, map, Rule::Map, o) {
-        Found::Missing(_) => false,
+        Found::Flawed(_) => false,
         Found::Named(c) => 20 + size as usize <= c.len,
     }
 }
@@ -163,7 +163,7 @@ pub fn described_at(bins: &[u8], map: &[u8], rule: Rule, o: Offset) -> Described
     ensures { λ r. ⌜ r ≡ described (descriptorFault rule (now (bins .entry)) (now (map .entry)) o) (itemOf (now (bins .entry)) o) ⌝ }
 {
     match cells::find_cell(bins, map, rule, o) {
-        Found::Missing(f) => Described::Flawed(f),
+        Found::Flawed(f) => Described::Flawed(f),
         Found::Named(c) => {
             let r = cells::cell_data(bins, c);
             if !is_described(r) {

@@ -31,7 +31,7 @@ use Rattle.values.proofs.LawsData.{bytes-length}
 use Rattle.values.proofs.LawsValues.{inline-size, other-size, name-inside, lies}
 use Rattle.fields.specs.Number.{le16, le32}
 use Rattle.stream.specs.Stream.{wide, openFrame, framedValue}
-use Rattle.stream.specs.Steps.{wideLen, NameStands, ValueLies, openLen, valueLen}
+use Rattle.stream.specs.Contracts.{wideLen, NameStands, ValueLies, openLen, valueLen}
 use Rattle.fields.proofs.Little.{length-le16, length-le32}
 use Rattle.stream.proofs.Puts.{put-then, put-all, frame-length, put-frame}
 

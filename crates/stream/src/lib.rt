@@ -12,14 +12,14 @@ ghost use lib.Seq.{sets};
 ghost use Rattle.fields.specs.declared.Verdict.the-variants.{Sound};
 ghost use Rattle.cells.specs.declared.Rule.the-variants.{Header};
 ghost use Rattle.cells.specs.Named.{partIn};
-ghost use Rattle.cells.specs.Steps.{PartIn};
+ghost use Rattle.cells.specs.Contracts.{PartIn};
 ghost use Rattle.names.specs.Codes.{codes, charactersIn};
 ghost use Rattle.records.specs.Keys.{isWhole, keyFault, codesOf};
 ghost use Rattle.values.specs.Segments.{bytesOf, lengthOf};
-ghost use Rattle.values.specs.Steps.{Lies};
+ghost use Rattle.values.specs.Contracts.{Lies};
 ghost use Rattle.fields.specs.Number.{le16, le32};
 ghost use Rattle.stream.specs.Stream.{wide, openFrame, framedValue, closeFrame};
-ghost use Rattle.stream.specs.Steps.{wideLen, NameStands, ValueLies, openLen, valueLen};
+ghost use Rattle.stream.specs.Contracts.{wideLen, NameStands, ValueLies, openLen, valueLen};
 
 // The length of the payload and the kind.
 fn put_head(out: &mut [u8], at: usize, len: u32, kind: u16)

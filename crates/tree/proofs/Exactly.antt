@@ -12,7 +12,7 @@ use Rattle.base.specs.Block.{sector, binsOf, binsData}
 use Rattle.base.proofs.Laws.{base-facts, facts-base}
 use Rattle.cells.specs.declared.Tally.{Tally}
 use Rattle.cells.specs.declared.Surveyed.{Surveyed}
-use Rattle.cells.specs.declared.Surveyed.the-variants.{Tiled, Refused as Untiled}
+use Rattle.cells.specs.declared.Surveyed.the-variants.{Tiled, Flawed as Untiled}
 use Rattle.cells.specs.Tiling.{layout, surveyOf}
 use Rattle.cells.specs.Survey.{surveyAnswer, mapLeft}
 use Rattle.cells.specs.Tiled.{BinsTile}
@@ -23,7 +23,7 @@ use Rattle.cells.proofs.Mapped.{surveyed}
 use Rattle.security.proofs.Exactly.{security-exactly}
 use Rattle.tree.specs.declared.Checked.the-variants.{Accepted}
 use Rattle.tree.specs.declared.Report.{Report}
-use Rattle.tree.specs.Tree.{hiveOf, keysOf, valuesIn, reportOf, walkCharge, ringCharge, checkAnswer}
+use Rattle.tree.specs.Tree.{hiveOf, keysOf, valuesIn, reportOf, keysCharge, ringCharge, checkAnswer}
 use Rattle.tree.specs.WellFormed.{CleanAndWellFormed}
 use Rattle.tree.proofs.Accepted.{root-stands, root-free}
 use Rattle.tree.proofs.Charges.{accepted-free}
@@ -33,7 +33,7 @@ use Rattle.tree.proofs.Roots.{check-is}
 pub record AcceptedAs (h m : List ℕ) (r : Report) : Type 0 where
   pub tally : Tally
   pub surveys : surveyAnswer h (length m) ≡ Tiled tally
-  pub free : walkCharge h (mapLeft h m) ≡ Free
+  pub free : keysCharge h (mapLeft h m) ≡ Free
   pub secure : ringCharge h (mapLeft h m) ≡ Free
   pub report : r ≡ reportOf h tally
 
@@ -45,8 +45,8 @@ module _ (h m : List ℕ) where
       by : (s : Surveyed) → surveyAnswer h (length m) ≡ s → AcceptedAs h m r
       by (Untiled f) p = absurd (let q = rw p at e in let z : _≡_ {A = ℕ} 0 1 = cc in omega arith)
       by (Tiled t) p =
-          let x = accepted-free (walkCharge h (mapLeft h m) after ringCharge h (mapLeft h m)) (reportOf h t) (sym (check-is h m p) ∙ e) in
-          let c = both-free (walkCharge h (mapLeft h m)) _ (x .0) in
+          let x = accepted-free (keysCharge h (mapLeft h m) after ringCharge h (mapLeft h m)) (reportOf h t) (sym (check-is h m p) ∙ e) in
+          let c = both-free (keysCharge h (mapLeft h m)) _ (x .0) in
           record { tally = t; surveys = p; free = c .0; secure = c .1; report = sym (x .1) }
 
   accepted-formed : {r : Report} → checkAnswer h m ≡ Accepted r → CleanAndWellFormed h

@@ -9,7 +9,7 @@ use Rattle.cells.specs.Tiled.{BinsTile, Mapped}
 use Rattle.records.specs.declared.Child.{Child}
 use Rattle.records.specs.Lists.{children}
 use Rattle.records.proofs.LawsKey.{key-room}
-use Rattle.counting.specs.Counting.{Legible, key}
+use Rattle.security_pass.specs.Counting.{Legible, key}
 use Rattle.tree.specs.declared.Hive.{Hive}
 use Rattle.tree.specs.declared.Arrival.{Arrival}
 use Rattle.tree.specs.declared.Arrival.the-variants.{First}

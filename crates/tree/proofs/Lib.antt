@@ -6,7 +6,7 @@ pub mod Once
 pub mod Counted
 pub mod Legible
 pub mod Tests
-pub mod Walks
+pub mod Subtrees
 pub mod Rows
 pub mod Roots
 pub mod Exactly

@@ -14,7 +14,7 @@ use Rattle.fields.specs.Faults.{numberOf, noKey, refusalOf}
 use Rattle.base.specs.Block.{sector, binsOf, binsData}
 use Rattle.base.proofs.Laws.{base-facts}
 use Rattle.cells.specs.declared.Surveyed.{Surveyed}
-use Rattle.cells.specs.declared.Surveyed.the-variants.{Tiled, Refused as Untiled}
+use Rattle.cells.specs.declared.Surveyed.the-variants.{Tiled, Flawed as Untiled}
 use Rattle.cells.specs.declared.Tally.{Tally}
 use Rattle.cells.specs.Tiling.{layout, surveyOf}
 use Rattle.bitmap.specs.Bits.{zeros}

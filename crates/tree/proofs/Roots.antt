@@ -13,7 +13,7 @@ use Rattle.fields.specs.Charges.{_after_}
 use Rattle.base.specs.Block.{sector, minorOf, rootOf, binsLimit, binsData}
 use Rattle.base.proofs.Laws.{base-facts}
 use Rattle.cells.specs.declared.Tally.{Tally}
-use Rattle.cells.specs.declared.Surveyed.the-variants.{Tiled, Refused as Untiled}
+use Rattle.cells.specs.declared.Surveyed.the-variants.{Tiled, Flawed as Untiled}
 use Rattle.cells.specs.Survey.{surveyAnswer, mapLeft}
 use Rattle.cells.proofs.Fronts.{front-facts, front-data, survey-on}
 use Rattle.cells.proofs.Cleared.{again, after-length}
@@ -24,13 +24,13 @@ use Rattle.tree.specs.declared.Checked.the-variants.{Accepted, Refused}
 use Rattle.tree.specs.declared.Count.{Count}
 use Rattle.tree.specs.declared.Report.{Report}
 use Rattle.tree.specs.declared.Arrival.the-variants.{Start}
-use Rattle.tree.specs.declared.Walk.the-variants.{Counted, Refused as Stopped}
-use Rattle.tree.specs.Tree.{treeCharge, tallied, keyAnswer, listAnswer, levels, hiveOf, rootChild, keysOf, valuesIn, reportOf, walkCharge, ringCharge, answer, checkAnswer}
-use Rattle.tree.specs.Steps.{alone, rowChildren, RowLies, Ready, walkAnswer, Walked}
+use Rattle.tree.specs.declared.Subtree.the-variants.{Counted, Refused as Stopped}
+use Rattle.tree.specs.Tree.{treeCharge, tallied, keyAnswer, listAnswer, levels, hiveOf, rootChild, keysOf, valuesIn, reportOf, keysCharge, ringCharge, answer, checkAnswer}
+use Rattle.tree.specs.Contracts.{alone, rowChildren, RowLies, Ready, keysAnswer, KeysChecked}
 use Rattle.tree.proofs.Accepted.{root-stands}
 use Rattle.tree.proofs.Counted.{counted}
 use Rattle.tree.proofs.Charges.{accepted-free, refused-charge}
-use Rattle.tree.proofs.Walks.{refused-of, counted-free, one-key}
+use Rattle.tree.proofs.Subtrees.{refused-of, counted-free, one-key}
 use Rattle.tree.proofs.Rows.{row-start}
 
 abbrev pub none : Count
@@ -59,13 +59,13 @@ module _ (h m : List ℕ) (r : Ready h m) where
   pub bins-small : length (binsData h) ≤ binsLimit
   bins-small = let b = base-facts h (r .base) in simp (length-take, length-drop) (omega (arith, b .size .limit))
 
-  pub walk-refused : (t : Tally) {f : Refusal} → keyAnswer (binsData h) m (hiveOf h) levels (rootChild (hiveOf h)) Start none ≡ Stopped f → walkAnswer h m t ≡ Refused f
-  unfolding walkAnswer keyAnswer
+  pub walk-refused : (t : Tally) {f : Refusal} → keyAnswer (binsData h) m (hiveOf h) levels (rootChild (hiveOf h)) Start none ≡ Stopped f → keysAnswer h m t ≡ Refused f
+  unfolding keysAnswer keyAnswer
   walk-refused t e = rw (refused-of (treeCharge (binsData h) m (hiveOf h) levels (rootChild (hiveOf h)) Start) _ e)
 
   pub walk-counted : (t : Tally) {n : Count} → keyAnswer (binsData h) m (hiveOf h) levels (rootChild (hiveOf h)) Start none ≡ Counted n
-      → walkAnswer h m t ≡ Accepted (record { bins = t .bins; keys = n .keys; values = n .values; used = t .used; free = t .free })
-  unfolding walkAnswer keyAnswer
+      → keysAnswer h m t ≡ Accepted (record { bins = t .bins; keys = n .keys; values = n .values; used = t .used; free = t .free })
+  unfolding keysAnswer keyAnswer
   walk-counted t {n} e =
       let x = counted-free (treeCharge (binsData h) m (hiveOf h) levels (rootChild (hiveOf h)) Start) (tallied (binsData h) none (keysIn (binsData h) levels (hiveOf h .root))) e in
       let s = root-stands (binsData h) m (hiveOf h) (r .tiles) (r .mapped) (x .0) in
@@ -85,27 +85,27 @@ module _ (h m : List ℕ) where
 
   module _ {t : Tally} (e : surveyAnswer h (length m) ≡ Tiled t) where
     -- a fault of the walk goes before one of the security items
-    pub check-is : checkAnswer h m ≡ answer (walkCharge h (mapLeft h m) after ringCharge h (mapLeft h m)) (reportOf h t)
+    pub check-is : checkAnswer h m ≡ answer (keysCharge h (mapLeft h m) after ringCharge h (mapLeft h m)) (reportOf h t)
     unfolding checkAnswer
     check-is = rw e
 
     -- the walk refuses
-    pub check-stops : {r : Refusal} → walkAnswer h (mapLeft h m) t ≡ Refused r → checkAnswer h m ≡ Refused r
-    unfolding walkAnswer _after_
-    check-stops q = rw (check-is, refused-charge (walkCharge h (mapLeft h m)) (reportOf h t) q)
+    pub check-stops : {r : Refusal} → keysAnswer h (mapLeft h m) t ≡ Refused r → checkAnswer h m ≡ Refused r
+    unfolding keysAnswer _after_
+    check-stops q = rw (check-is, refused-charge (keysCharge h (mapLeft h m)) (reportOf h t) q)
 
     -- the walk does not, and the security items answer
-    module _ {r : Report} (q : walkAnswer h (mapLeft h m) t ≡ Accepted r) where
+    module _ {r : Report} (q : keysAnswer h (mapLeft h m) t ≡ Accepted r) where
       pub check-on : checkAnswer h m ≡ answer (ringCharge h (mapLeft h m)) r
-      unfolding walkAnswer _after_
-      check-on = let x = accepted-free (walkCharge h (mapLeft h m)) (reportOf h t) q in rw (check-is, x .0, x .1)
+      unfolding keysAnswer _after_
+      check-on = let x = accepted-free (keysCharge h (mapLeft h m)) (reportOf h t) q in rw (check-is, x .0, x .1)
 
-      pub check-walked : Walked h (mapLeft h m) (r .keys)
-      unfolding walkAnswer
+      pub check-walked : KeysChecked h (mapLeft h m) (r .keys)
+      unfolding keysAnswer
       check-walked =
           let d = binsData h in
           let s = surveyed h m t e in
-          let x = accepted-free (walkCharge h (mapLeft h m)) (reportOf h t) q in
+          let x = accepted-free (keysCharge h (mapLeft h m)) (reportOf h t) q in
           let on = survey-on h m d _ (s .0) refl refl .1 in
           let room = front-data h m (s .0) in
           let le : length d ≤ length d / 64 * 64 = let p = room .whole .pages in omega arith in

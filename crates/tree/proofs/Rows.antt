@@ -7,9 +7,9 @@ use lib.ListN.{length, getD}
 use borrow.Author.Tests.{eq-eqb, ne-eqb}
 use Rattle.records.specs.declared.Child.{Child}
 use Rattle.records.specs.declared.Leaf.{Leaf}
-use Rattle.records.specs.Steps.{elementsOf, ElementsLie, childNamed, noChild}
+use Rattle.records.specs.Contracts.{elementsOf, ElementsLie, childNamed, noChild}
 use Rattle.records.proofs.LawsElements.{elements-length, element-at}
-use Rattle.tree.specs.Steps.{alone, rowChildren, RowLies}
+use Rattle.tree.specs.Contracts.{alone, rowChildren, RowLies}
 
 module _ (d : List ℕ) (l : Leaf) where
   pub row-start : l .width ≡ 0 → rowChildren d l ≡ alone (l .cell) ∷ []

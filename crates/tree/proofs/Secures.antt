@@ -8,13 +8,13 @@ use Rattle.fields.specs.declared.Refusal.{Refusal}
 use Rattle.fields.specs.Charges.{Charge, Free, Of}
 use Rattle.base.specs.Block.{sector, rootOf, binsData}
 use Rattle.security.specs.Items.{securityCharge}
-use Rattle.census.specs.declared.Secured.the-variants as secured
-use Rattle.census.specs.Steps.{treeKeys, Asked, answerOf}
+use Rattle.security_check.specs.declared.Secured.the-variants as secured
+use Rattle.security_check.specs.Contracts.{treeKeys, Asked, answerOf}
 use Rattle.tree.specs.declared.Checked.the-variants.{Accepted, Refused}
 use Rattle.tree.specs.declared.Report.{Report}
 use Rattle.tree.specs.declared.Arrival.the-variants.{Start}
 use Rattle.tree.specs.Tree.{levels, hiveOf, rootChild, ringCharge, answer}
-use Rattle.tree.specs.Steps.{Walked}
+use Rattle.tree.specs.Contracts.{KeysChecked}
 use Rattle.tree.proofs.Accepted.{root-stands}
 use Rattle.tree.proofs.Counted.{few-keys}
 use Rattle.tree.proofs.Legible.{legible}
@@ -29,7 +29,7 @@ refused-of Free e = absurd (let z : _≡_ {A = ℕ} 0 1 = cc in omega arith)
 refused-of (Of q) e = cc
 
 module _ (h m : List ℕ) {bins : List ℕ} {root : Offset} (b : bins ≡ binsData h) (o : root ≡ rootOf (sector h)) where
-  pub asked : (keys : ℕ) → Walked h m keys → Asked bins m root keys
+  pub asked : (keys : ℕ) → KeysChecked h m keys → Asked bins m root keys
   asked keys w =
       let d = binsData h in
       let r = w .ready in

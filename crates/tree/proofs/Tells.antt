@@ -20,7 +20,7 @@ use Rattle.fields.proofs.Every.{Every, every-sound, every-flaw, every-unless, e
 use Rattle.base.specs.Block.{binsData}
 use Rattle.cells.specs.declared.Rule.the-variants.{Map}
 use Rattle.cells.specs.declared.Surveyed.{Surveyed}
-use Rattle.cells.specs.declared.Surveyed.the-variants.{Tiled, Refused as Untiled}
+use Rattle.cells.specs.declared.Surveyed.the-variants.{Tiled, Flawed as Untiled}
 use Rattle.cells.specs.declared.Tally.{Tally}
 use Rattle.cells.specs.Survey.{surveyAnswer, mapLeft}
 use Rattle.cells.specs.Tiled.{BinsTile, Mapped}
@@ -47,7 +47,7 @@ use Rattle.tree.specs.declared.Checked.the-variants.{Refused}
 use Rattle.tree.specs.declared.Hive.{Hive}
 use Rattle.tree.specs.declared.Arrival.{Arrival}
 use Rattle.tree.specs.declared.Arrival.the-variants.{Start, First, After}
-use Rattle.tree.specs.Tree.{holder, nameAt, isBefore, parentFault, orderFault, placeFault, hashFault, hintFault, besideFault, levelFault, totalFault, restFault, ownFault, keyCharge, listCharge, treeCharge, levels, hiveOf, rootChild, keysOf, walkCharge, ringCharge, onTiled, checkAnswer}
+use Rattle.tree.specs.Tree.{holder, nameAt, isBefore, parentFault, orderFault, placeFault, hashFault, hintFault, besideFault, levelFault, totalFault, restFault, ownFault, keyCharge, listCharge, treeCharge, levels, hiveOf, rootChild, keysOf, keysCharge, ringCharge, onTiled, checkAnswer}
 use Rattle.tree.specs.Told.{Reached, the-root, a-child, Follows, at-once, later, OfTree, of-root, of-lists, of-values, of-data, of-namesake, no-order, other-hash, other-hint, other-parent, root-listed, other-total, too-deep, Told, of-survey, of-tree, of-security}
 use Rattle.tree.specs.WellFormed.{TreeStands}
 use Rattle.tree.proofs.Accepted.{root-stands}
@@ -245,11 +245,11 @@ module _ (h m : List ℕ) where
       let x = surveyed h m t p .1 in
       let d = binsData h in
       let left = mapLeft h m in
-      after-charges (Past h) (walkCharge h left) (ringCharge h left)
+      after-charges (Past h) (keysCharge h left) (ringCharge h left)
       (λ f e. because (OfTree d (hiveOf h)) (Past h) (λ k g w. in-tree w) (tree-charges d left (x .tiles) (x .mapped) (hiveOf h) levels at-start refl f e))
       (λ c f e. because (OfSecurity d (hiveOf h .root) (keysOf h)) (Past h) (λ k g w. on-ring (root-stands d left (hiveOf h) (x .tiles) (x .mapped) c) w)
       (security-tells d left (x .tiles) (x .mapped) (hiveOf h .root) (keysOf h) f e))
-      r (refused-charge (walkCharge h left after ringCharge h left) _ q)
+      r (refused-charge (keysCharge h left after ringCharge h left) _ q)
 
   -- its number is 11 or more
   pub walk-number : {t : Tally} {r : Refusal} → surveyAnswer h (length m) ≡ Tiled t → onTiled h m (Tiled t) ≡ Refused r → 11 ≤ numberOf (r .fault)

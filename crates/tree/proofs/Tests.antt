@@ -26,7 +26,7 @@ use Rattle.tree.specs.declared.Hive.{Hive}
 use Rattle.tree.specs.declared.Arrival.{Arrival}
 use Rattle.tree.specs.declared.Arrival.the-variants.{Start, First, After}
 use Rattle.tree.specs.Tree.{nameAt, isBefore, parentFault, orderFault, placeFault, hashFault, hintFault, besideFault, levelFault, totalFault, restFault, ownFault, holder}
-use Rattle.tree.specs.Steps.{ArrivalFits, Fits, subkeysFault, listedFault}
+use Rattle.tree.specs.Contracts.{ArrivalFits, Fits, subkeysFault, listedFault}
 
 module _ (root : Offset) (k : Key) (at p : Offset) where
   pub parent-other : (k .parent .0 ≡ p .0 → ⊥) → parentFault root k at p ≡ Flawed (flaw Parent at)

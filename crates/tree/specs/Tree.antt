@@ -16,7 +16,7 @@ use Rattle.base.specs.Block.{sector, minorOf, rootOf, binsData}
 use Rattle.cells.specs.declared.Rule.the-variants.{Map}
 use Rattle.cells.specs.declared.Tally.{Tally}
 use Rattle.cells.specs.declared.Surveyed.{Surveyed}
-use Rattle.cells.specs.declared.Surveyed.the-variants.{Tiled, Refused as Untiled}
+use Rattle.cells.specs.declared.Surveyed.the-variants.{Tiled, Flawed as Untiled}
 use Rattle.cells.specs.Survey.{surveyAnswer, mapLeft}
 use Rattle.names.specs.declared.Order.{Order as Ordering}
 use Rattle.names.specs.declared.Order.the-variants.{Before, Same, After as Behind}
@@ -38,8 +38,8 @@ use Rattle.tree.specs.declared.Hive.{Hive}
 use Rattle.tree.specs.declared.Arrival.{Arrival}
 use Rattle.tree.specs.declared.Arrival.the-variants.{Start, First, After}
 use Rattle.tree.specs.declared.Report.{Report}
-use Rattle.tree.specs.declared.Walk.{Walk}
-use Rattle.tree.specs.declared.Walk.the-variants.{Counted, Refused as Stopped}
+use Rattle.tree.specs.declared.Subtree.{Subtree}
+use Rattle.tree.specs.declared.Subtree.the-variants.{Counted, Refused as Stopped}
 
 -- the codes of the name of the key at an offset
 abbrev pub nameAt : List ℕ → Offset → List ℕ
@@ -153,8 +153,8 @@ reportOf h t =
     }
 
 -- the walk from the root, with its map, and what is "given after the tree walk"
-abbrev pub walkCharge : List ℕ → List ℕ → Charge
-walkCharge h m = treeCharge (binsData h) m (hiveOf h) levels (rootChild (hiveOf h)) Start
+abbrev pub keysCharge : List ℕ → List ℕ → Charge
+keysCharge h m = treeCharge (binsData h) m (hiveOf h) levels (rootChild (hiveOf h)) Start
 
 abbrev pub ringCharge : List ℕ → List ℕ → Charge
 ringCharge h m = securityCharge (binsData h) m (hiveOf h .root) (keysOf h)
@@ -165,7 +165,7 @@ answer (Of f) r = Refused f
 
 abbrev pub onTiled : List ℕ → List ℕ → Surveyed → Checked
 onTiled h m (Untiled f) = Refused (refusalOf noKey f)
-onTiled h m (Tiled t) = answer (walkCharge h (mapLeft h m) after ringCharge h (mapLeft h m)) (reportOf h t)
+onTiled h m (Tiled t) = answer (keysCharge h (mapLeft h m) after ringCharge h (mapLeft h m)) (reportOf h t)
 
 -- the check's answer for a hive and a work map; the map afterwards is `mapLeft h m`
 unfoldable pub checkAnswer : List ℕ → List ℕ → Checked
@@ -179,12 +179,12 @@ unfoldable pub tallied : List ℕ → Count → List Offset → Count
 tallied d t [] = t
 tallied d t (k ∷ ks) = tallied d (tally t (keyOf d k)) ks
 
-abbrev pub walked : Charge → Count → Walk
+abbrev pub walked : Charge → Count → Subtree
 walked Free t = Counted t
 walked (Of f) t = Stopped f
 
-unfoldable pub keyAnswer : List ℕ → List ℕ → Hive → ℕ → Child → Arrival → Count → Walk
+unfoldable pub keyAnswer : List ℕ → List ℕ → Hive → ℕ → Child → Arrival → Count → Subtree
 keyAnswer d m hive n c l t = walked (treeCharge d m hive n c l) (tallied d t (keysIn d n (c .at)))
 
-unfoldable pub listAnswer : List ℕ → List ℕ → Hive → ℕ → Offset → Arrival → List Child → Count → Walk
+unfoldable pub listAnswer : List ℕ → List ℕ → Hive → ℕ → Offset → Arrival → List Child → Count → Subtree
 listAnswer d m hive n key l cs t = walked (listCharge (treeCharge d m hive n) key l cs) (tallied d t (joined (keysIn d n) cs))

@@ -2,7 +2,6 @@
 use cells::Rule;
 use cells::Surveyed;
 use cells::Tally;
-use census::Secured;
 use fields::Fault;
 use fields::Offset;
 use fields::Refusal;
@@ -13,6 +12,7 @@ use records::Key;
 use records::Keyed;
 use records::Leaf;
 use records::Totalled;
+use security_check::Secured;
 ghost use mathlib.Core.Path.{_≡_};
 ghost use Prim.Native.Nat.{_<_};
 ghost use lib.ListN.{getD};
@@ -20,12 +20,12 @@ ghost use Rattle.cells.specs.Survey.{mapLeft};
 ghost use Rattle.cells.specs.Named.{dataAt};
 ghost use Rattle.cells.specs.declared.Rule.the-variants.{Map};
 ghost use Rattle.fields.specs.declared.Verdict.the-variants.{Sound};
-ghost use Rattle.records.specs.Steps.{noChild};
+ghost use Rattle.records.specs.Contracts.{noChild};
 ghost use Rattle.records.specs.Lists.{leafChildren, leafFault, childrenBelow, listsFault};
 ghost use Rattle.tree.specs.Tree.{parentFault, orderFault, placeFault, hashFault, hintFault, besideFault, restFault, ownFault, holder as holderOf, tally as tallyOf, keyAnswer, listAnswer, ringCharge, answer, checkAnswer};
 ghost use Rattle.values.specs.Lists.{valueEntries};
-ghost use Rattle.namesakes.specs.Steps.{NamesLie};
-ghost use Rattle.tree.specs.Steps.{NameLies, Fits, ArrivalFits, subkeysFault, listedFault, lastOf, RowLies, rowChildren, Ready, walkAnswer, Walked};
+ghost use Rattle.namesakes.specs.Contracts.{NamesLie};
+ghost use Rattle.tree.specs.Contracts.{NameLies, Fits, ArrivalFits, subkeysFault, listedFault, lastOf, RowLies, rowChildren, Ready, keysAnswer, KeysChecked};
 
 // "The check reports bins, keys reached, values (one for each value list element of those keys), used bytes and free bytes"
 pub struct Report {
@@ -60,7 +60,7 @@ pub struct Count {
     pub values: u64,
 }
 
-pub enum Walk {
+pub enum Subtree {
     Counted(Count),
     Refused(Refusal),
 }
@@ -141,7 +141,7 @@ fn hint_flaw(bins: &[u8], k: Key, c: Child) -> Verdict
 }
 
 // What stands beside the offset, hash or hint.
-fn beside_flaw(bins: &[u8], k: Key, c: Child) -> Verdict
+fn hash_or_hint_flaw(bins: &[u8], k: Key, c: Child) -> Verdict
     requires { ⌜ NameLies (now bins) k ⌝ }
     ensures { λ r. ⌜ r ≡ besideFault (now (bins .entry)) k c ⌝ }
 {
@@ -167,7 +167,7 @@ fn subkeys_flaw(bins: &[u8], map: &[u8], k: Key, at: Offset) -> Verdict
 }
 
 // The names of a key's values, then "all its lists and the total".
-fn listed_flaw(bins: &[u8], map: &[u8], k: Key, at: Offset) -> Verdict
+fn names_and_lists_flaw(bins: &[u8], map: &[u8], k: Key, at: Offset) -> Verdict
     requires { ⌜ NamesLie (now bins) (valueEntries k) ⌝ }
     ensures { λ r. ⌜ r ≡ listedFault (now (bins .entry)) (now (map .entry)) k at ⌝ }
 {
@@ -178,7 +178,14 @@ fn listed_flaw(bins: &[u8], map: &[u8], k: Key, at: Offset) -> Verdict
 }
 
 // "level; values in order with their data; all its lists and the total"
-fn rest_flaw(bins: &[u8], map: &[u8], minor: u32, levels: u32, k: Key, at: Offset) -> Verdict
+fn values_and_lists_flaw(
+    bins: &[u8],
+    map: &[u8],
+    minor: u32,
+    levels: u32,
+    k: Key,
+    at: Offset,
+) -> Verdict
     ensures { λ r. ⌜ r ≡ restFault (now (bins .entry)) (now (map .entry)) minor levels k at ⌝ }
 {
     if levels == 0 {
@@ -186,12 +193,12 @@ fn rest_flaw(bins: &[u8], map: &[u8], minor: u32, levels: u32, k: Key, at: Offse
     }
     match values::values_flaw(bins, map, Rule::Map, minor, k) {
         Verdict::Flawed(f) => Verdict::Flawed(f),
-        Verdict::Sound => listed_flaw(bins, map, k, at),
+        Verdict::Sound => names_and_lists_flaw(bins, map, k, at),
     }
 }
 
 // All of a key's tests but that of its record.
-fn own_flaw(
+fn key_tests(
     bins: &[u8],
     map: &[u8],
     hive: Hive,
@@ -207,9 +214,9 @@ fn own_flaw(
     let at = c.at;
     match place_flaw(bins, hive.root, k, at, l) {
         Verdict::Flawed(f) => Verdict::Flawed(f),
-        Verdict::Sound => match beside_flaw(bins, k, c) {
+        Verdict::Sound => match hash_or_hint_flaw(bins, k, c) {
             Verdict::Flawed(f) => Verdict::Flawed(f),
-            Verdict::Sound => rest_flaw(bins, map, hive.minor, levels, k, at),
+            Verdict::Sound => values_and_lists_flaw(bins, map, hive.minor, levels, k, at),
         },
     }
 }
@@ -254,15 +261,15 @@ fn check_key(
     l: Arrival,
     levels: u32,
     t: Count,
-) -> Walk
+) -> Subtree
     requires { ⌜ ArrivalFits (now bins) l ⌝ }
     ensures { λ r. ⌜ r ≡ keyAnswer (now (bins .entry)) (now (map .entry)) hive levels c l t ⌝ }
 {
     let at = c.at;
     match records::key_at(bins, map, Rule::Map, at) {
-        Keyed::Flawed(f) => Walk::Refused(fields::refused(holder(l), f)),
-        Keyed::Whole(k) => match own_flaw(bins, map, hive, levels, k, c, l) {
-            Verdict::Flawed(f) => Walk::Refused(fields::refused(at, f)),
+        Keyed::Flawed(f) => Subtree::Refused(fields::refused(holder(l), f)),
+        Keyed::Whole(k) => match key_tests(bins, map, hive, levels, k, c, l) {
+            Verdict::Flawed(f) => Subtree::Refused(fields::refused(at, f)),
             Verdict::Sound => {
                 let u = tally(t, k);
                 check_list(bins, map, hive, at, k, levels - 1, u)
@@ -280,12 +287,12 @@ fn check_list(
     k: Key,
     levels: u32,
     from: Count,
-) -> Walk
+) -> Subtree
     requires { ⌜ listsFault Map (now bins) (now map) k ≡ Sound ⌝ }
     ensures { λ r. ⌜ r ≡ listAnswer (now (bins .entry)) (now (map .entry)) hive levels key (Arrival.First key) (childrenBelow (now (bins .entry)) k) from ⌝ }
 {
     if k.subkeys == 0 {
-        return Walk::Counted(from);
+        return Subtree::Counted(from);
     }
     let ls = records::leaves_fields(bins, k.list);
     let mut t = from;
@@ -295,8 +302,8 @@ fn check_list(
         let o = records::leaf_offset(bins, ls, j);
         let w = check_leaf(bins, map, hive, key, o, l, levels, t);
         match w {
-            Walk::Refused(f) => return Walk::Refused(f),
-            Walk::Counted(u) => {
+            Subtree::Refused(f) => return Subtree::Refused(f),
+            Subtree::Counted(u) => {
                 t = u;
             }
         }
@@ -304,7 +311,7 @@ fn check_list(
         l = Arrival::After(key, last);
         j += 1;
     }
-    Walk::Counted(t)
+    Subtree::Counted(t)
 }
 
 // The keys of a leaf, each wholly before the next.
@@ -317,13 +324,13 @@ fn check_leaf(
     first: Arrival,
     levels: u32,
     from: Count,
-) -> Walk
+) -> Subtree
     requires { ⌜ leafFault Map (now bins) (now map) o ≡ Sound ⌝ }
     requires { ⌜ ArrivalFits (now bins) first ⌝ }
     ensures { λ r. ⌜ r ≡ listAnswer (now (bins .entry)) (now (map .entry)) hive levels key first (leafChildren (dataAt (now (bins .entry)) o)) from ⌝ }
 {
     let leaf = records::leaf_fields(bins, o);
-    check_row(bins, map, hive, key, leaf, first, levels, from)
+    check_siblings(bins, map, hive, key, leaf, first, levels, from)
 }
 
 // An element of a row.
@@ -344,7 +351,7 @@ fn row_child(bins: &[u8], row: Leaf, i: usize) -> Child
 }
 
 // The keys of a row, the root's or a leaf's. It is the one place that asks for a key's tests: so they are no call, but for a key that has subkeys.
-fn check_row(
+fn check_siblings(
     bins: &[u8],
     map: &[u8],
     hive: Hive,
@@ -353,7 +360,7 @@ fn check_row(
     first: Arrival,
     levels: u32,
     from: Count,
-) -> Walk
+) -> Subtree
     requires { ⌜ RowLies (now bins) row ⌝ }
     requires { ⌜ ArrivalFits (now bins) first ⌝ }
     ensures { λ r. ⌜ r ≡ listAnswer (now (bins .entry)) (now (map .entry)) hive levels key first (rowChildren (now (bins .entry)) row) from ⌝ }
@@ -365,8 +372,8 @@ fn check_row(
         let c = row_child(bins, row, i);
         let w = check_key(bins, map, hive, c, l, levels, t);
         match w {
-            Walk::Refused(f) => return Walk::Refused(f),
-            Walk::Counted(u) => {
+            Subtree::Refused(f) => return Subtree::Refused(f),
+            Subtree::Counted(u) => {
                 t = u;
             }
         }
@@ -374,13 +381,13 @@ fn check_row(
         l = Arrival::After(key, at);
         i += 1;
     }
-    Walk::Counted(t)
+    Subtree::Counted(t)
 }
 
 // The tree from the root, on bins that were surveyed: "The root is level 0; level 512 is the last."
-fn walk_tree(hive: &[u8], map: &[u8], t: Tally) -> Checked
+fn check_tree(hive: &[u8], map: &[u8], t: Tally) -> Checked
     requires { ⌜ Ready (now hive) (now map) ⌝ }
-    ensures { λ r. ⌜ r ≡ walkAnswer (now (hive .entry)) (now (map .entry)) t ⌝ }
+    ensures { λ r. ⌜ r ≡ keysAnswer (now (hive .entry)) (now (map .entry)) t ⌝ }
 {
     let minor = base::minor_of(hive);
     let root = base::root_of(hive);
@@ -392,7 +399,7 @@ fn walk_tree(hive: &[u8], map: &[u8], t: Tally) -> Checked
         hinted: false,
     };
     let none = Count { keys: 0, values: 0 };
-    match check_row(
+    match check_siblings(
         base::bins_of(hive),
         map,
         Hive { minor, root },
@@ -402,8 +409,8 @@ fn walk_tree(hive: &[u8], map: &[u8], t: Tally) -> Checked
         513,
         none,
     ) {
-        Walk::Refused(f) => Checked::Refused(f),
-        Walk::Counted(n) => Checked::Accepted(Report {
+        Subtree::Refused(f) => Checked::Refused(f),
+        Subtree::Counted(n) => Checked::Accepted(Report {
             bins: t.bins,
             keys: n.keys,
             values: n.values,
@@ -415,12 +422,12 @@ fn walk_tree(hive: &[u8], map: &[u8], t: Tally) -> Checked
 
 // "given after the tree walk": the security items of a hive whose tree was walked. The map serves there, and is left as it was.
 fn check_items(hive: &[u8], map: &mut [u8], report: Report) -> Checked
-    requires { ⌜ Walked (now hive) (now map) (report .keys) ⌝ }
+    requires { ⌜ KeysChecked (now hive) (now map) (report .keys) ⌝ }
     ensures { λ r. ⌜ r ≡ answer (ringCharge (now (hive .entry)) (now (map .entry))) report ⌝ }
     ensures { λ _. ⌜ now (map .exit) ≡ now (map .entry) ⌝ }
 {
     let root = base::root_of(hive);
-    match census::security_charge(base::bins_of(hive), map, root, report.keys) {
+    match security_check::security_charge(base::bins_of(hive), map, root, report.keys) {
         Secured::Stands => Checked::Accepted(report),
         Secured::Refused(r) => Checked::Refused(r),
     }
@@ -432,8 +439,8 @@ pub fn check(hive: &[u8], map: &mut [u8]) -> Checked
     ensures { λ _. ⌜ now (map .exit) ≡ mapLeft (now (hive .entry)) (now (map .entry)) ⌝ }
 {
     match cells::survey(hive, map) {
-        Surveyed::Refused(f) => Checked::Refused(fields::refused(Offset(fields::NO_KEY), f)),
-        Surveyed::Tiled(t) => match walk_tree(hive, map, t) {
+        Surveyed::Flawed(f) => Checked::Refused(fields::refused(Offset(fields::NO_KEY), f)),
+        Surveyed::Tiled(t) => match check_tree(hive, map, t) {
             Checked::Refused(r) => Checked::Refused(r),
             Checked::Accepted(report) => check_items(hive, map, report),
         },

@@ -16,7 +16,7 @@ use Rattle.values.specs.declared.Segment.{Segment}
 use Rattle.values.specs.Entries.{entriesOf}
 use Rattle.values.specs.Records.{segmentSize}
 use Rattle.values.specs.Segments.{segmentLength, segmentsFrom, segmentsIn, segmentFault, joinedBytes}
-use Rattle.values.specs.Steps.{SegmentsLie}
+use Rattle.values.specs.Contracts.{SegmentsLie}
 use Rattle.values.proofs.Rooms.{roomy}
 use Rattle.values.proofs.Segment_turns.{takes, segments-cons, segments-nil}
 

@@ -23,7 +23,7 @@ use Rattle.values.specs.declared.ValueData.the-variants.{Inline, OneCell
 use Rattle.values.specs.Entries.{entriesAt}
 use Rattle.values.specs.Segments.{segmentsFor, isDb, dbFault, segmentList, segmentsOf, segmentsIn, segmentFault, segmentListFault, segmentsFault, dataFault, joinedBytes, bytesOf, lengthOf}
 use Rattle.values.specs.Parts.{partOf, partBytes}
-use Rattle.values.specs.Steps.{Lies, SegmentsLie}
+use Rattle.values.specs.Contracts.{Lies, SegmentsLie}
 use Rattle.values.proofs.Cell_tests.{says}
 use Rattle.values.proofs.Rooms.{roomy}
 use Rattle.values.proofs.Segment_faults.{db-long, list-roomy, segments-listed}

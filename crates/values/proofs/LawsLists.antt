@@ -14,7 +14,7 @@ use Rattle.records.specs.declared.Key.{Key}
 use Rattle.records.specs.Offsets.{offsetsAt}
 use Rattle.values.specs.declared.Entries.{Entries}
 use Rattle.values.specs.Entries.{entriesOf}
-use Rattle.values.specs.Steps.{Room}
+use Rattle.values.specs.Contracts.{Room}
 use Rattle.values.specs.Lists.{valuesOf, valueListFault, valueEntries, wholeValueFault, valuesFault}
 use Rattle.values.proofs.Rooms.{roomy}
 

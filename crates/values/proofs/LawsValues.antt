@@ -21,7 +21,7 @@ use Rattle.values.specs.declared.ValueData.{ValueData}
 use Rattle.values.specs.declared.ValueData.the-variants.{Inline, OneCell, Segments}
 use Rattle.values.specs.Records.{segmentSize, dataLimit, topBit, isDataSize, isValue, valueFault, isSegmented, contentOf, dataIn, fieldsOf, valueOf}
 use Rattle.values.specs.Segments.{roomFault, segmentsFor, isDb, dbFault, segmentList, segmentsOf, segmentFault, segmentListFault, segmentsFault, dataFault}
-use Rattle.values.specs.Steps.{Lies}
+use Rattle.values.specs.Contracts.{Lies}
 use Rattle.values.proofs.Cell_tests.{carries-next, carries-over, says, by-header}
 use Rattle.values.proofs.Tests.{Kept, kept}
 

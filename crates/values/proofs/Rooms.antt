@@ -13,7 +13,7 @@ use Rattle.fields.specs.declared.Fault.the-variants.{Record}
 use Rattle.fields.specs.declared.Verdict.the-variants.{Sound, Flawed}
 use Rattle.fields.specs.Faults.{flaw, nowhere}
 use Rattle.cells.specs.declared.Cell.{Cell}
-use Rattle.cells.specs.declared.Found.the-variants.{Named, Missing}
+use Rattle.cells.specs.declared.Found.the-variants.{Named, Flawed as Missing}
 use Rattle.cells.specs.declared.Rule.{Rule}
 use Rattle.cells.specs.Named.{cellOf, dataOf, dataAt}
 use Rattle.cells.proofs.Naming.{inside, data-length}

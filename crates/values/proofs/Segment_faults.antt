@@ -17,14 +17,14 @@ use Rattle.fields.specs.Faults.{flaw, faultOver}
 use Rattle.fields.proofs.Firsts.{on, stop, both}
 use Rattle.fields.proofs.Bools.{and-inv}
 use Rattle.cells.specs.declared.Cell.{Cell}
-use Rattle.cells.specs.declared.Found.the-variants.{Named, Missing}
+use Rattle.cells.specs.declared.Found.the-variants.{Named, Flawed as Missing}
 use Rattle.cells.specs.declared.Rule.{Rule}
 use Rattle.cells.specs.Named.{cellOf, dataOf, dataAt}
 use Rattle.cells.proofs.Naming.{cell-data-at}
 use Rattle.values.specs.declared.Entries.{Entries}
 use Rattle.values.specs.declared.Entered.the-variants as enteredAs
 use Rattle.values.specs.Entries.{entriesAt}
-use Rattle.values.specs.Steps.{Room, entered}
+use Rattle.values.specs.Contracts.{Room, entered}
 use Rattle.values.specs.Segments.{roomFault, segmentsFor, isDb, dbFault, segmentList, segmentsIn, segmentsOf, segmentFault, segmentListFault, segmentsFault}
 use Rattle.values.proofs.Cell_tests.{lacks, passes, refuses}
 use Rattle.values.proofs.Rooms.{roomy}

@@ -5,4 +5,4 @@ pub mod Segments
 pub mod Parts
 pub mod Lists
 pub mod Refused
-pub mod Steps
+pub mod Contracts

@@ -14,7 +14,7 @@ ghost use Rattle.fields.specs.Faults.{nowhere, faultOver};
 ghost use Rattle.cells.specs.Named.{dataAt};
 ghost use Rattle.values.specs.Records.{isValueName, isDataSize, valueNarrow, isOldValue, isValue, valueFault, isSegmented, contentOf, fieldsOf, valueOf, valued};
 ghost use Rattle.values.specs.Entries.{entriesAt, entriesOf};
-ghost use Rattle.values.specs.Steps.{Room, entered, Lies, SegmentsLie};
+ghost use Rattle.values.specs.Contracts.{Room, entered, Lies, SegmentsLie};
 ghost use Rattle.values.specs.Segments.{roomFault, segmentsFor, isDb, segmentLength, segmentList, segmentsIn, segmentFault, segmentListFault, segmentsFault, dataFault, joinedBytes, bytesOf, lengthOf};
 ghost use Rattle.values.specs.Parts.{partOf};
 ghost use Rattle.values.specs.Lists.{valueListFault, valueEntries, wholeValueFault, valuesFault};
@@ -152,7 +152,7 @@ pub fn value_at(bins: &[u8], map: &[u8], rule: Rule, minor: u32, v: Offset) -> V
     ensures { λ x. ⌜ x ≡ valued (valueFault rule (now (bins .entry)) (now (map .entry)) v) (valueOf (now (bins .entry)) minor v) ⌝ }
 {
     match cells::find_cell(bins, map, rule, v) {
-        Found::Missing(f) => Valued::Flawed(f),
+        Found::Flawed(f) => Valued::Flawed(f),
         Found::Named(c) => {
             let r = cells::cell_data(bins, c);
             if !is_value(r) {
@@ -171,7 +171,7 @@ fn room_flaw(bins: &[u8], map: &[u8], rule: Rule, o: Offset, n: usize) -> Verdic
     ensures { λ r. ⌜ r ≡ roomFault rule (now (bins .entry)) (now (map .entry)) o n ⌝ }
 {
     match cells::find_cell(bins, map, rule, o) {
-        Found::Missing(f) => Verdict::Flawed(f),
+        Found::Flawed(f) => Verdict::Flawed(f),
         Found::Named(c) => {
             let len = c.len;
             if len < n {
@@ -257,7 +257,7 @@ fn segment_list(bins: &[u8], map: &[u8], rule: Rule, o: Offset, size: u32) -> En
     ensures { λ r. ⌜ r ≡ entered (segmentListFault rule (now (bins .entry)) (now (map .entry)) o size) (entriesAt (segmentList (now (bins .entry)) o) (segmentsFor size)) ⌝ }
 {
     match cells::find_cell(bins, map, rule, o) {
-        Found::Missing(f) => Entered::Flawed(f),
+        Found::Flawed(f) => Entered::Flawed(f),
         Found::Named(c) => {
             let r = cells::cell_data(bins, c);
             if !is_db(r, size) {
@@ -325,7 +325,7 @@ fn whole_value_flaw(bins: &[u8], map: &[u8], rule: Rule, minor: u32, v: Offset) 
     ensures { λ r. ⌜ r ≡ wholeValueFault rule (now (bins .entry)) (now (map .entry)) minor v ⌝ }
 {
     match cells::find_cell(bins, map, rule, v) {
-        Found::Missing(f) => Verdict::Flawed(f),
+        Found::Flawed(f) => Verdict::Flawed(f),
         Found::Named(c) => {
             let r = cells::cell_data(bins, c);
             if !is_value(r) {

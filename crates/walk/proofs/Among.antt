@@ -20,7 +20,7 @@ use Rattle.cells.specs.Tiled.{BinsTile}
 use Rattle.records.specs.declared.Child.{Child}
 use Rattle.records.specs.Keys.{keyOf}
 use Rattle.records.specs.Lists.{leafFault, leafChildren, leavesOf, childrenIn, leavesBelow}
-use Rattle.records.specs.Steps.{noChild}
+use Rattle.records.specs.Contracts.{noChild}
 use Rattle.records.proofs.Elements.{at-in}
 use Rattle.records.proofs.LawsPlaces.{leaf-some}
 use Rattle.tree.specs.declared.Hive.{Hive}
@@ -30,7 +30,7 @@ use Rattle.search.proofs.Refusals.{in-leaves}
 use Rattle.walk.specs.declared.Mark.{Mark}
 use Rattle.walk.specs.declared.Next.{Next}
 use Rattle.walk.specs.declared.Next.the-variants.{Comes, End}
-use Rattle.walk.specs.Steps.{markAfter, nextOf, nextIn, nextBelow}
+use Rattle.walk.specs.Answers.{markAfter, nextOf, nextIn, nextBelow}
 use Rattle.walk.proofs.Ways.{after-more, after-last}
 
 -- the elements of leaf j, and those of all leaves from a mark on

@@ -32,7 +32,7 @@ use Rattle.walk.specs.declared.Next.{Next}
 use Rattle.walk.specs.declared.Next.the-variants.{Comes, End}
 use Rattle.walk.specs.declared.Walked.{Walked}
 use Rattle.walk.specs.declared.Walked.the-variants.{Opens, Closes, Over, Refused}
-use Rattle.walk.specs.Steps.{keyAt, markAt, nextBelow, stepAt, answerOf, levelsAfter, stepAnswer, stepLevels, beginAnswer, beginLevels}
+use Rattle.walk.specs.Answers.{keyAt, markAt, nextBelow, stepAt, answerOf, levelsAfter, stepAnswer, stepLevels, beginAnswer, beginLevels}
 use Rattle.walk.specs.Events.{eventsOver, eventsIn, eventsOf, opened, childrenLeft, coming, depthAfter, stepsFrom, walkOf}
 use Rattle.walk.proofs.Ways.{enter-on, open-on, at-end, at-on, in-over, in-on, step-on, root-on, begin-on}
 use Rattle.walk.proofs.Among.{Inside, NextIs, no-more, one-more, inside-first, below-good, next-stands}

@@ -23,7 +23,7 @@ use Rattle.cells.proofs.Refusals.{Ruled, by-header}
 use Rattle.records.specs.declared.Child.{Child}
 use Rattle.records.specs.Keys.{keyFault, keyOf}
 use Rattle.records.specs.Lists.{leafFault, headFault, leafChildren, leavesOf, children}
-use Rattle.records.specs.Steps.{noChild}
+use Rattle.records.specs.Contracts.{noChild}
 use Rattle.records.proofs.Elements.{at-in}
 use Rattle.values.specs.Refused.{a-key, Fit, one-of, its-list, its-leaf, its-child}
 use Rattle.values.proofs.Refusals.{key-fit, key-unfit, list-fit, list-unfit, leaf-unfit}
@@ -35,10 +35,10 @@ use Rattle.walk.specs.declared.Offer.{Offer}
 use Rattle.walk.specs.declared.Offer.the-variants as ahead
 use Rattle.walk.specs.declared.Mark.{Mark}
 use Rattle.walk.specs.declared.Next.{Next}
-use Rattle.walk.specs.declared.Next.the-variants.{Comes, End, Faulty}
+use Rattle.walk.specs.declared.Next.the-variants.{Comes, End, Flawed as Faulty}
 use Rattle.walk.specs.declared.Walked.{Walked}
 use Rattle.walk.specs.declared.Walked.the-variants.{Over, Refused}
-use Rattle.walk.specs.Steps.{keyAt, markAt, nextWhere, nextOf, nextIn, nextBelow, stepWhere, stepOn, roomFault, entering, opening, stepAt, stepIn, stepOf, answerOf, levelsAfter, stepAnswer, stepLevels, rootFault, beginFault, begunWhere, begunLevels, beginAnswer, beginLevels}
+use Rattle.walk.specs.Answers.{keyAt, markAt, nextWhere, nextOf, nextIn, nextBelow, stepWhere, stepOn, roomFault, entering, opening, stepAt, stepIn, stepOf, answerOf, levelsAfter, stepAnswer, stepLevels, rootFault, beginFault, begunWhere, begunLevels, beginAnswer, beginLevels}
 use Rattle.walk.specs.Refused.{OfBegin, begin-base, of-root, no-start, OfStep, of-base, no-words, of-key, of-named, too-deep, no-room}
 
 -- ---- a refusal leaves the words

@@ -24,7 +24,7 @@ use Rattle.records.specs.declared.Leaves.{Leaves}
 use Rattle.records.specs.declared.Name.{Name}
 use Rattle.records.specs.Keys.{keyIn, keyFault, keyOf, called}
 use Rattle.records.specs.Lists.{leafFault, headFault}
-use Rattle.records.specs.Steps.{leafIn, leafOf, leafed, ElementsLie, elementsOf, childNamed, leafNamed, leavesAt, headed, LeavesLie, leavesNamed}
+use Rattle.records.specs.Contracts.{leafIn, leafOf, leafed, ElementsLie, elementsOf, childNamed, leafNamed, leavesAt, headed, LeavesLie, leavesNamed}
 use Rattle.records.proofs.LawsAnswer.{called-whole, called-flawed, leafed-whole, leafed-flawed, headed-whole, headed-flawed}
 use Rattle.records.proofs.LawsElements.{elements-length, element-at, elements-are}
 use Rattle.records.proofs.LawsPlaces.{named-length, named-at, leaf-tested, elements-lie, leaves-are}
@@ -33,9 +33,9 @@ use Rattle.listing.specs.declared.Entry.{Entry}
 use Rattle.listing.specs.Members.{entryOf}
 use Rattle.walk.specs.declared.Offer.the-variants as ahead
 use Rattle.walk.specs.declared.Mark.{Mark}
-use Rattle.walk.specs.declared.Next.the-variants.{Comes, End, Faulty}
+use Rattle.walk.specs.declared.Next.the-variants.{Comes, End, Flawed as Faulty}
 use Rattle.walk.specs.declared.Walked.the-variants.{Closes, Over, Refused}
-use Rattle.walk.specs.Steps.{keyAt, markAt, markAfter, nextOf, nextIn, nextBelow, roomFault, entering, opening, stepAt, stepIn, stepOf, answerOf, levelsAfter, stepAnswer, stepLevels, rootFault, beginFault, begunWhere, begunLevels, beginAnswer, beginLevels}
+use Rattle.walk.specs.Answers.{keyAt, markAt, markAfter, nextOf, nextIn, nextBelow, roomFault, entering, opening, stepAt, stepIn, stepOf, answerOf, levelsAfter, stepAnswer, stepLevels, rootFault, beginFault, begunWhere, begunLevels, beginAnswer, beginLevels}
 
 -- words that are set one after the other
 pub put-two : (l : List ℕ) (i a b : ℕ) → set (set l i a) (i + 1) b ≡ sets l i (a ∷ b ∷ [])

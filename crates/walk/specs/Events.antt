@@ -14,7 +14,7 @@ use Rattle.listing.specs.Members.{entryOf}
 use Rattle.walk.specs.declared.Mark.{Mark}
 use Rattle.walk.specs.declared.Walked.{Walked}
 use Rattle.walk.specs.declared.Walked.the-variants.{Opens, Closes, Over, Refused}
-use Rattle.walk.specs.Steps.{keyAt, markAt, stepAnswer, stepLevels, beginAnswer, beginLevels}
+use Rattle.walk.specs.Answers.{keyAt, markAt, stepAnswer, stepLevels, beginAnswer, beginLevels}
 
 -- "Opens k, the children's events joined, Closes k", of a tree of so many levels
 unfoldable pub eventsOver : (Offset → List Walked) → List Child → List Walked

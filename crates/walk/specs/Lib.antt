@@ -1,3 +1,3 @@
-pub mod Steps
+pub mod Answers
 pub mod Events
 pub mod Refused

@@ -14,7 +14,7 @@ use Rattle.records.specs.declared.Child.{Child}
 use Rattle.records.specs.Lists.{children}
 use Rattle.values.specs.Refused.{a-key, Fit, Unfit, Among, Lists}
 use Rattle.tree.specs.Tree.{levels, hiveOf}
-use Rattle.walk.specs.Steps.{keyAt}
+use Rattle.walk.specs.Answers.{keyAt}
 
 -- begin: no key is named
 pub data OfBegin (h ws : List ℕ) : Flaw → Type 0 where

@@ -21,11 +21,11 @@ ghost use lib.ListN.{length};
 ghost use lib.Seq.{sets};
 ghost use Rattle.fields.specs.declared.Verdict.the-variants.{Sound};
 ghost use Rattle.fields.specs.Faults.{flaw, nowhere, refusalOf};
-ghost use Rattle.records.specs.Steps.{LeavesLie, leavesNamed, ElementsLie, elementsOf};
+ghost use Rattle.records.specs.Contracts.{LeavesLie, leavesNamed, ElementsLie, elementsOf};
 ghost use Rattle.listing.specs.Members.{entryOf};
 ghost use Rattle.cells.specs.declared.Rule.the-variants.{Header};
 ghost use Rattle.records.specs.Keys.{keyFault, keyOf};
-ghost use Rattle.walk.specs.Steps.{keyAt, markAfter, nextOf, nextIn, nextBelow, entering, opening, stepAt, stepIn, answerOf, levelsAfter, stepAnswer, stepLevels, rootFault, begunWhere, begunLevels, beginAnswer, beginLevels};
+ghost use Rattle.walk.specs.Answers.{keyAt, markAfter, nextOf, nextIn, nextBelow, entering, opening, stepAt, stepIn, answerOf, levelsAfter, stepAnswer, stepLevels, rootFault, begunWhere, begunLevels, beginAnswer, beginLevels};
 
 pub enum Walked {
     Opens(Entry),
@@ -52,7 +52,7 @@ pub struct Mark {
 pub enum Next {
     Comes(Offset, Mark),
     End,
-    Faulty(Flaw),
+    Flawed(Flaw),
 }
 
 // The mark behind an element of a leaf with so many.
@@ -95,7 +95,7 @@ fn next_in(bins: &[u8], ls: Leaves, m: Mark) -> Next
     }
     let o = records::leaf_offset(bins, ls, j);
     match records::leaf_at(bins, b"", Rule::Header, o) {
-        Leafed::Flawed(f) => Next::Faulty(f),
+        Leafed::Flawed(f) => Next::Flawed(f),
         Leafed::Whole(leaf) => next_of(bins, leaf, m),
     }
 }
@@ -109,7 +109,7 @@ fn next_below(bins: &[u8], k: Key, m: Mark) -> Next
     }
     let list = k.list;
     match records::head_at(bins, b"", Rule::Header, list) {
-        Headed::Flawed(f) => Next::Faulty(f),
+        Headed::Flawed(f) => Next::Flawed(f),
         Headed::Whole(ls) => next_in(bins, ls, m),
     }
 }
@@ -188,7 +188,7 @@ pub fn ahead_of(bins: &[u8], levels: &[u32], depth: usize) -> Offer
     };
     let k = records::key_fields(bins, key);
     match next_below(bins, k, m) {
-        Next::Faulty(f) => Offer::Refused(fields::refused(key, f)),
+        Next::Flawed(f) => Offer::Refused(fields::refused(key, f)),
         Next::End => Offer::Closes(key),
         Next::Comes(c, after) => open(bins, levels, depth, key, c, after),
     }

@@ -1,6 +1,6 @@
 use Prim.Native.Nat.{_+_}
 use native.Mathlib.Omega.{arith}
-use Rattle.shapes.proofs.Sizes.{cell-few}
+use Rattle.build_frames.proofs.Sizes.{cell-few}
 use borrow.Author.Needs.{needs}
 use Rattle.build.proofs.bins_size.Statement.{statement}
 use Rattle.build.proofs.bins_size.Tie as tie

@@ -1,6 +1,6 @@
 use mathlib.Core.Path.{_∙_}
 use denote.Ref.{now}
-use Rattle.intake.proofs.Told.{told-fits, told-amiss}
+use Rattle.build_measure.proofs.Told.{told-fits, told-amiss}
 use Rattle.build.proofs.Calls.{call-wrong}
 use borrow.Author.Needs.{needs}
 use Rattle.build.proofs.build.Statement.{statement}

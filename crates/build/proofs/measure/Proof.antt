@@ -1,8 +1,8 @@
 use mathlib.Core.Path.{sym, _∙_}
 use denote.Ref.{now}
 use Rattle.layout.specs.Layout.{sizeOf}
-use Rattle.answers.proofs.Cases.{measure-wrong}
-use Rattle.intake.proofs.Told.{told-fits, told-amiss}
+use Rattle.build_answers.proofs.Cases.{measure-wrong}
+use Rattle.build_measure.proofs.Told.{told-fits, told-amiss}
 use Rattle.build.proofs.Sizes.{measure-fits}
 use borrow.Author.Needs.{needs}
 use Rattle.build.proofs.measure.Statement.{statement}

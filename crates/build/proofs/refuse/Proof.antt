@@ -1,6 +1,6 @@
 use mathlib.Core.Path.{ap}
 use Rattle.fields.specs.declared.Refusal.{Refusal}
-use Rattle.answers.specs.declared.Built.the-variants.{Refused}
+use Rattle.build_answers.specs.declared.Built.the-variants.{Refused}
 use borrow.Author.Needs.{needs}
 use Rattle.build.proofs.refuse.Statement.{statement}
 use Rattle.build.proofs.refuse.Tie as tie

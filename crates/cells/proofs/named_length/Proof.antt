@@ -1,4 +1,4 @@
-use Rattle.cells.specs.Steps.{lengthBy}
+use Rattle.cells.specs.Contracts.{lengthBy}
 use mathlib.Core.Path.{_∙_}
 use borrow.Author.Needs.{needs}
 use Rattle.cells.proofs.named_length.Statement.{statement}

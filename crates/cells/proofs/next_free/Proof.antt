@@ -5,7 +5,7 @@ use lib.ListN.{length}
 use borrow.Author.Tests.{not-true, not-false}
 use borrow.Author.Needs.{needs}
 use Rattle.fields.specs.declared.Size.{Size}
-use Rattle.cells.specs.Steps.{Stands, freeFrom}
+use Rattle.cells.specs.Contracts.{Stands, freeFrom}
 use Rattle.cells.proofs.Gaps.{bin-size, turn-bin, same-bin, cell-size, turn-cell, same-used, at-free, at-end, farther}
 use Rattle.cells.proofs.next_free.Statement.{statement}
 use Rattle.cells.proofs.next_free.Tie as tie

@@ -1,7 +1,7 @@
 use Prim.Native.Nat.{_-_}
 use native.Mathlib.Omega.{arith}
 use borrow.Author.Needs.{needs}
-use Rattle.cells.specs.Steps.{Without}
+use Rattle.cells.specs.Contracts.{Without}
 use Rattle.cells.proofs.Gaps.{without-start, with-room, without-on}
 use Rattle.cells.proofs.next_with.Statement.{statement}
 use Rattle.cells.proofs.next_with.Tie as tie

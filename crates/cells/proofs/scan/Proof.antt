@@ -12,14 +12,14 @@ use Rattle.cells.proofs.scan.Tie as tie
 
 returns : tie.Need-returns
 unfolding mapAfter
-returns c = let w = c .before .before .before .before .walk .ensures in
+returns c = let w = c .before .before .before .before .tile-bins .ensures in
     (w .0, rw (c .enum-told .given .1) (w .1 ∙ ap (marksAll _) (c .before .before .before .before .before .before .before .before .clear .ensures)))
 
 returns-2 : tie.Need-returns-2
 unfolding mapAfter
 returns-2 c = let s = c .before .before .before .before .before .before .before .before .before .before .before .before .before .before .before .before in
     let d = now (s .args .bins) in
-    let w = c .before .before .before .before .before .before .before .before .walk .ensures in (
+    let w = c .before .before .before .before .before .before .before .before .tile-bins .ensures in (
       w .0,
       rw (c .before .before .before .before .enum-told2 .given .1)
           (c .before .before .clear2 .ensures ∙ ap (zeros (length d / 64)) (w .1 ∙ ap (marksAll _) (c .before .before .before .before .before .before .before .before .before .before .before .before .clear .ensures))

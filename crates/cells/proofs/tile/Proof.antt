@@ -1,4 +1,4 @@
-use Rattle.cells.proofs.Steps.{good, done, fault, Walked, walked-used, walked-free}
+use Rattle.cells.proofs.Steps.{good, done, fault, TilesLeft, walked-used, walked-free}
 use Rattle.cells.specs.Map.{marks}
 use Rattle.cells.specs.Tiling.{goodSize, rowOf}
 use borrow.Author.Tests.{not-true, not-false}
@@ -12,7 +12,7 @@ use Rattle.cells.proofs.tile.Statement.{statement}
 use Rattle.cells.proofs.tile.Tie as tie
 
 abbrev Inv-loop : tie.InvT-loop
-Inv-loop bins start end map₀ at₀ used₀ free₀ map at used free = Walked bins map₀ start end map at used free
+Inv-loop bins start end map₀ at₀ used₀ free₀ map at used free = TilesLeft bins map₀ start end map at used free
 
 abbrev μ-loop : tie.MeasureT-loop
 μ-loop bins start end map₀ at₀ used₀ free₀ map at used free = end - at

@@ -4,7 +4,7 @@ use mathlib.Core.List.{[]}
 use Rattle.export.specs.declared.Due.the-variants as due
 use Rattle.cells.specs.declared.Rule.the-variants.{Header}
 use Rattle.records.proofs.LawsKey.{key-room}
-use Rattle.walk.specs.Steps.{keyAt}
+use Rattle.walk.specs.Answers.{keyAt}
 use Rattle.export.proofs.Ways.{due-over, due-bad, due-on}
 use borrow.Author.Needs.{needs}
 use Rattle.export.proofs.due_frame.Statement.{statement}

@@ -2,7 +2,7 @@ use mathlib.Core.Path.{_≡_, refl, sym, ap, ap₂, _∙_, subst}
 use native.Mathlib.Omega.{arith}
 use Prim.Native.Nat.{ℕ, _+_, _-_, _*_, _≤_, _<_}
 use lib.ListN.{length}
-use Rattle.export.specs.Steps.{Went, went}
+use Rattle.export.specs.Contracts.{Went, went}
 use Rattle.export.proofs.Ways.{due-lies}
 use Rattle.export.proofs.Turns.{behind-fits, went-none, went-comes, went-over, went-bad}
 use borrow.Author.Needs.{needs}

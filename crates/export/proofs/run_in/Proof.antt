@@ -9,7 +9,7 @@ use borrow.Author.Tests.{ltb-true}
 use Rattle.fields.specs.declared.Verdict.the-variants.{Sound}
 use Rattle.cells.specs.declared.Rule.the-variants.{Header}
 use Rattle.records.specs.Keys.{keyFault}
-use Rattle.walk.specs.Steps.{keyAt}
+use Rattle.walk.specs.Answers.{keyAt}
 use Rattle.export.specs.Due.{dueAt}
 use Rattle.export.proofs.Turns.{turn-known, stops-over, stops-bad, Running, run-start, out-size, run-less, run-turn, stop-levels, stop-out, stop-answer}
 use borrow.Author.Needs.{needs}

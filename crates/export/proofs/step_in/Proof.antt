@@ -4,7 +4,7 @@ use Prim.Native.Nat.{ℕ, _+_, _-_, _*_, _≤_, _<_}
 use mathlib.Core.List.{List, [], _∷_, _++_}
 use denote.Ref.{now}
 use Rattle.export.specs.Answers.{start}
-use Rattle.export.specs.Steps.{went}
+use Rattle.export.specs.Contracts.{went}
 use Rattle.export.proofs.Calls.{step-by, turn-by}
 use borrow.Author.Needs.{needs}
 use Rattle.export.proofs.step_in.Statement.{statement}

@@ -7,7 +7,7 @@ use lib.ListN.{length}
 use lib.Seq.{sets}
 use Rattle.export.specs.declared.Due.{Due}
 use Rattle.export.specs.declared.Turn.the-variants as turn
-use Rattle.export.specs.Steps.{turnOf, turnBytes, turnWords}
+use Rattle.export.specs.Contracts.{turnOf, turnBytes, turnWords}
 use Rattle.export.proofs.Ways.{due-lies}
 use Rattle.export.proofs.Turns.{turn-short, turn-on, words-short, words-on, bytes-short, bytes-on}
 use borrow.Author.Needs.{needs}

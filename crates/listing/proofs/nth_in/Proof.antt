@@ -1,7 +1,7 @@
 use Rattle.listing.specs.Members.{nthIn}
 use Rattle.listing.proofs.Members.{turn-end, turn-bad, leaf-room, turn-here, turn-on}
 use Rattle.records.proofs.LawsPlaces.{named-length, named-at}
-use Rattle.records.specs.Steps.{leavesNamed}
+use Rattle.records.specs.Contracts.{leavesNamed}
 use lib.ListN.{drop}
 use Prim.Native.Nat.{_-_, _≤_}
 use mathlib.Core.Path.{_≡_, refl, sym, _∙_}

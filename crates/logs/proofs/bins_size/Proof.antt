@@ -1,6 +1,6 @@
 use Rattle.logs.proofs.Formats.{old-told, new-told, old-bins, new-bins}
 use Rattle.logs.proofs.Laws.{head-of, log-long, bins-sized}
-use Rattle.entries.specs.declared.Chain.{Chain}
+use Rattle.log_entries.specs.declared.Chain.{Chain}
 use native.Mathlib.Omega.{arith}
 use mathlib.Core.Path.{sym, ap, _∙_}
 use borrow.Author.Needs.{needs}

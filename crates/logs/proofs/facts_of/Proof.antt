@@ -1,6 +1,6 @@
 use Rattle.logs.proofs.Laws.{log-long}
-use Rattle.logs.specs.declared.Read.{Read}
-use Rattle.logs.specs.declared.Read.the-variants.{Old, New}
+use Rattle.logs.specs.declared.LogFormat.{LogFormat}
+use Rattle.logs.specs.declared.LogFormat.the-variants.{Old, New}
 use Rattle.logs.specs.Logs.{logBins, factsIn, factsOf}
 use Rattle.fields.specs.Number.{u32At}
 use Rattle.base.specs.Block.{sector}
@@ -21,7 +21,7 @@ returns c =
     let s = c .before .before .before .before .before in
     let l = s .args .log .now in
     let e = sym (c .enum-told .given .1) ∙ s .pre .1 in
-    ap₂ (factsIn Old) (c .before .before .before .number-of .ensures) (c .before .before .bins-size .ensures .0) ∙ ap (λ (r : Read). factsIn r (u32At (sector l) 4) (logBins l)) e
+    ap₂ (factsIn Old) (c .before .before .before .number-of .ensures) (c .before .before .bins-size .ensures .0) ∙ ap (λ (r : LogFormat). factsIn r (u32At (sector l) 4) (logBins l)) e
 
 returns-2 : tie.Need-returns-2
 unfolding factsOf
@@ -30,7 +30,7 @@ returns-2 c =
     let l = s .args .log .now in
     let e = sym (c .before .read .given .1) ∙ s .pre .1 in
     ap₂ (factsIn (New (c .before .read .given .0 .0))) (c .before .before .before .before .number-of .ensures) (c .before .before .before .bins-size .ensures .0)
-    ∙ ap (λ (r : Read). factsIn r (u32At (sector l) 4) (logBins l)) e
+    ∙ ap (λ (r : LogFormat). factsIn r (u32At (sector l) 4) (logBins l)) e
 
 pub facts-of-spec : {M : Type 1} → statement M
 facts-of-spec = tie.close (tie.spec number-of-requires bins-size-requires (λ c. search needs) (λ c. search needs) returns returns-2)

@@ -1,13 +1,13 @@
 use Rattle.fields.specs.declared.Verdict.{Verdict}
 use Rattle.fields.specs.declared.Verdict.the-variants as verdict
-use Rattle.entries.specs.declared.Chain.{Chain}
-use Rattle.entries.specs.Entries.{chainOf}
+use Rattle.log_entries.specs.declared.Chain.{Chain}
+use Rattle.log_entries.specs.Entries.{chainOf}
 use Rattle.new_log.specs.declared.Head as new
 use Rattle.new_log.specs.declared.Head.the-variants as new-head
 use Rattle.new_log.specs.Tests as tests
 use Rattle.logs.specs.declared.Head.{Head}
 use Rattle.logs.specs.declared.Head.the-variants.{Good, Flawed}
-use Rattle.logs.specs.declared.Read.the-variants.{New}
+use Rattle.logs.specs.declared.LogFormat.the-variants.{New}
 use Rattle.logs.specs.Logs.{headed}
 use mathlib.Core.Path.{_≡_, refl, sym, ap, _∙_}
 use borrow.Author.Needs.{needs}

@@ -1,12 +1,12 @@
 use mathlib.Core.Path.{_≡_, refl, sym, ap, _∙_}
 use Rattle.fields.specs.declared.Verdict.{Verdict}
 use Rattle.fields.specs.declared.Verdict.the-variants as verdict
-use Rattle.entries.specs.Entries.{chainOf}
+use Rattle.log_entries.specs.Entries.{chainOf}
 use Rattle.new_log.specs.Tests as tests
 use Rattle.logs.specs.declared.Head.{Head}
 use Rattle.logs.specs.declared.Head.the-variants as head
-use Rattle.logs.specs.declared.Read.{Read}
-use Rattle.logs.specs.declared.Read.the-variants.{New}
+use Rattle.logs.specs.declared.LogFormat.{LogFormat}
+use Rattle.logs.specs.declared.LogFormat.the-variants.{New}
 use Rattle.logs.specs.declared.Tested.{Tested}
 use Rattle.logs.specs.declared.Tested.the-variants.{Logged, Flawed}
 use Rattle.logs.specs.Logs.{headed, tested}
@@ -19,7 +19,7 @@ abbrev retold : Head → Tested
 retold (head.Good r) = Logged r 0
 retold (head.Flawed f) = Flawed f
 
-same : (v : Verdict) (r : Read) → retold (headed v r) ≡ tested v r 0
+same : (v : Verdict) (r : LogFormat) → retold (headed v r) ≡ tested v r 0
 same verdict.Sound r = refl
 same (verdict.Flawed f) r = refl
 

@@ -1,5 +1,5 @@
 use Rattle.fields.specs.declared.Verdict.{Verdict}
-use Rattle.logs.specs.declared.Read.the-variants.{Old}
+use Rattle.logs.specs.declared.LogFormat.the-variants.{Old}
 use Rattle.logs.specs.Logs.{headed}
 use mathlib.Core.Path.{sym, ap, _∙_}
 use borrow.Author.Needs.{needs}

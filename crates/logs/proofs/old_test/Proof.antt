@@ -6,7 +6,7 @@ use Rattle.old_log.specs.declared.Tested as old
 use Rattle.old_log.specs.declared.Tested.the-variants as old-log
 use Rattle.old_log.specs.Layout as layout
 use Rattle.old_log.specs.Tests as tests
-use Rattle.logs.specs.declared.Read.the-variants.{Old}
+use Rattle.logs.specs.declared.LogFormat.the-variants.{Old}
 use Rattle.logs.specs.declared.Tested.{Tested}
 use Rattle.logs.specs.declared.Tested.the-variants.{Logged, Flawed}
 use Rattle.logs.specs.Logs.{tested}

@@ -1,4 +1,4 @@
-use Rattle.lookup.specs.declared.Spot.the-variants.{Faulty}
+use Rattle.lookup.specs.declared.Spot.the-variants.{Refused}
 use Rattle.lookup.specs.Answers.{inKey}
 use mathlib.Core.Path.{sym, ap, _∙_}
 use borrow.Author.Needs.{needs}
@@ -12,7 +12,7 @@ returns-2 : tie.Need-returns-2
 returns-2 c = sym (ap (inKey _) (c .enum-told .given .1))
 
 returns-3 : tie.Need-returns-3
-returns-3 c = ap Faulty (c .refused .ensures) ∙ sym (ap (inKey _) (c .before .before .l2 .given .1))
+returns-3 c = ap Refused (c .refused .ensures) ∙ sym (ap (inKey _) (c .before .before .l2 .given .1))
 
 pub in-key-spec : {M : Type 1} → statement M
 in-key-spec =

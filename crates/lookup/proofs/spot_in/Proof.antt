@@ -1,4 +1,4 @@
-use Rattle.lookup.specs.declared.Spot.the-variants.{Faulty}
+use Rattle.lookup.specs.declared.Spot.the-variants.{Refused}
 use Rattle.lookup.specs.Answers.{inKey}
 use Rattle.lookup.proofs.Spots.{spot-bad, spot-on}
 use mathlib.Core.Path.{sym, ap, _∙_}
@@ -7,7 +7,7 @@ use Rattle.lookup.proofs.spot_in.Statement.{statement}
 use Rattle.lookup.proofs.spot_in.Tie as tie
 
 returns : tie.Need-returns
-returns c = ap Faulty (c .refused .ensures) ∙ sym (spot-bad _ _ _ _ (sym (c .before .before .before .before .key-at .ensures) ∙ c .before .before .f .given .1))
+returns c = ap Refused (c .refused .ensures) ∙ sym (spot-bad _ _ _ _ (sym (c .before .before .before .before .key-at .ensures) ∙ c .before .before .f .given .1))
 
 returns-2 : tie.Need-returns-2
 returns-2 c =

@@ -1,4 +1,4 @@
-use Rattle.lookup.specs.declared.Spot.the-variants.{Faulty}
+use Rattle.lookup.specs.declared.Spot.the-variants.{Refused}
 use Rattle.lookup.proofs.Spots.{spot-stop, spot-in}
 use mathlib.Core.Path.{sym, ap, _∙_}
 use borrow.Author.Needs.{needs}
@@ -13,7 +13,7 @@ minor-of-requires c κs = sym (c .before .before .before .base-flaw .ensures) �
 
 returns : tie.Need-returns
 returns c =
-    ap Faulty (c .refused .ensures) ∙ sym (spot-stop _ _ _ (sym (c .before .before .before .before .base-flaw .ensures) ∙ c .before .before .f .given .1))
+    ap Refused (c .refused .ensures) ∙ sym (spot-stop _ _ _ (sym (c .before .before .before .before .base-flaw .ensures) ∙ c .before .before .f .given .1))
 
 returns-2 : tie.Need-returns-2
 returns-2 c =

@@ -1,5 +1,5 @@
 use Rattle.lookup.proofs.Value_searches.{value-faulty, value-keyless, value-below}
-use Rattle.lookup.specs.declared.Spot.the-variants.{Faulty}
+use Rattle.lookup.specs.declared.Spot.the-variants.{Refused}
 use Rattle.lookup.specs.Answers.{inKey}
 use Rattle.paths.proofs.Opens.{look-facts}
 use Rattle.records.proofs.LawsKey.{key-room}
@@ -21,7 +21,7 @@ returns : tie.Need-returns
 returns c = sym (value-faulty _ _ _ _ (sym (c .before .before .before .key-look .ensures) ∙ c .before .r .given .1))
 
 returns-2 : tie.Need-returns-2
-returns-2 c = ap Faulty (c .refused .ensures) ∙ sym (value-keyless _ _ _ _ (sym (c .before .before .before .before .key-look .ensures) ∙ c .before .before .key .given .1))
+returns-2 c = ap Refused (c .refused .ensures) ∙ sym (value-keyless _ _ _ _ (sym (c .before .before .before .before .key-look .ensures) ∙ c .before .before .key .given .1))
 
 returns-3 : tie.Need-returns-3
 returns-3 c = c .in-key .ensures ∙ ap (inKey _) (c .before .lookup-value .ensures) ∙ rw (c .before .before .before .key-fields .ensures, c .before .before .before .before .bins-of .ensures, c .before .before .minor-of .ensures) (sym (value-below _ _ _ _ (sym (c .before .before .before .before .before .before .before .before .key-look .ensures) ∙ c .before .before .before .before .before .before .o .given .1)))

@@ -2,7 +2,7 @@ use native.Mathlib.Omega.{arith}
 use mathlib.Core.Path.{_∙_}
 use borrow.Author.Needs.{needs}
 use Rattle.names.specs.Codes.{codes, backslash}
-use Rattle.names.specs.Steps.{some, none}
+use Rattle.names.specs.Contracts.{some, none}
 use Rattle.names.proofs.LawsCodes.{codes-few, found, found-later, four-passed}
 use Rattle.names.proofs.among_four.Statement.{statement}
 use Rattle.names.proofs.among_four.Tie as tie

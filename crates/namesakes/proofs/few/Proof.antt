@@ -1,9 +1,9 @@
 use native.Mathlib.Omega.{arith}
 use Prim.Native.Nat.{_-_}
 use mathlib.Core.Path.{sym, _∙_}
-use Rattle.repeats.proofs.Blocks.{Passed, pass-start, pass-on, pass-found, pass-end}
+use Rattle.namesake_laws.proofs.Blocks.{Passed, pass-start, pass-on, pass-found, pass-end}
 use Rattle.values.specs.Entries.{entriesOf}
-use Rattle.namesakes.specs.Steps.{called}
+use Rattle.namesakes.specs.Contracts.{called}
 use Rattle.namesakes.proofs.few.Statement.{statement}
 use Rattle.namesakes.proofs.few.Tie as tie
 

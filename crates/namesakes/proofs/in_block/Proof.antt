@@ -2,10 +2,10 @@ use native.Mathlib.Omega.{arith}
 use Prim.Native.Nat.{_-_}
 use mathlib.Core.Path.{sym, ap, _∙_}
 use Rattle.names.specs.Hashing.{hashOf}
-use Rattle.repeats.specs.Repeats.{metIn, later}
-use Rattle.repeats.proofs.Scans.{Scanning, scan-start, scan-end, scan-tells, scan-found, scan-on}
+use Rattle.namesake_laws.specs.Repeats.{metIn, later}
+use Rattle.namesake_laws.proofs.Scans.{Scanning, scan-start, scan-end, scan-tells, scan-found, scan-on}
 use Rattle.values.specs.Entries.{entriesOf}
-use Rattle.namesakes.specs.Steps.{called}
+use Rattle.namesakes.specs.Contracts.{called}
 use Rattle.namesakes.proofs.Readings.{read-name}
 use Rattle.namesakes.proofs.in_block.Statement.{statement}
 use Rattle.namesakes.proofs.in_block.Tie as tie

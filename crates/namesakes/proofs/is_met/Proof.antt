@@ -3,11 +3,11 @@ use native.Mathlib.Omega.{arith}
 use Prim.Native.Nat.{_+_, _-_}
 use mathlib.Core.Path.{refl, sym, _∙_}
 use lib.ListN.{length}
-use Rattle.repeats.specs.Repeats.{later}
-use Rattle.repeats.proofs.Searches.{hit, none-met, Seeking, seek-start, seek-on, seek-chain, seek-falls}
+use Rattle.namesake_laws.specs.Repeats.{later}
+use Rattle.namesake_laws.proofs.Searches.{hit, none-met, Seeking, seek-start, seek-on, seek-chain, seek-falls}
 use Rattle.records.specs.Keys.{codesOf}
 use Rattle.values.specs.Entries.{entriesOf}
-use Rattle.namesakes.specs.Steps.{called}
+use Rattle.namesakes.specs.Contracts.{called}
 use Rattle.namesakes.proofs.Readings.{read-compared}
 use Rattle.namesakes.proofs.is_met.Statement.{statement}
 use Rattle.namesakes.proofs.is_met.Tie as tie

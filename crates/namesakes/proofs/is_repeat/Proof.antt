@@ -2,11 +2,11 @@ use native.Mathlib.Omega.{arith}
 use Prim.Native.Nat.{_-_, _≤_}
 use mathlib.Core.Path.{_≡_, refl, sym, ap, _∙_}
 use mathlib.Core.Bool.{false}
-use Rattle.repeats.specs.Repeats.{metIn}
-use Rattle.repeats.proofs.Searches.{none-met, met-on, met-here}
+use Rattle.namesake_laws.specs.Repeats.{metIn}
+use Rattle.namesake_laws.proofs.Searches.{none-met, met-on, met-here}
 use Rattle.records.specs.Keys.{codesOf}
 use Rattle.values.specs.Entries.{entriesOf}
-use Rattle.namesakes.specs.Steps.{called}
+use Rattle.namesakes.specs.Contracts.{called}
 use Rattle.namesakes.proofs.Readings.{read-name, read-compared}
 use Rattle.namesakes.proofs.is_repeat.Statement.{statement}
 use Rattle.namesakes.proofs.is_repeat.Tie as tie

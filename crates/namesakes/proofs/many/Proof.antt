@@ -1,9 +1,9 @@
 use native.Mathlib.Omega.{arith}
 use Prim.Native.Nat.{_-_}
 use Rattle.cells.proofs.Parts.{data-short}
-use Rattle.repeats.proofs.Blocks.{Reached, reach-first, reach-on, reach-end}
+use Rattle.namesake_laws.proofs.Blocks.{Reached, reach-first, reach-on, reach-end}
 use Rattle.values.specs.Entries.{entriesOf}
-use Rattle.namesakes.specs.Steps.{called}
+use Rattle.namesakes.specs.Contracts.{called}
 use Rattle.namesakes.proofs.many.Statement.{statement}
 use Rattle.namesakes.proofs.many.Tie as tie
 

@@ -2,7 +2,7 @@ use borrow.Author.Needs.{needs}
 use native.Mathlib.Omega.{arith}
 use mathlib.Core.Path.{refl, sym, _∙_, subst}
 use Rattle.values.specs.declared.Entries.{Entries}
-use Rattle.values.specs.Steps.{Room}
+use Rattle.values.specs.Contracts.{Room}
 use Rattle.namesakes.proofs.Laws.{flaw-at, none-at, too-few, entries-are, entries-few}
 use Rattle.namesakes.proofs.namesake_flaw.Statement.{statement}
 use Rattle.namesakes.proofs.namesake_flaw.Tie as tie

@@ -1,6 +1,6 @@
 use borrow.Author.Needs.{needs}
 use native.Mathlib.Omega.{arith}
-use Rattle.repeats.proofs.Scans.{take-one, take-none}
+use Rattle.namesake_laws.proofs.Scans.{take-one, take-none}
 use Rattle.namesakes.proofs.take_in.Statement.{statement}
 use Rattle.namesakes.proofs.take_in.Tie as tie
 

@@ -4,8 +4,8 @@ use mathlib.Core.Path.{_≡_, refl, sym, ap, ap₂, _∙_}
 use mathlib.Core.Bool.{true, _&&_}
 use borrow.Author.Tests.{not-true, not-false}
 use Rattle.sectors.specs.Logged.{inBelow}
-use Rattle.entries.specs.declared.Chain.{Chain}
-use Rattle.versions.specs.Versions.{isLogged, logged}
+use Rattle.log_entries.specs.declared.Chain.{Chain}
+use Rattle.log_versions.specs.Versions.{isLogged, logged}
 use Rattle.new_log.proofs.Ins.{in-windows, in-none}
 use Rattle.new_log.proofs.all_in.Statement.{statement}
 use Rattle.new_log.proofs.all_in.Tie as tie

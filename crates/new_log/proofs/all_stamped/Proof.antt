@@ -1,7 +1,7 @@
-use Rattle.versions.specs.Versions.{versionsOf, bytesIn}
-use Rattle.versions.specs.declared.Version.{Version}
-use Rattle.versions.specs.Steps.{rest, Stands}
-use Rattle.versions.proofs.Walked.{fewer}
+use Rattle.log_versions.specs.Versions.{versionsOf, bytesIn}
+use Rattle.log_versions.specs.declared.Version.{Version}
+use Rattle.log_versions.specs.Contracts.{rest, Stands}
+use Rattle.log_versions.proofs.Walked.{fewer}
 use Rattle.new_log.specs.Tests.{allStamped}
 use Rattle.new_log.proofs.Stamps.{stamped-on, stamped-not}
 use borrow.Author.Tests.{not-true, not-false}

@@ -1,7 +1,7 @@
 use Rattle.base.specs.Block.{sector}
 use Rattle.fields.specs.Number.{u64At}
 use Rattle.sectors.specs.Sector.{page}
-use Rattle.versions.specs.Versions.{versionsOf}
+use Rattle.log_versions.specs.Versions.{versionsOf}
 use Rattle.new_log.specs.Tests.{allStamped}
 use Rattle.new_log.proofs.Accepts.{by-number, by-stamps}
 use Rattle.new_log.proofs.Facts.{log-long, bins-sized}

@@ -3,9 +3,9 @@ use mathlib.Core.Path.{sym, subst}
 use mathlib.Core.List.{List}
 use Prim.Native.Nat.{ℕ}
 use lib.ListN.{length}
-use Rattle.versions.specs.Versions.{versions}
-use Rattle.versions.specs.Steps.{rest, Stands}
-use Rattle.versions.proofs.Walked.{fewer}
+use Rattle.log_versions.specs.Versions.{versions}
+use Rattle.log_versions.specs.Contracts.{rest, Stands}
+use Rattle.log_versions.proofs.Walked.{fewer}
 use Rattle.new_log.specs.Windows.{differs}
 use Rattle.new_log.proofs.Windows.{Left, begins, goes, ends}
 use Rattle.new_log.proofs.differ_window.Statement.{statement}

@@ -17,7 +17,7 @@ returns-2 : tie.Need-returns-2
 unfolding isLogBase
 returns-2 c =
     let s = c .before .before .before .before .args .s .now in
-    c .is-settled .ensures ∙ sym (ap (λ (b : Bool). b && isSettled s) (sym (c .before .before .usable .ensures) ∙ not-false _ (c .before .if1 .left)))
+    c .sequences-equal .ensures ∙ sym (ap (λ (b : Bool). b && isSettled s) (sym (c .before .before .usable .ensures) ∙ not-false _ (c .before .if1 .left)))
 
 pub is-log-base-spec : {M : Type 1} → statement M
 is-log-base-spec = tie.close (tie.spec (λ c κs. search needs) returns (λ c κs. search needs) returns-2)

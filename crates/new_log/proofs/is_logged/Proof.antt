@@ -1,9 +1,9 @@
 use native.Mathlib.Omega.{arith}
 use mathlib.Core.Path.{_≡_, sym, ap, _∙_}
 use lib.ListN.{length}
-use Rattle.versions.specs.Versions.{names, isLogged}
-use Rattle.versions.specs.Steps.{rest, Stands}
-use Rattle.versions.proofs.Walked.{fewer, named-here, named-beside}
+use Rattle.log_versions.specs.Versions.{names, isLogged}
+use Rattle.log_versions.specs.Contracts.{rest, Stands}
+use Rattle.log_versions.proofs.Walked.{fewer, named-here, named-beside}
 use Rattle.new_log.proofs.is_logged.Statement.{statement}
 use Rattle.new_log.proofs.is_logged.Tie as tie
 

@@ -1,4 +1,4 @@
-use Rattle.entries.specs.declared.Chain.{Chain}
+use Rattle.log_entries.specs.declared.Chain.{Chain}
 use Rattle.new_log.specs.Layout.{pageCount, loggedBelow}
 use Rattle.new_log.proofs.Counts.{below-le, below-past}
 use native.Mathlib.Omega.{arith}

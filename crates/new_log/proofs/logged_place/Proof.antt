@@ -3,9 +3,9 @@ use native.Mathlib.Omega.{arith}
 use mathlib.Core.Logic.{⊎-elim}
 use mathlib.Core.Path.{_≡_, sym, ap, _∙_}
 use lib.ListN.{length}
-use Rattle.versions.specs.Versions.{lastPlace, loggedPlace}
-use Rattle.versions.specs.Steps.{rest, Stands}
-use Rattle.versions.proofs.Walked.{fewer, place-here, place-beside}
+use Rattle.log_versions.specs.Versions.{lastPlace, loggedPlace}
+use Rattle.log_versions.specs.Contracts.{rest, Stands}
+use Rattle.log_versions.proofs.Walked.{fewer, place-here, place-beside}
 use Rattle.new_log.proofs.logged_place.Statement.{statement}
 use Rattle.new_log.proofs.logged_place.Tie as tie
 

@@ -3,7 +3,7 @@ use mathlib.Core.Path.{ap, ap₂, _∙_}
 use lib.ListN.{drop}
 use borrow.Author.Needs.{needs}
 use Rattle.bitmap.specs.Bits.{bitsBefore}
-use Rattle.entries.specs.declared.Chain.{Chain}
+use Rattle.log_entries.specs.declared.Chain.{Chain}
 use Rattle.new_log.specs.Layout.{pageCount}
 use Rattle.new_log.proofs.Counts.{marks-counted}
 use Rattle.new_log.proofs.mark.Statement.{statement}

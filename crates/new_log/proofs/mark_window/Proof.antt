@@ -1,6 +1,6 @@
-use Rattle.versions.specs.Versions.{versions}
-use Rattle.versions.specs.Steps.{rest, Stands}
-use Rattle.versions.proofs.Walked.{fewer}
+use Rattle.log_versions.specs.Versions.{versions}
+use Rattle.log_versions.specs.Contracts.{rest, Stands}
+use Rattle.log_versions.proofs.Walked.{fewer}
 use Rattle.new_log.specs.Windows.{always}
 use Rattle.new_log.proofs.Windows.{Left, begins, goes, ends}
 use denote.Ref.{now}

@@ -1,5 +1,5 @@
-use Rattle.entries.specs.declared.Chain.{Chain}
-use Rattle.versions.specs.Versions.{isLogged}
+use Rattle.log_entries.specs.declared.Chain.{Chain}
+use Rattle.log_versions.specs.Versions.{isLogged}
 use Rattle.new_log.specs.Layout.{pageCount}
 use Rattle.new_log.proofs.Counts.{found, further, ended}
 use native.Mathlib.Omega.{arith}

@@ -5,11 +5,11 @@ use mathlib.Core.List.{List}
 use lib.ListN.{length}
 use Rattle.sectors.specs.Sector.{sectorAt, stored, pagePlace}
 use Rattle.sectors.proofs.Stored.{sector-length, stored-length}
-use Rattle.versions.specs.declared.Version.{Version}
-use Rattle.versions.specs.Versions.{versions}
-use Rattle.versions.specs.Steps.{rest, Stands}
-use Rattle.versions.proofs.Walked.{fewer}
-use Rattle.new_log.specs.Steps.{putEach}
+use Rattle.log_versions.specs.declared.Version.{Version}
+use Rattle.log_versions.specs.Versions.{versions}
+use Rattle.log_versions.specs.Contracts.{rest, Stands}
+use Rattle.log_versions.proofs.Walked.{fewer}
+use Rattle.new_log.specs.Contracts.{putEach}
 use Rattle.new_log.proofs.Put.{each-all, each-on}
 use Rattle.new_log.proofs.put_all.Statement.{statement}
 use Rattle.new_log.proofs.put_all.Tie as tie

@@ -1,6 +1,6 @@
 use Rattle.fields.specs.declared.Verdict.{Verdict}
-use Rattle.entries.specs.declared.Chain.{Chain}
-use Rattle.entries.specs.Entries.{chainOf}
+use Rattle.log_entries.specs.declared.Chain.{Chain}
+use Rattle.log_entries.specs.Entries.{chainOf}
 use Rattle.new_log.specs.declared.Head.the-variants.{Good}
 use Rattle.new_log.specs.Tests.{headed}
 use Rattle.new_log.proofs.Ways.{short, bad-base, no-entry, passes}

@@ -1,7 +1,7 @@
 use Rattle.base.specs.Block.{sector}
 use Rattle.sectors.specs.Closing.{closingSector}
-use Rattle.entries.specs.declared.Chain.{Chain}
-use Rattle.entries.proofs.Counted.{bins-sized}
+use Rattle.log_entries.specs.declared.Chain.{Chain}
+use Rattle.log_entries.proofs.Counted.{bins-sized}
 use Rattle.new_log.specs.Tests.{renewed, closingOf}
 use Rattle.new_log.proofs.Facts.{log-long, some-counted}
 use lib.Seq.{length-take-le, take-at, drop-at}
@@ -17,8 +17,8 @@ use Rattle.new_log.proofs.store_closing.Tie as tie
 store-requires : tie.Need-store-requires
 store-requires c κs = let s = c .before .before .before in (s .pre .1 .1, log-long (s .args .log .now) (s .pre .0))
 
-cast-renew : tie.Need-cast-renew
-cast-renew c =
+cast-put-number-and-size : tie.Need-cast-put-number-and-size
+cast-put-number-and-size c =
     let i = c .before .before .before .before in
     let s = i .before .before .before .before in
     let l = s .args .log .now in
@@ -34,7 +34,7 @@ returns c =
     let y = drop 512 (s .args .hive .now) in
     let n : length (sector l) ≡ 512 = length-take-le 512 l (log-long l (s .pre .0)) in
     ap₂ _++_
-    (k .renew .ensures
+    (k .put-number-and-size .ensures
     ∙ ap (λ (x : List ℕ). closingSector (renewed x (s .args .chain .last) (s .args .chain .bins)))
     (ap (take 512) (i .store .ensures) ∙ take-at (sector l) y 512 n)
     ∙ ap (λ (e : Chain). closingSector (renewed (sector l) (e .last) (e .bins))) (s .pre .1 .0))
@@ -48,7 +48,7 @@ store-closing-spec =
     (λ c. search needs)
     (λ c. search needs)
     (λ c. search needs)
-    cast-renew
+    cast-put-number-and-size
     (λ c κs. search needs)
     (λ c. search needs)
     returns)

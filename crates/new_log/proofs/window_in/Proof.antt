@@ -5,7 +5,7 @@ use lib.Dec.{eqb}
 use lib.ListN.{length-replicate}
 use borrow.Author.Needs.{needs}
 use Rattle.sectors.specs.Logged.{inBelow}
-use Rattle.versions.specs.Versions.{isLogged, logged}
+use Rattle.log_versions.specs.Versions.{isLogged, logged}
 use Rattle.new_log.proofs.Counts.{no-bits}
 use Rattle.new_log.proofs.Ins.{bits-in}
 use Rattle.new_log.proofs.window_in.Statement.{statement}

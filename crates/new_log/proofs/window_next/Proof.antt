@@ -1,4 +1,4 @@
-use Rattle.entries.specs.declared.Chain.{Chain}
+use Rattle.log_entries.specs.declared.Chain.{Chain}
 use Rattle.new_log.proofs.Counts.{no-bits, next-at, next-nothing}
 use lib.ListN.{length-replicate}
 use native.Mathlib.Omega.{arith}

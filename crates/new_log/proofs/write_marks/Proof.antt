@@ -1,6 +1,6 @@
 use Rattle.bitmap.specs.Bits.{isMarked, zeros, mapOf}
-use Rattle.entries.specs.declared.Chain.{Chain}
-use Rattle.versions.specs.Versions.{isLogged}
+use Rattle.log_entries.specs.declared.Chain.{Chain}
+use Rattle.log_versions.specs.Versions.{isLogged}
 use Rattle.new_log.specs.Layout.{pageCount}
 use Rattle.new_log.proofs.Counts.{no-bits, bits-only, front-bytes, zeros-length}
 use denote.Ref.{now}

@@ -26,7 +26,7 @@ returns-4 c =
     let s = c .before .before .before .before .before .before .before .args .s .now in
     let t = c .before .before .before .before .before .u32-at .ensures in
     let u = sym (not-false _ (c .before .if3 .left)) ∙ c .before .before .usable .ensures ∙ ap (usable s) t in
-    c .is-settled .ensures ∙ ap (λ (b : Bool). b && isSettled s) u ∙ sym (by-usable s (λ z. c .before .before .before .before .if1 .left (t ∙ z)) (omega (arith, t)))
+    c .sequences-equal .ensures ∙ ap (λ (b : Bool). b && isSettled s) u ∙ sym (by-usable s (λ z. c .before .before .before .before .if1 .left (t ∙ z)) (omega (arith, t)))
 
 pub is-log-base-spec : {M : Type 1} → statement M
 is-log-base-spec =

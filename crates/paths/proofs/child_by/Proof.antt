@@ -1,5 +1,5 @@
 use Rattle.paths.specs.Answers.{keyFound}
-use Rattle.paths.specs.Steps.{childBy}
+use Rattle.paths.specs.Children.{childBy}
 use mathlib.Core.Path.{ap, _∙_}
 use borrow.Author.Needs.{needs}
 use Rattle.paths.proofs.child_by.Statement.{statement}

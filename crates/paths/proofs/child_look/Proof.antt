@@ -1,8 +1,8 @@
 use Rattle.paths.specs.Answers.{askFault}
-use Rattle.paths.specs.Steps.{isStep}
+use Rattle.paths.specs.Children.{isStep}
 use Rattle.paths.proofs.Opens.{ask-facts}
 use Rattle.paths.proofs.StepTests.{step-parts, step-path, child-stop, child-on}
-use Rattle.paths.specs.declared.Way.the-variants.{Faulty}
+use Rattle.paths.specs.declared.Way.the-variants.{Refused}
 use Rattle.fields.specs.declared.Verdict.the-variants.{Sound}
 use denote.Ref.{now}
 use mathlib.Core.Path.{_≡_, sym, ap, _∙_}
@@ -26,7 +26,7 @@ lookup-key-requires : tie.Need-lookup-key-requires
 lookup-key-requires c κs = step-path _ (ask-facts _ _ (passed (c .before)) .1)
 
 returns : tie.Need-returns
-returns c = ap Faulty (c .refused .ensures) ∙ sym (child-stop _ _ _ _ (sym (asked (c .before .before .before .before)) ∙ c .before .before .f .given .1))
+returns c = ap Refused (c .refused .ensures) ∙ sym (child-stop _ _ _ _ (sym (asked (c .before .before .before .before)) ∙ c .before .before .f .given .1))
 
 returns-2 : tie.Need-returns-2
 returns-2 c =

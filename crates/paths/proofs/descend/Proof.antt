@@ -3,7 +3,7 @@ use Rattle.paths.proofs.Parts.{end-within}
 use Rattle.records.proofs.LawsKey.{key-room}
 use lib.ListN.{length}
 use Prim.Native.Nat.{_-_}
-use Rattle.paths.specs.declared.Way.the-variants.{Faulty}
+use Rattle.paths.specs.declared.Way.the-variants.{Refused}
 use mathlib.Core.Path.{sym, ap, _∙_}
 use borrow.Author.Needs.{needs}
 use Rattle.paths.proofs.descend.Statement.{statement}
@@ -28,7 +28,7 @@ returns : tie.Need-returns Inv-loop μ-loop
 returns c = let l = c .before .before .before .before .before .before .before .loop in sym (descended-missing _ _ _ _ _ _ (l .inv) _ (c .before .before .before .before .before .before .loop-test .taken) (c .before .before .before .before .before .part-end .ensures) _ (c .before .before .before .before .key-fields .ensures) _ (c .before .before .below .ensures) (c .enum-told .given .1))
 
 returns-2 : tie.Need-returns-2 Inv-loop μ-loop
-returns-2 c = let l = c .before .before .before .before .before .before .before .before .before .loop in ap Faulty (c .refused .ensures) ∙ sym (descended-faulty _ _ _ _ _ _ (l .inv) _ (c .before .before .before .before .before .before .before .before .loop-test .taken) (c .before .before .before .before .before .before .before .part-end .ensures) _ (c .before .before .before .before .before .before .key-fields .ensures) _ (c .before .before .before .before .below .ensures) (c .before .before .f .given .1))
+returns-2 c = let l = c .before .before .before .before .before .before .before .before .before .loop in ap Refused (c .refused .ensures) ∙ sym (descended-faulty _ _ _ _ _ _ (l .inv) _ (c .before .before .before .before .before .before .before .before .loop-test .taken) (c .before .before .before .before .before .before .before .part-end .ensures) _ (c .before .before .before .before .before .before .key-fields .ensures) _ (c .before .before .before .before .below .ensures) (c .before .before .f .given .1))
 
 loop-again : tie.Need-loop-again Inv-loop μ-loop
 loop-again c = let l = c .before .before .before .before .before .before .before .before .before .loop in descended-cut _ _ _ _ _ _ (l .inv) _ (c .before .before .before .before .before .before .before .before .loop-test .taken) (c .before .before .before .before .before .before .before .part-end .ensures) _ (c .before .before .before .before .before .before .key-fields .ensures) _ (c .before .before .before .before .below .ensures) (c .before .before .o .given .1) (c .if1 .taken)

@@ -4,7 +4,7 @@ use Rattle.cells.proofs.Parts.{data-short}
 use mathlib.Core.Path.{_≡_}
 use borrow.Author.Tests.{eq-eqb, ne-eqb}
 use Rattle.records.proofs.ListFacts.{element-room}
-use Rattle.records.specs.Steps.{childNamed}
+use Rattle.records.specs.Contracts.{childNamed}
 use Rattle.records.proofs.child_of.Statement.{statement}
 use Rattle.records.proofs.child_of.Tie as tie
 

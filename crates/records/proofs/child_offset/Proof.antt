@@ -2,7 +2,7 @@ use Prim.Native.Nat.{_+_, _*_, _≤_}
 use native.Mathlib.Omega.{arith}
 use Rattle.cells.proofs.Parts.{data-short}
 use Rattle.records.proofs.ListFacts.{element-room}
-use Rattle.records.specs.Steps.{childNamed}
+use Rattle.records.specs.Contracts.{childNamed}
 use Rattle.records.proofs.child_offset.Statement.{statement}
 use Rattle.records.proofs.child_offset.Tie as tie
 

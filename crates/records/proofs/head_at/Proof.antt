@@ -6,7 +6,7 @@ use Rattle.cells.specs.Named.{cellOf}
 use Rattle.cells.specs.declared.Found.the-variants.{Named}
 use Rattle.cells.proofs.Naming.{inside, cell-data-at}
 use Rattle.records.specs.Lists.{isList, headFault}
-use Rattle.records.specs.Steps.{leavesAt}
+use Rattle.records.specs.Contracts.{leavesAt}
 use Rattle.records.proofs.ListFacts.{list-room}
 use Rattle.records.proofs.LawsRecord.{record-missing, record-bad, record-good}
 use borrow.Author.Needs.{needs}

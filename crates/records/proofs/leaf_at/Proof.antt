@@ -6,7 +6,7 @@ use Rattle.cells.specs.Named.{cellOf}
 use Rattle.cells.specs.declared.Found.the-variants.{Named}
 use Rattle.cells.proofs.Naming.{inside, cell-data-at}
 use Rattle.records.specs.Lists.{isLeaf, leafFault}
-use Rattle.records.specs.Steps.{leafOf}
+use Rattle.records.specs.Contracts.{leafOf}
 use Rattle.records.proofs.ListFacts.{leaf-room}
 use Rattle.records.proofs.LawsRecord.{record-missing, record-bad, record-good}
 use borrow.Author.Needs.{needs}

@@ -1,4 +1,4 @@
-use Rattle.records.specs.Steps.{leafIn}
+use Rattle.records.specs.Contracts.{leafIn}
 use borrow.Author.Needs.{needs}
 use Rattle.records.proofs.leaf_in.Statement.{statement}
 use Rattle.records.proofs.leaf_in.Tie as tie

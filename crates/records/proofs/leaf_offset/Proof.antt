@@ -1,6 +1,6 @@
 use native.Mathlib.Omega.{arith}
 use Rattle.cells.proofs.Parts.{data-short}
-use Rattle.records.specs.Steps.{leafNamed}
+use Rattle.records.specs.Contracts.{leafNamed}
 use Rattle.records.proofs.leaf_offset.Statement.{statement}
 use Rattle.records.proofs.leaf_offset.Tie as tie
 

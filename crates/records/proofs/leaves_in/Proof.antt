@@ -1,4 +1,4 @@
-use Rattle.records.specs.Steps.{leavesIn}
+use Rattle.records.specs.Contracts.{leavesIn}
 use borrow.Author.Needs.{needs}
 use Rattle.records.proofs.leaves_in.Statement.{statement}
 use Rattle.records.proofs.leaves_in.Tie as tie

@@ -1,5 +1,5 @@
 use Rattle.recovery.proofs.Ways.{short, is-clean, by-tests}
-use Rattle.recovery.specs.Steps.{begunBy}
+use Rattle.recovery.specs.Contracts.{begunBy}
 use Rattle.recovery.specs.declared.Begun.the-variants.{Refused}
 use Rattle.recovery.specs.declared.Started.{Started}
 use Rattle.logs.specs.Logs.{readOf, countedOf}

@@ -1,9 +1,9 @@
 use Rattle.recovery.proofs.Ways.{logged-sound, flawed-log, bad-log, by-hive}
 use Rattle.recovery.specs.Calls.{testFault, started}
-use Rattle.recovery.specs.Steps.{begunBy}
+use Rattle.recovery.specs.Contracts.{begunBy}
 use Rattle.recovery.specs.declared.Begun.the-variants.{Ready, Refused}
 use Rattle.logs.specs.Logs.{readOf, logFault, loggedCount, countedOf}
-use Rattle.logs.specs.declared.Read.{Read}
+use Rattle.logs.specs.declared.LogFormat.{LogFormat}
 use Rattle.fields.specs.declared.Verdict.{Verdict}
 use Rattle.fields.specs.declared.Verdict.the-variants.{Sound}
 use Prim.Native.Nat.{ℕ}

@@ -4,7 +4,7 @@ use mathlib.Core.Path.{refl, sym, _∙_}
 use lib.ListN.{length}
 use borrow.Author.Needs.{needs}
 use borrow.Author.Tests.{not-true, not-false}
-use Rattle.remnants.specs.Steps.{soughtLeft}
+use Rattle.remnants.specs.Contracts.{soughtLeft}
 use Rattle.remnants.proofs.Seeks.{is-spotted, at-next}
 use Rattle.remnants.proofs.Stores.{Filling, filled-on, filled-end, filled-full}
 use Rattle.remnants.proofs.fill.Statement.{statement}

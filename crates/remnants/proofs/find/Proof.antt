@@ -2,7 +2,7 @@ use Prim.Native.Nat.{_-_}
 use native.Mathlib.Omega.{arith}
 use mathlib.Core.Path.{sym, ap, _∙_}
 use borrow.Author.Needs.{needs}
-use Rattle.remnants.specs.Steps.{isSome, Going}
+use Rattle.remnants.specs.Contracts.{isSome, Going}
 use Rattle.remnants.proofs.Spots.{going, going-on, going-over, hit, missed}
 use Rattle.remnants.proofs.find.Statement.{statement}
 use Rattle.remnants.proofs.find.Tie as tie

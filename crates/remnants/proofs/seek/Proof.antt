@@ -2,7 +2,7 @@ use Prim.Native.Nat.{_+_, _-_}
 use mathlib.Core.Path.{refl, sym, _∙_}
 use lib.ListN.{length}
 use borrow.Author.Needs.{needs}
-use Rattle.remnants.specs.Steps.{cursor, soughtLeft}
+use Rattle.remnants.specs.Contracts.{cursor, soughtLeft}
 use Rattle.remnants.proofs.Seeks.{Looked, looking, looked-free, seen, closer, looked-on, unseen}
 use Rattle.remnants.proofs.seek.Statement.{statement}
 use Rattle.remnants.proofs.seek.Tie as tie

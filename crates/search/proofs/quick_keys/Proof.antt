@@ -1,4 +1,4 @@
-use Rattle.records.specs.Steps.{elementsOf, noChild}
+use Rattle.records.specs.Contracts.{elementsOf, noChild}
 use Rattle.records.proofs.LawsElements.{elements-length, element-at}
 use Rattle.search.specs.Quick.{askKey, quickKeys}
 use Rattle.search.proofs.Asks.{leftOf, halves-start, halves-over, halves-none, halves-left, halves-right, halves-stop, ask-by}

@@ -1,5 +1,5 @@
 use Rattle.fields.specs.Faults.{nowhere}
-use Rattle.records.specs.Steps.{leavesNamed}
+use Rattle.records.specs.Contracts.{leavesNamed}
 use Rattle.records.proofs.LawsPlaces.{named-length, named-at}
 use Rattle.search.specs.Quick.{halving, askLeaf}
 use Rattle.search.proofs.Asks.{leftOf, halves-start, halves-over, halves-none, halves-left, halves-right, halves-stop}

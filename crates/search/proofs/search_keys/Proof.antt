@@ -1,4 +1,4 @@
-use Rattle.records.specs.Steps.{elementsOf, noChild}
+use Rattle.records.specs.Contracts.{elementsOf, noChild}
 use Rattle.records.proofs.LawsElements.{elements-length, element-at}
 use Rattle.search.proofs.Turns.{turn-found, turn-faulty, turn-on, turn-end}
 use Rattle.search.proofs.Searches.{key-by}

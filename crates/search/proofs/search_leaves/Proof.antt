@@ -1,7 +1,7 @@
 use Rattle.search.proofs.Turns.{turn-found, turn-faulty, turn-on, turn-end}
 use Rattle.search.specs.Search.{searchLeaf, firstOf}
 use Rattle.records.proofs.LawsPlaces.{named-length, named-at}
-use Rattle.records.specs.Steps.{leavesNamed}
+use Rattle.records.specs.Contracts.{leavesNamed}
 use Rattle.fields.specs.Faults.{nowhere}
 use lib.ListN.{drop}
 use Prim.Native.Nat.{_-_, _≤_}

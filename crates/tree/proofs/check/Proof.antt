@@ -1,6 +1,6 @@
 use Rattle.tree.proofs.Roots.{check-refused, check-ready, check-stops, check-on, check-walked}
 use Rattle.tree.specs.Tree.{ringCharge, answer}
-use Rattle.tree.specs.Steps.{walkAnswer}
+use Rattle.tree.specs.Contracts.{keysAnswer}
 use Prim.Native.Nat.{ℕ}
 use mathlib.Core.List.{List}
 use mathlib.Core.Path.{sym, ap, _∙_}
@@ -9,8 +9,8 @@ use borrow.Author.Needs.{needs}
 use Rattle.tree.proofs.check.Statement.{statement}
 use Rattle.tree.proofs.check.Tie as tie
 
-walk-tree-requires : tie.Need-walk-tree-requires
-walk-tree-requires c κs =
+check-tree-requires : tie.Need-check-tree-requires
+check-tree-requires c κs =
     let s = c .before .before .before .before .before .before .survey .ensures in
     rw (s .1) (check-ready _ _ (sym (s .0) ∙ c .before .before .t .given .1))
 
@@ -19,7 +19,7 @@ check-items-requires c κs =
     let a = c .before .before .before .before .before .before .before .before .before .before .before .before .before .before .before .args in
     let s = c .before .before .before .before .before .before .before .before .before .before .before .survey .ensures in
     let t = c .before .before .before .before .before .before .before .t .given in
-    let walk = ap (λ (x : List ℕ). walkAnswer (now (a .hive)) x (t .0 .0)) (sym (s .1)) ∙ sym (c .before .before .before .before .walk-tree .ensures) ∙ c .before .before .report .given .1 in
+    let walk = ap (λ (x : List ℕ). keysAnswer (now (a .hive)) x (t .0 .0)) (sym (s .1)) ∙ sym (c .before .before .before .before .check-tree .ensures) ∙ c .before .before .report .given .1 in
     rw (s .1) (check-walked _ _ (sym (s .0) ∙ t .1) walk)
 
 returns : tie.Need-returns
@@ -32,7 +32,7 @@ returns-2 c =
     let a = c .before .before .before .before .before .before .before .before .before .before .before .before .before .before .args in
     let s = c .before .before .before .before .before .before .before .before .before .before .survey .ensures in
     let t = c .before .before .before .before .before .before .t .given in
-    let walk = ap (λ (x : List ℕ). walkAnswer (now (a .hive)) x (t .0 .0)) (sym (s .1)) ∙ sym (c .before .before .before .walk-tree .ensures) ∙ c .before .r .given .1 in
+    let walk = ap (λ (x : List ℕ). keysAnswer (now (a .hive)) x (t .0 .0)) (sym (s .1)) ∙ sym (c .before .before .before .check-tree .ensures) ∙ c .before .r .given .1 in
     (sym (check-stops _ _ (sym (s .0) ∙ t .1) walk), s .1)
 
 returns-3 : tie.Need-returns-3
@@ -42,7 +42,7 @@ returns-3 c =
     let t = c .before .before .before .before .before .before .before .before .before .before .t .given in
     let r = c .before .before .before .before .before .report .given in
     let i = c .before .before .check-items .ensures in
-    let walk = ap (λ (x : List ℕ). walkAnswer (now (a .hive)) x (t .0 .0)) (sym (s .1)) ∙ sym (c .before .before .before .before .before .before .before .walk-tree .ensures) ∙ r .1 in
+    let walk = ap (λ (x : List ℕ). keysAnswer (now (a .hive)) x (t .0 .0)) (sym (s .1)) ∙ sym (c .before .before .before .before .before .before .before .check-tree .ensures) ∙ r .1 in
     (i .0 ∙ ap (λ (x : List ℕ). answer (ringCharge (now (a .hive)) x) (r .0 .0)) (s .1) ∙ sym (check-on _ _ (sym (s .0) ∙ t .1) walk), i .1 ∙ s .1)
 
 pub check-spec : {M : Type 1} → statement M
@@ -53,7 +53,7 @@ check-spec =
     (λ c. search needs)
     (λ c κs. search needs)
     (λ c. search needs)
-    walk-tree-requires
+    check-tree-requires
     (λ c. search needs)
     (λ c. search needs)
     check-items-requires

@@ -1,7 +1,7 @@
-use Rattle.tree.specs.Steps.{lastOf}
-use Rattle.records.specs.Steps.{noChild}
+use Rattle.tree.specs.Contracts.{lastOf}
+use Rattle.records.specs.Contracts.{noChild}
 use Rattle.records.proofs.LawsPlaces.{leaf-count, leaf-tested, leaf-some, elements-lie, child-at}
-use Rattle.records.specs.Steps.{leafOf, childNamed}
+use Rattle.records.specs.Contracts.{leafOf, childNamed}
 use Rattle.records.specs.Lists.{leafChildren}
 use Rattle.records.specs.declared.Leaf.{Leaf}
 use Rattle.records.specs.declared.Child.{Child}

@@ -1,5 +1,5 @@
 use Rattle.walk.proofs.Ways.{tested, at-bad}
-use Rattle.walk.specs.Steps.{keyAt}
+use Rattle.walk.specs.Answers.{keyAt}
 use Rattle.walk.specs.declared.Offer.the-variants as ahead
 use mathlib.Core.Path.{refl, sym, ap, _∙_}
 use borrow.Author.Needs.{needs}

@@ -1,5 +1,5 @@
 use Rattle.walk.proofs.Ways.{at-faulty, at-end, at-on}
-use Rattle.walk.specs.Steps.{keyAt}
+use Rattle.walk.specs.Answers.{keyAt}
 use Rattle.walk.specs.declared.Offer.the-variants as ahead
 use Rattle.cells.specs.declared.Rule.the-variants.{Header}
 use Rattle.records.proofs.LawsKey.{key-room}

@@ -1,5 +1,5 @@
 use Rattle.walk.proofs.Ways.{name-small, root-bad, root-short, root-on, root-entry}
-use Rattle.walk.specs.Steps.{begunWhere, begunLevels}
+use Rattle.walk.specs.Answers.{begunWhere, begunLevels}
 use Rattle.walk.specs.declared.Walked.the-variants.{Opens, Refused}
 use Rattle.listing.specs.Members.{entryOf}
 use Rattle.records.specs.Keys.{keyOf}

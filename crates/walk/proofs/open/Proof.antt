@@ -1,5 +1,5 @@
 use Rattle.walk.proofs.Ways.{name-small, open-bad, open-on}
-use Rattle.walk.specs.Steps.{entering}
+use Rattle.walk.specs.Answers.{entering}
 use Rattle.walk.specs.declared.Offer.the-variants as ahead
 use Rattle.listing.specs.declared.Entry.{Entry}
 use mathlib.Core.Path.{sym, ap, _∙_}

@@ -1,5 +1,5 @@
 use Rattle.walk.proofs.Moves.{moves-below}
-use Rattle.walk.specs.Steps.{answerOf, levelsAfter}
+use Rattle.walk.specs.Answers.{answerOf, levelsAfter}
 use denote.Ref.{now}
 use mathlib.Core.Path.{_≡_, refl, sym, ap, ap₂, _∙_, subst}
 use borrow.Author.Needs.{needs}

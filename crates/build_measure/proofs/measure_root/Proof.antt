@@ -1,0 +1,66 @@
+use native.Mathlib.Omega.{arith}
+use mathlib.Core.Path.{refl}
+use mathlib.Core.List.{[]}
+use denote.Ref.{now}
+use Rattle.build_measure.proofs.Frames.{all-bytes}
+use Rattle.build_measure.proofs.Going.{told-closed, told-faulty}
+use Rattle.build_measure.proofs.Entire.{root-laid, root-wrong, root-fits, after-flawed, whole-fits, told-end, told-after}
+use borrow.Author.Needs.{needs}
+use Rattle.build_measure.proofs.measure_root.Statement.{statement}
+use Rattle.build_measure.proofs.measure_root.Tie as tie
+
+frame-end-requires : tie.Need-frame-end-requires
+frame-end-requires c κs = root-laid _ (c .before .pre .opens)
+
+pass-key-requires : tie.Need-pass-key-requires
+pass-key-requires c κs = (c .frame-end .ensures .inside, omega arith)
+
+after-root-requires : tie.Need-after-root-requires
+after-root-requires c κs =
+    let a = c .before .before .before .before .before .before .args in
+    let by = all-bytes (now (a .s)) (λ i. c .before .before .before .before .before .shared-slice-known .given i .fits) in
+    let t = told-closed (now (a .s)) (c .before .before .before .before .frame-end .result) 0 (c .before .t .given .1) (c .before .before .before .pass-key .ensures) in
+    t .inside
+
+root-sums-requires : tie.Need-root-sums-requires
+root-sums-requires c κs =
+    let a = c .before .before .before .before .before .before .before .before .before .args in
+    let by = all-bytes (now (a .s)) (λ i. c .before .before .before .before .before .before .before .before .shared-slice-known .given i .fits) in
+    let t = told-closed (now (a .s)) (c .before .before .before .before .before .before .before .frame-end .result) 0 (c .before .before .before .before .t .given .1) (c .before .before .before .before .before .before .pass-key .ensures) in
+    root-fits _ by (c .before .before .before .before .before .before .before .before .before .pre) (c .before .before .before .before .before .before .before .frame-end .ensures) t (c .before .before .before .before .before .before .before .before .before .good .0 .0)
+
+returns : tie.Need-returns
+returns c =
+    let a = c .before .before .before .before .before .before .args in
+    let by = all-bytes (now (a .s)) (λ i. c .before .before .before .before .before .shared-slice-known .given i .fits) in
+    root-wrong _ by (c .before .before .before .before .before .before .pre) (c .before .before .before .before .frame-end .ensures) (told-faulty (now (a .s)) (c .before .before .before .before .frame-end .result) 0 (c .before .x .given .1) (c .before .before .before .pass-key .ensures) [] refl)
+
+returns-2 : tie.Need-returns-2
+returns-2 c =
+    let a = c .before .before .before .before .before .before .before .before .before .before .args in
+    let by = all-bytes (now (a .s)) (λ i. c .before .before .before .before .before .before .before .before .before .shared-slice-known .given i .fits) in
+    let t = told-closed (now (a .s)) (c .before .before .before .before .before .before .before .before .frame-end .result) 0 (c .before .before .before .before .before .t .given .1) (c .before .before .before .before .before .before .before .pass-key .ensures) in
+    after-flawed _ by (c .before .before .before .before .before .before .before .before .before .before .pre) (c .before .before .before .before .before .before .before .before .frame-end .ensures) t (told-after (now (a .s)) (_) (c .before .x2 .given .1) (c .before .before .before .after-root .ensures))
+
+returns-3 : tie.Need-returns-3
+returns-3 c =
+    let a = c .before .before .before .before .before .before .before .before .before .before .args in
+    let by = all-bytes (now (a .s)) (λ i. c .before .before .before .before .before .before .before .before .before .shared-slice-known .given i .fits) in
+    let t = told-closed (now (a .s)) (c .before .before .before .before .before .before .before .before .frame-end .result) 0 (c .before .before .before .before .before .t .given .1) (c .before .before .before .before .before .before .before .pass-key .ensures) in
+    whole-fits _ by (c .before .before .before .before .before .before .before .before .before .before .pre) (c .before .before .before .before .before .before .before .before .frame-end .ensures) t (told-end (now (a .s)) (_) (c .before .enum-told .given .1) (c .before .before .before .after-root .ensures)) (c .root-sums .ensures)
+
+pub measure-root-spec : {M : Type 1} → statement M
+measure-root-spec =
+    tie.close
+    (tie.spec
+    frame-end-requires
+    pass-key-requires
+    (λ c. search needs)
+    (λ c. search needs)
+    after-root-requires
+    (λ c. search needs)
+    (λ c. search needs)
+    root-sums-requires
+    returns
+    returns-2
+    returns-3)

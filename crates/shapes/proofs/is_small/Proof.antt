@@ -1,9 +1,0 @@
-use Rattle.shapes.proofs.Names.{value-small}
-use Rattle.shapes.proofs.is_small.Statement.{statement}
-use Rattle.shapes.proofs.is_small.Tie as tie
-
-returns : tie.Need-returns
-returns c = λ s l. value-small s _ l
-
-pub is-small-spec : {M : Type 1} → statement M
-is-small-spec = tie.close (tie.spec returns)

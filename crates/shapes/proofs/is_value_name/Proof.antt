@@ -1,9 +1,0 @@
-use Rattle.shapes.proofs.Names.{value-named}
-use Rattle.shapes.proofs.is_value_name.Statement.{statement}
-use Rattle.shapes.proofs.is_value_name.Tie as tie
-
-returns : tie.Need-returns
-returns c = λ s l. value-named s _ l
-
-pub is-value-name-spec : {M : Type 1} → statement M
-is-value-name-spec = tie.close (tie.spec returns)

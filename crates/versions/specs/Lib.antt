@@ -1,2 +1,0 @@
-pub mod Versions
-pub mod Steps
