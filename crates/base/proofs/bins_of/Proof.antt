@@ -22,14 +22,5 @@ returns c = let h = now (c .before .before .before .before .args .hive) in
 
 pub bins-of-spec : {M : Type 1} → statement M
 bins-of-spec =
-    tie.close
-    (tie.spec
-    (λ c. search needs)
-    (λ c. search needs)
-    part-bins-size-end
-    (λ c κs. search needs)
-    (λ c. search needs)
-    (λ c. search needs)
-    (λ c. search needs)
-    part-result-end
-    returns)
+    tie.close (tie.spec (λ c. search needs) (λ c. search needs) part-bins-size-end (λ c κs. search needs) (λ c. search needs) (λ c. search needs)
+    (λ c. search needs) part-result-end returns)

@@ -2,8 +2,5 @@ use borrow.Author.Needs.{needs}
 use Rattle.base.proofs.checksum_matches.Statement.{statement}
 use Rattle.base.proofs.checksum_matches.Tie as tie
 
-returns : tie.Need-returns
-returns c = cc
-
 pub checksum-matches-spec : {M : Type 1} → statement M
-checksum-matches-spec = tie.close (tie.spec (λ c κs. search needs) (λ c κs. search needs) returns)
+checksum-matches-spec = tie.close (tie.spec (λ c κs. search needs) (λ c κs. search needs) (λ c. cc))

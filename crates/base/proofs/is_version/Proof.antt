@@ -7,15 +7,6 @@ use Rattle.base.proofs.Tests.{other-major, low-minor, high-minor, other
 use Rattle.base.proofs.is_version.Statement.{statement}
 use Rattle.base.proofs.is_version.Tie as tie
 
-returns : tie.Need-returns
-returns c = sym (other-major _ _ (λ e. omega arith))
-
-returns-2 : tie.Need-returns-2
-returns-2 c = sym (low-minor _ _ (omega arith) (omega arith))
-
-returns-3 : tie.Need-returns-3
-returns-3 c = sym (high-minor _ _ (omega arith) (omega arith))
-
 returns-4 : tie.Need-returns-4
 returns-4 c = sym (other-type _ _ (omega arith) (omega arith) (omega arith) (λ e. omega arith))
 
@@ -29,16 +20,6 @@ returns-6 c =
 
 pub is-version-spec : {M : Type 1} → statement M
 is-version-spec =
-    tie.close
-    (tie.spec
-    (λ c κs. search needs)
-    returns
-    (λ c κs. search needs)
-    returns-2
-    returns-3
-    (λ c κs. search needs)
-    returns-4
-    (λ c κs. search needs)
-    returns-5
-    (λ c κs. search needs)
-    returns-6)
+    tie.close (tie.spec (λ c κs. search needs) (λ c. sym (other-major _ _ (λ e. omega arith))) (λ c κs. search needs)
+    (λ c. sym (low-minor _ _ (omega arith) (omega arith))) (λ c. sym (high-minor _ _ (omega arith) (omega arith))) (λ c κs. search needs) returns-4
+    (λ c κs. search needs) returns-5 (λ c κs. search needs) returns-6)

@@ -9,5 +9,4 @@ part-u32-at-end : tie.Need-part-u32-at-end
 part-u32-at-end c = let b = base-facts _ (c .before .pre) in omega arith
 
 pub minor-of-spec : {M : Type 1} → statement M
-minor-of-spec =
-    tie.close (tie.spec (λ c. search needs) (λ c. search needs) part-u32-at-end (λ c κs. search needs) (λ c. search needs))
+minor-of-spec = tie.close (tie.spec (λ c. search needs) (λ c. search needs) part-u32-at-end (λ c κs. search needs) (λ c. search needs))

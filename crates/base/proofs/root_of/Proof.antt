@@ -14,5 +14,4 @@ returns : tie.Need-returns
 returns c = ap (λ (k : ℕ). let o : Offset = record { 0 = k } in o) (c .u32-at .ensures)
 
 pub root-of-spec : {M : Type 1} → statement M
-root-of-spec =
-    tie.close (tie.spec (λ c. search needs) (λ c. search needs) part-u32-at-end (λ c κs. search needs) returns)
+root-of-spec = tie.close (tie.spec (λ c. search needs) (λ c. search needs) part-u32-at-end (λ c κs. search needs) returns)

@@ -2,11 +2,6 @@ use borrow.Author.Needs.{needs}
 use Rattle.base.proofs.sequences_equal.Statement.{statement}
 use Rattle.base.proofs.sequences_equal.Tie as tie
 
--- src/lib.rt:100:5
-
--- src/lib.rt:100:29
-
--- src/lib.rt:96:1
 returns : tie.Need-returns
 returns c = cc
 

@@ -7,12 +7,6 @@ use borrow.Author.Needs.{needs}
 use Rattle.bitmap.proofs.bits_before.Statement.{statement}
 use Rattle.bitmap.proofs.bits_before.Tie as tie
 
-ones-of-words-requires : tie.Need-ones-of-words-requires
-ones-of-words-requires c κs = (omega arith, (omega arith, omega arith))
-
-ones-of-bytes-requires : tie.Need-ones-of-bytes-requires
-ones-of-bytes-requires c κs = (omega arith, (omega arith, omega arith))
-
 -- the bytes wholly before the index
 whole : (c : tie.After-ones-of-bytes)
     → c .before .ones-of-words .result + c .ones-of-bytes .result
@@ -36,18 +30,7 @@ add-result-2 c =
     let s = c .before .before .before .before .before in
     omega (arith, counted c, before-le (s .args .map .now) (s .args .index))
 
-returns : tie.Need-returns
-returns c = counted c
-
 pub bits-before-spec : {M : Type 1} → statement M
 bits-before-spec =
-    tie.close
-    (tie.spec
-    (λ c κs. search needs)
-    (λ c. search needs)
-    ones-of-words-requires
-    ones-of-bytes-requires
-    add-result
-    (λ c κs. search needs)
-    add-result-2
-    returns)
+    tie.close (tie.spec (λ c κs. search needs) (λ c. search needs) (λ c κs. (omega arith, (omega arith, omega arith)))
+    (λ c κs. (omega arith, (omega arith, omega arith))) add-result (λ c κs. search needs) add-result-2 (λ c. counted c))

@@ -19,23 +19,14 @@ loop-holds : tie.Need-loop-holds Inv-loop μ-loop
 unfolding zeros
 loop-holds c = (omega arith, refl, refl)
 
-slice-write-map : tie.Need-slice-write-map Inv-loop μ-loop
-slice-write-map c = omega arith
-
-add-i : tie.Need-add-i Inv-loop μ-loop
-add-i c = omega arith
-
-loop-less : tie.Need-loop-less Inv-loop μ-loop
-loop-less c = omega arith
-
 loop-again : tie.Need-loop-again Inv-loop μ-loop
 unfolding zeros
 loop-again c =
-    let l = c .before .loop in
-    (omega arith, simp length-set (l .inv .1), ap (λ (m : List ℕ). set m (l .i) 0) (l .inv .2) ∙ fill-more (l .i) 0 (now (c .before .before .args .map)) (omega arith))
-
-same-length : tie.Need-same-length Inv-loop μ-loop
-same-length c = c .before .loop .inv .1
+    let l = c .before .loop in (
+      omega arith,
+      simp length-set (l .inv .1),
+      ap (λ (m : List ℕ). set m (l .i) 0) (l .inv .2) ∙ fill-more (l .i) 0 (now (c .before .before .args .map)) (omega arith),
+    )
 
 returns : tie.Need-returns Inv-loop μ-loop
 returns c =
@@ -44,14 +35,4 @@ returns c =
 
 pub clear-spec : {M : Type 1} → statement M
 clear-spec =
-    tie.close
-    (tie.spec
-    Inv-loop
-    μ-loop
-    loop-holds
-    slice-write-map
-    add-i
-    loop-less
-    loop-again
-    same-length
-    returns)
+    tie.close (tie.spec Inv-loop μ-loop loop-holds (λ c. omega arith) (λ c. omega arith) (λ c. omega arith) loop-again (λ c. c .before .loop .inv .1) returns)

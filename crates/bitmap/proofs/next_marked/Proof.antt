@@ -15,51 +15,30 @@ Inv-loop map from index₀ index = nextMarked map index ≡ nextMarked map from
 abbrev μ-loop : tie.MeasureT-loop
 μ-loop map from index₀ index = 8 * length map - index
 
-loop-holds : tie.Need-loop-holds Inv-loop μ-loop
-loop-holds c = refl
-
-mul-index : tie.Need-mul-index Inv-loop μ-loop
-mul-index c = omega arith
-
-add-index : tie.Need-add-index Inv-loop μ-loop
-add-index c = omega arith
-
-loop-less : tie.Need-loop-less Inv-loop μ-loop
-loop-less c = omega arith
-
 loop-again : tie.Need-loop-again Inv-loop μ-loop
-loop-again c = sym (next-byte (c .before .before .before .before .before .args .map .now) (c .before .before .before .loop .index) (omega arith) (c .if1 .taken)) ∙ c .before .before .before .loop .inv
+loop-again c =
+    sym (next-byte (c .before .before .before .before .before .args .map .now) (c .before .before .before .loop .index) (omega arith) (c .if1 .taken))
+    ∙ c .before .before .before .loop .inv
 
 returns : tie.Need-returns Inv-loop μ-loop
-returns c = sym (next-here (c .before .before .before .before .before .before .before .args .map .now) (c .before .before .before .before .before .loop .index) (omega arith) (sym (c .before .is-marked .ensures) ∙ c .if2 .taken)) ∙ c .before .before .before .before .before .loop .inv
-
-add-index-2 : tie.Need-add-index-2 Inv-loop μ-loop
-add-index-2 c = omega arith
-
-loop-less-2 : tie.Need-loop-less-2 Inv-loop μ-loop
-loop-less-2 c = omega arith
+returns c =
+    sym
+    (next-here (c .before .before .before .before .before .before .before .args .map .now) (c .before .before .before .before .before .loop .index)
+    (omega arith) (sym (c .before .is-marked .ensures) ∙ c .if2 .taken))
+    ∙ c .before .before .before .before .before .loop .inv
 
 loop-again-2 : tie.Need-loop-again-2 Inv-loop μ-loop
-loop-again-2 c = rw add-one (sym (next-on (c .before .before .before .before .before .before .before .args .map .now) (c .before .before .before .before .before .loop .index) (omega arith) (sym (c .before .is-marked .ensures) ∙ c .if2 .left)) ∙ c .before .before .before .before .before .loop .inv)
+loop-again-2 c =
+    rw add-one
+    (sym
+    (next-on (c .before .before .before .before .before .before .before .args .map .now) (c .before .before .before .before .before .loop .index)
+    (omega arith) (sym (c .before .is-marked .ensures) ∙ c .if2 .left))
+    ∙ c .before .before .before .before .before .loop .inv)
 
 returns-2 : tie.Need-returns-2 Inv-loop μ-loop
 returns-2 c = sym (next-end (c .before .before .before .args .map .now) (c .before .loop .index) (omega arith)) ∙ c .before .loop .inv
 
 pub next-marked-spec : {M : Type 1} → statement M
 next-marked-spec =
-    tie.close
-    (tie.spec
-    Inv-loop
-    μ-loop
-    loop-holds
-    (λ c. search needs)
-    mul-index
-    add-index
-    loop-less
-    loop-again
-    (λ c κs. search needs)
-    returns
-    add-index-2
-    loop-less-2
-    loop-again-2
-    returns-2)
+    tie.close (tie.spec Inv-loop μ-loop (λ c. refl) (λ c. search needs) (λ c. omega arith) (λ c. omega arith) (λ c. omega arith) loop-again
+    (λ c κs. search needs) returns (λ c. omega arith) (λ c. omega arith) loop-again-2 returns-2)

@@ -25,7 +25,8 @@ cast-result-2 : tie.Need-cast-result-2
 cast-result-2 c =
     let s = c .before .before in
     let x = getD (s .args .map .now) (s .args .index / 8) 0 in
-    let low : x % (1 * 2 ^ (s .args .index % 8) % 2 ^ 8) < 2 ^ 8 = lt-of-le-of-lt (mod-le x (1 * 2 ^ (s .args .index % 8) % 2 ^ 8)) (c .shared-slice-known .given (s .args .index / 8) .fits) in
+    let low : x % (1 * 2 ^ (s .args .index % 8) % 2 ^ 8) < 2 ^ 8 =
+    lt-of-le-of-lt (mod-le x (1 * 2 ^ (s .args .index % 8) % 2 ^ 8)) (c .shared-slice-known .given (s .args .index / 8) .fits) in
     omega (arith, ones-le 8 (x % (1 * 2 ^ (s .args .index % 8) % 2 ^ 8)) low)
 
 returns : tie.Need-returns
@@ -44,13 +45,4 @@ returns-2 c =
     add-zero (bitsBefore map (8 * (p / 8))) ∙ sym (past-end map (8 * (p / 8)) p (omega (arith, c .if1 .left)) (omega arith))
 
 pub ones-in-byte-spec : {M : Type 1} → statement M
-ones-in-byte-spec =
-    tie.close
-    (tie.spec
-    (λ c. search needs)
-    (λ c. search needs)
-    (λ c. search needs)
-    rem-result
-    cast-result-2
-    returns
-    returns-2)
+ones-in-byte-spec = tie.close (tie.spec (λ c. search needs) (λ c. search needs) (λ c. search needs) rem-result cast-result-2 returns returns-2)

@@ -20,9 +20,6 @@ abbrev μ-loop : tie.MeasureT-loop
 loop-holds : tie.Need-loop-holds Inv-loop μ-loop
 loop-holds c = (search needs, add-zero (bitsBefore (c .args .map .now) (8 * c .args .from)))
 
-shared-slice-read-n : tie.Need-shared-slice-read-n Inv-loop μ-loop
-shared-slice-read-n c = omega arith
-
 cast-n : tie.Need-cast-n Inv-loop μ-loop
 cast-n c =
     let j = c .before .before .loop .j in
@@ -45,15 +42,6 @@ add-n c =
     let l = c .before .before in
     omega (arith, counted c, before-le (l .before .args .map .now) (8 * (l .loop .j + 1)), l .before .pre)
 
-add-j : tie.Need-add-j Inv-loop μ-loop
-add-j c = omega arith
-
-loop-less : tie.Need-loop-less Inv-loop μ-loop
-loop-less c = omega arith
-
-loop-again : tie.Need-loop-again Inv-loop μ-loop
-loop-again c = (omega arith, counted c)
-
 returns : tie.Need-returns Inv-loop μ-loop
 returns c =
     c .before .loop .inv .1
@@ -61,15 +49,5 @@ returns c =
 
 pub ones-of-bytes-spec : {M : Type 1} → statement M
 ones-of-bytes-spec =
-    tie.close
-    (tie.spec
-    Inv-loop
-    μ-loop
-    loop-holds
-    shared-slice-read-n
-    cast-n
-    add-n
-    add-j
-    loop-less
-    loop-again
+    tie.close (tie.spec Inv-loop μ-loop loop-holds (λ c. omega arith) cast-n add-n (λ c. omega arith) (λ c. omega arith) (λ c. (omega arith, counted c))
     returns)

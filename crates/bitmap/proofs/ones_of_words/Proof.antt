@@ -19,12 +19,6 @@ loop-holds : tie.Need-loop-holds Inv-loop μ-loop
 unfolding bitsBefore
 loop-holds c = (omega arith, refl, refl)
 
-u64-at-requires : tie.Need-u64-at-requires Inv-loop μ-loop
-u64-at-requires c κs = omega arith
-
-cast-n : tie.Need-cast-n Inv-loop μ-loop
-cast-n c = omega (arith, ones-le 64 (c .u64-at .result) (c .u64-at .ok))
-
 -- eight more bytes
 counted : (c : tie.After-u64-at Inv-loop μ-loop)
     → c .before .before .loop .n + ones (c .u64-at .result)
@@ -40,15 +34,6 @@ add-n c =
     let l = c .before .before in
     omega (arith, counted c, before-le (l .before .before .args .map .now) (8 * (l .loop .j + 8)), l .before .before .pre)
 
-add-j : tie.Need-add-j Inv-loop μ-loop
-add-j c = omega arith
-
-loop-less : tie.Need-loop-less Inv-loop μ-loop
-loop-less c = omega arith
-
-loop-again : tie.Need-loop-again Inv-loop μ-loop
-loop-again c = (omega arith, omega arith, counted c)
-
 returns : tie.Need-returns Inv-loop μ-loop
 returns c =
     c .before .loop .inv .2
@@ -56,15 +41,5 @@ returns c =
 
 pub ones-of-words-spec : {M : Type 1} → statement M
 ones-of-words-spec =
-    tie.close
-    (tie.spec
-    Inv-loop
-    μ-loop
-    loop-holds
-    u64-at-requires
-    cast-n
-    add-n
-    add-j
-    loop-less
-    loop-again
-    returns)
+    tie.close (tie.spec Inv-loop μ-loop loop-holds (λ c κs. omega arith) (λ c. omega (arith, ones-le 64 (c .u64-at .result) (c .u64-at .ok))) add-n
+    (λ c. omega arith) (λ c. omega arith) (λ c. (omega arith, omega arith, counted c)) returns)

@@ -11,5 +11,4 @@ unfolding turned
 returns c = rw (shifted (c .before .args .index % 8) (omega arith))
 
 pub turn-spec : {M : Type 1} → statement M
-turn-spec =
-    tie.close (tie.spec (λ c. search needs) (λ c. search needs) (λ c. search needs) (λ c. search needs) (λ c. search needs) returns)
+turn-spec = tie.close (tie.spec (λ c. search needs) (λ c. search needs) (λ c. search needs) (λ c. search needs) (λ c. search needs) returns)

@@ -15,13 +15,4 @@ mul-result : tie.Need-mul-result
 mul-result c = let k = cell-few (20 + c .before .args .n) in omega (arith, k, c .before .pre .0, c .before .pre .1, c .cell-size .ensures)
 
 pub bins-size-spec : {M : Type 1} → statement M
-bins-size-spec =
-    tie.close
-    (tie.spec
-    (λ c. search needs)
-    (λ c. search needs)
-    (λ c κs. search needs)
-    add-result-2
-    add-result-3
-    mul-result
-    (λ c. search needs))
+bins-size-spec = tie.close (tie.spec (λ c. search needs) (λ c. search needs) (λ c κs. search needs) add-result-2 add-result-3 mul-result (λ c. search needs))

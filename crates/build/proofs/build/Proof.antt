@@ -8,25 +8,19 @@ use Rattle.build.proofs.build.Tie as tie
 
 build-whole-requires : tie.Need-build-whole-requires
 build-whole-requires c κs =
-    let a = c .before .before .before .before .before .before .before .before .args in
-    told-fits (now (a .stream)) (c .before .before .w .given .1) (c .before .before .before .before .measure-stream .ensures)
+    let at-measure-stream = c .before .before .before .before in
+    let a = at-measure-stream .before .before .before .before .args in
+    told-fits (now (a .stream)) (c .before .before .w .given .1) (at-measure-stream .measure-stream .ensures)
 
 returns : tie.Need-returns
 returns c =
-    let a = c .before .before .before .before .before .before .before .before .before .args in
-    let x = told-amiss (now (a .stream)) (c .before .before .before .x .given .1) (c .before .before .before .before .before .measure-stream .ensures) in
+    let at-measure-stream = c .before .before .before .before .before in
+    let a = at-measure-stream .before .before .before .before .args in
+    let x = told-amiss (now (a .stream)) (c .before .before .before .x .given .1) (at-measure-stream .measure-stream .ensures) in
     let p = call-wrong (now (a .stream)) (now (a .descriptor)) (now (a .out)) x in
     (c .refuse .ensures ∙ p .0, p .1)
 
 pub build-spec : {M : Type 1} → statement M
 build-spec =
-    tie.close
-    (tie.spec
-    (λ c κs. search needs)
-    (λ c. search needs)
-    (λ c κs. search needs)
-    (λ c. search needs)
-    build-whole-requires
-    returns
-    (λ c. search needs)
+    tie.close (tie.spec (λ c κs. search needs) (λ c. search needs) (λ c κs. search needs) (λ c. search needs) build-whole-requires returns (λ c. search needs)
     (λ c. search needs))

@@ -13,11 +13,13 @@ put-hive-requires c κs =
 
 returns : tie.Need-returns
 returns c =
-    let a = c .before .before .before .before .before .before .before .args in
-    let x = c .before .before .before .before .before .before .before .pre in
+    let at-put-hive = c .before .before in
+    let at-entry = at-put-hive .before .before .before .before .before in
+    let a = at-entry .args in
+    let x = at-entry .pre in
     let s = now (a .stream) in
     let sd = now (a .descriptor) in
-    hive-put s sd x (now (a .out)) refl (c .before .before .put-hive .ensures (forestIn s) (planned s sd x))
+    hive-put s sd x (now (a .out)) refl (at-put-hive .put-hive .ensures (forestIn s) (planned s sd x))
 
 pub put-hive-spec : {M : Type 1} → statement M
 put-hive-spec = tie.close (tie.spec put-hive-requires (λ c. search needs) returns)

@@ -13,7 +13,8 @@ returns-2 c = λ t e. c .refuse-size2 .ensures ∙ descriptor-past t _ _ e (c .b
 
 returns-3 : tie.Need-returns-3
 returns-3 c = λ t e.
-    c .refuse-size3 .ensures ∙ bins-past t _ _ e (omega (arith, c .before .before .before .before .if1 .left)) (c .before .before .bins-size .ensures) (c .before .if3 .taken)
+    c .refuse-size3 .ensures
+    ∙ bins-past t _ _ e (omega (arith, c .before .before .before .before .if1 .left)) (c .before .before .bins-size .ensures) (c .before .if3 .taken)
 
 returns-4 : tie.Need-returns-4
 returns-4 c = λ t e.
@@ -21,14 +22,5 @@ returns-4 c = λ t e.
 
 pub size-answer-spec : {M : Type 1} → statement M
 size-answer-spec =
-    tie.close
-    (tie.spec
-    (λ c κs. search needs)
-    returns
-    (λ c κs. search needs)
-    returns-2
-    (λ c κs. search needs)
-    (λ c κs. search needs)
-    returns-3
-    (λ c. search needs)
-    returns-4)
+    tie.close (tie.spec (λ c κs. search needs) returns (λ c κs. search needs) returns-2 (λ c κs. search needs) (λ c κs. search needs) returns-3
+    (λ c. search needs) returns-4)

@@ -17,15 +17,13 @@ put-copy-requires : tie.Need-put-copy-requires
 put-copy-requires c κs = omega (arith, cell-room (length (c .before .before .before .before .before .before .before .args .body .now)))
 
 returns : tie.Need-returns
-returns c = rw (c .before .before .put-pad .ensures, c .before .before .before .before .before .before .put-copy .ensures, c .before .before .before .before .before .before .before .before .before .before .put-size .ensures) (cell-put (c .before .before .before .before .before .before .before .before .before .before .before .before .before .before .args .body .now) (c .before .before .before .before .before .before .before .before .before .before .before .before .before .before .args .out .now) (c .before .before .before .before .before .before .before .before .before .before .before .before .before .before .args .at) _ refl)
+returns c =
+    let at-put-pad = c .before .before in
+    let at-put-copy = at-put-pad .before .before .before .before in
+    let at-put-size = at-put-copy .before .before .before .before in
+    let at-entry = at-put-size .before .before .before .before in
+    rw (at-put-pad .put-pad .ensures, at-put-copy .put-copy .ensures, at-put-size .put-size .ensures)
+    (cell-put (at-entry .args .body .now) (at-entry .args .out .now) (at-entry .args .at) _ refl)
 
 pub put-bytes-spec : {M : Type 1} → statement M
-put-bytes-spec =
-    tie.close
-    (tie.spec
-    put-size-requires
-    add-put-copy
-    put-copy-requires
-    (λ c κs. search needs)
-    (λ c. search needs)
-    returns)
+put-bytes-spec = tie.close (tie.spec put-size-requires add-put-copy put-copy-requires (λ c κs. search needs) (λ c. search needs) returns)

@@ -4,8 +4,12 @@ use Rattle.build_cells.proofs.put_four.Statement.{statement}
 use Rattle.build_cells.proofs.put_four.Tie as tie
 
 returns : tie.Need-returns
-returns c = rw (c .before .before .put-two2 .ensures, c .before .before .before .before .before .before .put-two .ensures) (four-put (c .before .before .before .before .before .before .before .before .before .args .out .now) (c .before .before .before .before .before .before .before .before .before .args .at) (c .before .before .before .before .before .before .before .before .before .args .a) (c .before .before .before .before .before .before .before .before .before .args .b) (c .before .before .before .before .before .before .before .before .before .args .c) (c .before .before .before .before .before .before .before .before .before .args .d))
+returns c =
+    let at-put-two2 = c .before .before in
+    let at-put-two = at-put-two2 .before .before .before .before in
+    let at-entry = at-put-two .before .before .before in
+    rw (at-put-two2 .put-two2 .ensures, at-put-two .put-two .ensures)
+    (four-put (at-entry .args .out .now) (at-entry .args .at) (at-entry .args .a) (at-entry .args .b) (at-entry .args .c) (at-entry .args .d))
 
 pub put-four-spec : {M : Type 1} → statement M
-put-four-spec =
-    tie.close (tie.spec (λ c κs. search needs) (λ c. search needs) (λ c κs. search needs) (λ c. search needs) returns)
+put-four-spec = tie.close (tie.spec (λ c κs. search needs) (λ c. search needs) (λ c κs. search needs) (λ c. search needs) returns)

@@ -23,25 +23,18 @@ loop-holds c = let e = wide-length (c .args .name .now) in (omega arith, omega a
 loop-again : tie.Need-loop-again Inv-loop μ-loop
 loop-again c =
     let a = c .before .before .before .args in
-    let i = c .before .before .loop .i in
-    (omega arith, c .before .before .loop .inv .1, simp length-set (c .before .before .loop .inv .2), rw (c .before .before .loop .inv .3) (low-next (a .name .now) (a .out .now) (a .at) i (c .before .before .before .pre .0) (omega arith)))
+    let i = c .before .before .loop .i in (
+      omega arith,
+      c .before .before .loop .inv .1,
+      simp length-set (c .before .before .loop .inv .2),
+      rw (c .before .before .loop .inv .3) (low-next (a .name .now) (a .out .now) (a .at) i (c .before .before .before .pre .0) (omega arith)),
+    )
 
 returns : tie.Need-returns Inv-loop μ-loop
-returns c = let a = c .before .before .args in c .before .loop .inv .3 ∙ put-last (codes false (a .name .now)) (a .out .now) (a .at) (c .before .loop .i) (omega arith)
+returns c =
+    let a = c .before .before .args in c .before .loop .inv .3 ∙ put-last (codes false (a .name .now)) (a .out .now) (a .at) (c .before .loop .i) (omega arith)
 
 pub put-low-spec : {M : Type 1} → statement M
 put-low-spec =
-    tie.close
-    (tie.spec
-    Inv-loop
-    μ-loop
-    loop-holds
-    (λ c. search needs)
-    (λ c. search needs)
-    (λ c. search needs)
-    (λ c. search needs)
-    (λ c. search needs)
-    (λ c. search needs)
-    loop-again
-    (λ c. search needs)
-    returns)
+    tie.close (tie.spec Inv-loop μ-loop loop-holds (λ c. search needs) (λ c. search needs) (λ c. search needs) (λ c. search needs) (λ c. search needs)
+    (λ c. search needs) loop-again (λ c. search needs) returns)

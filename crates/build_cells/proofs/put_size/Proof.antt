@@ -16,9 +16,11 @@ cast-put-u32 : tie.Need-cast-put-u32
 cast-put-u32 c = omega (arith, cell-room (c .before .before .before .args .len), c .cell-size .ensures)
 
 returns : tie.Need-returns
-returns c = c .before .before .put-u32 .ensures ∙ ap (λ (k : ℕ). sets (c .before .before .before .before .before .before .args .out .now) (c .before .before .before .before .before .before .args .at) (le32 (4294967296 - k))) (c .before .before .before .cell-size .ensures)
+returns c =
+    let at-cell-size = c .before .before .before in
+    let at-entry = at-cell-size .before .before .before in
+    c .before .before .put-u32 .ensures
+    ∙ ap (λ (k : ℕ). sets (at-entry .args .out .now) (at-entry .args .at) (le32 (4294967296 - k))) (at-cell-size .cell-size .ensures)
 
 pub put-size-spec : {M : Type 1} → statement M
-put-size-spec =
-    tie.close
-    (tie.spec (λ c κs. search needs) sub-put-u32 cast-put-u32 (λ c κs. search needs) (λ c. search needs) returns)
+put-size-spec = tie.close (tie.spec (λ c κs. search needs) sub-put-u32 cast-put-u32 (λ c κs. search needs) (λ c. search needs) returns)

@@ -15,9 +15,6 @@ Inv-loop out₀ at n i₀ out i = (i ≤ n) × (length out ≡ length out₀) ×
 abbrev μ-loop : tie.MeasureT-loop
 μ-loop out₀ at n i₀ out i = n - i
 
-loop-holds : tie.Need-loop-holds Inv-loop μ-loop
-loop-holds c = (omega arith, refl, refl)
-
 loop-again : tie.Need-loop-again Inv-loop μ-loop
 loop-again c =
     let a = c .before .before .args in
@@ -29,15 +26,5 @@ returns c = let a = c .before .before .args in c .before .loop .inv .2 ∙ zeros
 
 pub put-zeros-spec : {M : Type 1} → statement M
 put-zeros-spec =
-    tie.close
-    (tie.spec
-    Inv-loop
-    μ-loop
-    loop-holds
-    (λ c. search needs)
-    (λ c. search needs)
-    (λ c. search needs)
-    (λ c. search needs)
-    loop-again
-    (λ c. search needs)
-    returns)
+    tie.close (tie.spec Inv-loop μ-loop (λ c. (omega arith, refl, refl)) (λ c. search needs) (λ c. search needs) (λ c. search needs) (λ c. search needs)
+    loop-again (λ c. search needs) returns)

@@ -3,11 +3,6 @@ use mathlib.Core.Path.{sym}
 use Rattle.build_cells.proofs.stored_len.Statement.{statement}
 use Rattle.build_cells.proofs.stored_len.Tie as tie
 
-returns : tie.Need-returns
-returns c = sym (low-length _ _ (c .before .pre) (c .if1 .taken))
-
-returns-2 : tie.Need-returns-2
-returns-2 c = sym (whole-length _ _ (c .before .pre) (c .if1 .left))
-
 pub stored-len-spec : {M : Type 1} → statement M
-stored-len-spec = tie.close (tie.spec returns returns-2)
+stored-len-spec =
+    tie.close (tie.spec (λ c. sym (low-length _ _ (c .before .pre) (c .if1 .taken))) (λ c. sym (whole-length _ _ (c .before .pre) (c .if1 .left))))

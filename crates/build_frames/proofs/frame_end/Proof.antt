@@ -14,7 +14,9 @@ add-result-2 : tie.Need-add-result-2
 add-result-2 c = let l = laid (c .before .before .args .s .now) (c .before .before .args .at) (c .before .before .pre) in omega arith
 
 returns : tie.Need-returns
-returns c = let l = laid (c .before .before .args .s .now) (c .before .before .args .at) (c .before .before .pre) in record { is = omega arith; inside = omega arith; further = omega arith }
+returns c =
+    let l = laid (c .before .before .args .s .now) (c .before .before .args .at) (c .before .before .pre) in
+    record { is = omega arith; inside = omega arith; further = omega arith }
 
 pub frame-end-spec : {M : Type 1} → statement M
 frame-end-spec = tie.close (tie.spec add-result u32-at-requires (λ c. search needs) add-result-2 returns)

@@ -24,5 +24,4 @@ returns-3 c =
     ∙ sym (key-by-backslash _ _ p n (omega arith) (omega arith))
 
 pub is-key-name-spec : {M : Type 1} → statement M
-is-key-name-spec =
-    tie.close (tie.spec returns returns-2 (λ c κs. search needs) (λ c κs. search needs) returns-3)
+is-key-name-spec = tie.close (tie.spec returns returns-2 (λ c κs. search needs) (λ c κs. search needs) returns-3)

@@ -8,5 +8,4 @@ unfolding nameIn
 returns c = rw (← c .before .before .part-of .ensures, ← c .before .part-of2 .ensures) (c .is-same .ensures)
 
 pub is-namesake-spec : {M : Type 1} → statement M
-is-namesake-spec =
-    tie.close (tie.spec (λ c κs. search needs) (λ c κs. search needs) (λ c κs. search needs) returns)
+is-namesake-spec = tie.close (tie.spec (λ c κs. search needs) (λ c κs. search needs) (λ c κs. search needs) returns)

@@ -42,17 +42,5 @@ returns c = segmented-is _ _ _ _ _ (c .before .before .segments-for .ensures) re
 
 pub segmented-size-spec : {M : Type 1} → statement M
 segmented-size-spec =
-    tie.close
-    (tie.spec
-    (λ c κs. search needs)
-    sub-full
-    mul-cell-size
-    cell-size-requires
-    add-result
-    mul-result
-    add-result-2
-    mul-cell-size-2
-    sub-cell-size
-    (λ c κs. search needs)
-    add-result-3
-    returns)
+    tie.close (tie.spec (λ c κs. search needs) sub-full mul-cell-size cell-size-requires add-result mul-result add-result-2 mul-cell-size-2 sub-cell-size
+    (λ c κs. search needs) add-result-3 returns)

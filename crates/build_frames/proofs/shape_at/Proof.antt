@@ -13,19 +13,13 @@ returns-2 c =
     read-none _ (payload-cut (a .s .now) (a .at) (omega arith) (c .before .u32-at .result) (c .before .u32-at .ensures) (omega arith))
 
 returns-3 : tie.Need-returns-3
-returns-3 c = read-by (frame-whole _ _ (c .before .before .before .before .if1 .left) _ (c .before .before .before .u32-at .ensures) (c .before .before .if2 .left) _ (c .before .u16-at .ensures)) (c .kind-shape .ensures)
+returns-3 c =
+    read-by
+    (frame-whole _ _ (c .before .before .before .before .if1 .left) _ (c .before .before .before .u32-at .ensures) (c .before .before .if2 .left) _
+    (c .before .u16-at .ensures))
+    (c .kind-shape .ensures)
 
 pub shape-at-spec : {M : Type 1} → statement M
 shape-at-spec =
-    tie.close
-    (tie.spec
-    (λ c. search needs)
-    returns
-    (λ c κs. search needs)
-    (λ c. search needs)
-    returns-2
-    (λ c. search needs)
-    (λ c κs. search needs)
-    (λ c. search needs)
-    (λ c κs. search needs)
-    returns-3)
+    tie.close (tie.spec (λ c. search needs) returns (λ c κs. search needs) (λ c. search needs) returns-2 (λ c. search needs) (λ c κs. search needs)
+    (λ c. search needs) (λ c κs. search needs) returns-3)

@@ -11,15 +11,10 @@ add-result c =
     omega (arith, s .pre .short, cell-few (20 + c .before .before .stored-len .result), data-few (s .args .v .«data» .len) (s .pre .small))
 
 returns : tie.Need-returns
-returns c = value-is _ _ _ _ _ (c .before .before .before .before .before .before .pre) (c .before .before .stored-len .ensures) (c .before .cell-size .ensures) (c .data-size .ensures)
+returns c =
+    let at-stored-len = c .before .before in
+    value-is _ _ _ _ _ (at-stored-len .before .before .before .before .pre) (at-stored-len .stored-len .ensures) (c .before .cell-size .ensures)
+    (c .data-size .ensures)
 
 pub value-size-spec : {M : Type 1} → statement M
-value-size-spec =
-    tie.close
-    (tie.spec
-    (λ c κs. search needs)
-    (λ c. search needs)
-    (λ c κs. search needs)
-    (λ c κs. search needs)
-    add-result
-    returns)
+value-size-spec = tie.close (tie.spec (λ c κs. search needs) (λ c. search needs) (λ c κs. search needs) (λ c κs. search needs) add-result returns)

@@ -6,17 +6,17 @@ use borrow.Author.Needs.{needs}
 use Rattle.build_measure.proofs.asked.Statement.{statement}
 use Rattle.build_measure.proofs.asked.Tie as tie
 
-shape-at-requires : tie.Need-shape-at-requires
-shape-at-requires c κs = c .before .pre .passed .inside
-
 add-result : tie.Need-add-result
 add-result c = let x = c .before .before .before .before .before .before .pre .passed in omega (arith, x .room, x .inside)
 
 returns : tie.Need-returns
-returns c = rw (add-one _) (asked-one (c .before .before .before .before .before .before .pre) _ (said-holds (c .before .before .before .before .shape-at .ensures) (c .before .before .v .given .1)))
+returns c =
+    let at-shape-at = c .before .before .before .before in
+    rw (add-one _) (asked-one (at-shape-at .before .before .pre) _ (said-holds (at-shape-at .shape-at .ensures) (c .before .before .v .given .1)))
 
 returns-2 : tie.Need-returns-2
-returns-2 c = asked-none (c .before .before .before .before .before .pre) (not-opens (said-opens (c .before .before .before .shape-at .ensures) (c .before .o .given .1)))
+returns-2 c =
+    asked-none (c .before .before .before .before .before .pre) (not-opens (said-opens (c .before .before .before .shape-at .ensures) (c .before .o .given .1)))
 
 returns-3 : tie.Need-returns-3
 returns-3 c = asked-none (c .before .before .before .before .pre) (not-closes (said-closes (c .before .before .shape-at .ensures) (c .enum-told .given .1)))
@@ -26,15 +26,5 @@ returns-4 c = asked-none (c .before .before .before .before .pre) (not-laid (sai
 
 pub asked-spec : {M : Type 1} → statement M
 asked-spec =
-    tie.close
-    (tie.spec
-    shape-at-requires
-    (λ c. search needs)
-    add-result
-    (λ c. search needs)
-    (λ c. search needs)
-    (λ c. search needs)
-    returns
-    returns-2
-    returns-3
-    returns-4)
+    tie.close (tie.spec (λ c κs. c .before .pre .passed .inside) (λ c. search needs) add-result (λ c. search needs) (λ c. search needs) (λ c. search needs)
+    returns returns-2 returns-3 returns-4)

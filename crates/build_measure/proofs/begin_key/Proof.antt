@@ -10,7 +10,10 @@ list-size-requires : tie.Need-list-size-requires
 list-size-requires c κs = let x = c .before .pre .passed in omega (arith, x .room, x .inside)
 
 add-capped : tie.Need-add-capped
-add-capped c = let x = c .before .before .before .pre .passed in let l = c .before .list-size .result in omega (arith, x .room, x .inside, passed-few x, c .before .list-size .ensures, list-few (c .before .before .before .args .r .count))
+add-capped c =
+    let x = c .before .before .before .pre .passed in
+    let l = c .before .list-size .result in
+    omega (arith, x .room, x .inside, passed-few x, c .before .list-size .ensures, list-few (c .before .before .before .args .r .count))
 
 returns : tie.Need-returns
 returns c = record {
@@ -22,10 +25,4 @@ returns c = record {
 }
 
 pub begin-key-spec : {M : Type 1} → statement M
-begin-key-spec =
-    tie.close
-    (tie.spec
-    list-size-requires
-    add-capped
-    (λ c κs. search needs)
-    returns)
+begin-key-spec = tie.close (tie.spec list-size-requires add-capped (λ c κs. search needs) returns)

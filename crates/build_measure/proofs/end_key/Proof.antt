@@ -7,14 +7,10 @@ use borrow.Author.Needs.{needs}
 use Rattle.build_measure.proofs.end_key.Statement.{statement}
 use Rattle.build_measure.proofs.end_key.Tie as tie
 
-frame-end-requires : tie.Need-frame-end-requires
-frame-end-requires c κs = close-laid (c .before .pre .0)
-
-leaf-size-requires : tie.Need-leaf-size-requires
-leaf-size-requires c κs = omega (arith, c .before .before .pre .2)
-
 add-capped : tie.Need-add-capped
-add-capped c = let x = c .before .before .before .before .pre in omega (arith, x .1, x .2, c .before .leaf-size .ensures, leaf-few (c .before .before .before .before .args .w .subkeys))
+add-capped c =
+    let x = c .before .before .before .before .pre in
+    omega (arith, x .1, x .2, c .before .leaf-size .ensures, leaf-few (c .before .before .before .before .args .w .subkeys))
 
 returns : tie.Need-returns
 returns c = let a = c .before .before .before .before .before .args in record {
@@ -25,10 +21,4 @@ returns c = let a = c .before .before .before .before .before .args in record {
 
 pub end-key-spec : {M : Type 1} → statement M
 end-key-spec =
-    tie.close
-    (tie.spec
-    frame-end-requires
-    leaf-size-requires
-    add-capped
-    (λ c κs. search needs)
-    returns)
+    tie.close (tie.spec (λ c κs. close-laid (c .before .pre .0)) (λ c κs. omega (arith, c .before .before .pre .2)) add-capped (λ c κs. search needs) returns)

@@ -4,14 +4,10 @@ use borrow.Author.Needs.{needs}
 use Rattle.build_measure.proofs.first_frame.Statement.{statement}
 use Rattle.build_measure.proofs.first_frame.Tie as tie
 
-returns : tie.Need-returns
-returns c = no-frames _ (c .if1 .taken)
-
 root-named-requires : tie.Need-root-named-requires
-root-named-requires c κs = record { says = said-opens (c .before .before .before .shape-at .ensures) (c .before .o .given .1); lies = opens-lies (c .before .before .before .shape-at .ensures) (c .before .o .given .1) }
-
-returns-2 : tie.Need-returns-2
-returns-2 c = c .root-named .ensures
+root-named-requires c κs =
+    record
+    { says = said-opens (c .before .before .before .shape-at .ensures) (c .before .o .given .1); lies = opens-lies (c .before .before .before .shape-at .ensures) (c .before .o .given .1) }
 
 returns-3 : tie.Need-returns-3
 returns-3 c = first-value _ (c .before .before .before .before .if1 .left) (said-holds (c .before .before .before .shape-at .ensures) (c .before .v .given .1))
@@ -24,16 +20,5 @@ returns-5 c = first-unlaid _ (c .before .before .before .if1 .left) (said-nothin
 
 pub first-frame-spec : {M : Type 1} → statement M
 first-frame-spec =
-    tie.close
-    (tie.spec
-    returns
-    (λ c κs. search needs)
-    (λ c. search needs)
-    root-named-requires
-    (λ c. search needs)
-    (λ c. search needs)
-    (λ c. search needs)
-    returns-2
-    returns-3
-    returns-4
-    returns-5)
+    tie.close (tie.spec (λ c. no-frames _ (c .if1 .taken)) (λ c κs. search needs) (λ c. search needs) root-named-requires (λ c. search needs)
+    (λ c. search needs) (λ c. search needs) (λ c. c .root-named .ensures) returns-3 returns-4 returns-5)

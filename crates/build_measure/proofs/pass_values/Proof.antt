@@ -18,17 +18,11 @@ abbrev μ-loop : tie.MeasureT-loop
 loop-holds : tie.Need-loop-holds Inv-loop μ-loop
 loop-holds c = (passed-none _ _ (c .before .before .pre), c .value-cells-size .ensures)
 
-frame-end-requires : tie.Need-frame-end-requires Inv-loop μ-loop
-frame-end-requires c κs = good-laid (c .before .loop .inv .1 .good (omega arith))
-
 add-n : tie.Need-add-n Inv-loop μ-loop
 add-n c = let x = c .before .before .loop .inv .0 in omega (arith, x .room, x .inside)
 
 add-capped : tie.Need-add-capped Inv-loop μ-loop
 add-capped c = let x = c .before .before .loop .inv in omega (arith, passed-few (x .0), x .1 .few)
-
-value-cells-size-requires-2 : tie.Need-value-cells-size-requires-2 Inv-loop μ-loop
-value-cells-size-requires-2 c κs = c .before .frame-end .ensures .inside
 
 loop-less : tie.Need-loop-less Inv-loop μ-loop
 loop-less c = let e = c .before .before .frame-end .ensures in omega (arith, e .further, e .inside)
@@ -44,17 +38,5 @@ returns c = let l = c .before .loop in record { passed = l .inv .0; last = l .in
 
 pub pass-values-spec : {M : Type 1} → statement M
 pass-values-spec =
-    tie.close
-    (tie.spec
-    Inv-loop
-    μ-loop
-    (λ c κs. search needs)
-    loop-holds
-    frame-end-requires
-    add-n
-    add-capped
-    (λ c κs. search needs)
-    value-cells-size-requires-2
-    loop-less
-    loop-again
-    returns)
+    tie.close (tie.spec Inv-loop μ-loop (λ c κs. search needs) loop-holds (λ c κs. good-laid (c .before .loop .inv .1 .good (omega arith))) add-n add-capped
+    (λ c κs. search needs) (λ c κs. c .before .frame-end .ensures .inside) loop-less loop-again returns)

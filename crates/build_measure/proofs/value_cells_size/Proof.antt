@@ -21,15 +21,5 @@ returns-4 c = sized-unlaid (said-nothing (c .before .before .shape-at .ensures) 
 
 pub value-cells-size-spec : {M : Type 1} → statement M
 value-cells-size-spec =
-    tie.close
-    (tie.spec
-    (λ c κs. search needs)
-    (λ c. search needs)
-    held-size-requires
-    (λ c. search needs)
-    (λ c. search needs)
-    (λ c. search needs)
-    returns
-    returns-2
-    returns-3
-    returns-4)
+    tie.close (tie.spec (λ c κs. search needs) (λ c. search needs) held-size-requires (λ c. search needs) (λ c. search needs) (λ c. search needs) returns
+    returns-2 returns-3 returns-4)

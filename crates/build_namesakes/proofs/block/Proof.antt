@@ -5,19 +5,12 @@ use Rattle.build_namesakes.proofs.block.Statement.{statement}
 use Rattle.build_namesakes.proofs.block.Tie as tie
 
 in-block-requires : tie.Need-in-block-requires
-in-block-requires c κs =
-    (c .before .before .before .before .before .pre, (record { some = omega arith; none = λ b. zeros-are 4096 b; links = omega arith; few = omega arith }, omega arith))
-
-returns : tie.Need-returns
-returns c = c .before .before .before .before .in-block .ensures
+in-block-requires c κs = (
+  c .before .before .before .before .before .pre,
+  (record { some = omega arith; none = λ b. zeros-are 4096 b; links = omega arith; few = omega arith }, omega arith),
+)
 
 pub block-spec : {M : Type 1} → statement M
 block-spec =
-    tie.close
-    (tie.spec
-    (λ c. search needs)
-    (λ c. search needs)
-    (λ c. search needs)
-    (λ c. search needs)
-    in-block-requires
-    returns)
+    tie.close (tie.spec (λ c. search needs) (λ c. search needs) (λ c. search needs) (λ c. search needs) in-block-requires
+    (λ c. c .before .before .before .before .in-block .ensures))

@@ -14,9 +14,6 @@ Inv-loop s at n p₀ j₀ p j = (p ≡ startOf s at j) × Passed (called s at) j
 abbrev μ-loop : tie.MeasureT-loop
 μ-loop s at n p₀ j₀ p j = n - j
 
-loop-holds : tie.Need-loop-holds Inv-loop μ-loop
-loop-holds c = (start-here _ _ refl, pass-start _)
-
 name-at-requires : tie.Need-name-at-requires Inv-loop μ-loop
 name-at-requires c κs =
     let a = c .before .before .before .args in
@@ -27,28 +24,26 @@ is-repeat-requires c κs = (row-less _ _ (c .before .before .before .before .pre
 
 returns : tie.Need-returns Inv-loop μ-loop
 returns c =
-    let a = c .before .before .before .before .before .before .args in
-    let l = c .before .before .before .before .loop in
+    let at-loop = c .before .before .before .before in
+    let a = at-loop .before .before .args in
+    let l = at-loop .loop in
     let e = read-name (a .s .now) (l .p) (c .before .before .name-at .ensures .0) (l .inv .0) in
     pass-found (called (a .s .now) (a .at)) _ (l .inv .1) _ (c .before .before .before .loop-test .taken)
     (ap (metIn (called (a .s .now) (a .at)) (l .j)) (sym e) ∙ sym (c .before .is-repeat .ensures) ∙ c .if1 .taken)
 
 frame-end-requires : tie.Need-frame-end-requires Inv-loop μ-loop
 frame-end-requires c κs =
-    let a = c .before .before .before .before .before .before .args in
-    let l = c .before .before .before .before .loop in
-    held-laid (a .s .now) (l .p) (row-held (a .s .now) (a .at) (c .before .before .before .before .before .before .pre) (c .before .before .before .loop-test .taken) (l .inv .0))
-
-add-j : tie.Need-add-j Inv-loop μ-loop
-add-j c = omega (arith, c .before .before .before .before .loop-test .taken)
-
-loop-less : tie.Need-loop-less Inv-loop μ-loop
-loop-less c = omega (arith, c .before .before .before .before .loop-test .taken)
+    let at-loop = c .before .before .before .before in
+    let at-entry = at-loop .before .before in
+    let a = at-entry .args in
+    let l = at-loop .loop in
+    held-laid (a .s .now) (l .p) (row-held (a .s .now) (a .at) (at-entry .pre) (c .before .before .before .loop-test .taken) (l .inv .0))
 
 loop-again : tie.Need-loop-again Inv-loop μ-loop
 loop-again c =
-    let a = c .before .before .before .before .before .before .before .args in
-    let l = c .before .before .before .before .before .loop in
+    let at-loop = c .before .before .before .before .before in
+    let a = at-loop .before .before .args in
+    let l = at-loop .loop in
     let e = read-name (a .s .now) (l .p) (c .before .before .before .name-at .ensures .0) (l .inv .0) in (
       start-on (a .s .now) (a .at) (l .j) (l .inv .0) (c .frame-end .ensures .is),
       pass-on (called (a .s .now) (a .at)) _ (l .inv .1)
@@ -60,16 +55,6 @@ returns-2 c = let a = c .before .before .before .args in pass-end (called (a .s 
 
 pub few-spec : {M : Type 1} → statement M
 few-spec =
-    tie.close
-    (tie.spec
-    Inv-loop
-    μ-loop
-    loop-holds
-    name-at-requires
-    is-repeat-requires
-    returns
-    frame-end-requires
-    add-j
-    loop-less
-    loop-again
-    returns-2)
+    tie.close (tie.spec Inv-loop μ-loop (λ c. (start-here _ _ refl, pass-start _)) name-at-requires is-repeat-requires returns frame-end-requires
+    (λ c. omega (arith, c .before .before .before .before .loop-test .taken)) (λ c. omega (arith, c .before .before .before .before .loop-test .taken))
+    loop-again returns-2)

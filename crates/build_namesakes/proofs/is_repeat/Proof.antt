@@ -25,27 +25,23 @@ name-at-requires c κs =
     let a = c .before .before .before .args in
     row-held (a .s .now) (a .at) (c .before .before .before .pre .0) (c .loop-test .taken) (c .before .loop .inv .1)
 
-is-namesake-requires : tie.Need-is-namesake-requires Inv-loop μ-loop
-is-namesake-requires c κs = (c .name-at .ensures .1, c .before .before .before .before .pre .1)
-
 returns : tie.Need-returns Inv-loop μ-loop
 returns c =
-    let a = c .before .before .before .before .before .before .args in
-    let l = c .before .before .before .before .loop in
+    let at-loop = c .before .before .before .before in
+    let a = at-loop .before .before .args in
+    let l = at-loop .loop in
     sym (met-here (called (a .s .now) (a .at)) _ (a .j) (l .i) (c .before .before .before .loop-test .taken)
-    (read-compared (a .s .now) (l .p) (startOf (a .s .now) (a .at) (l .i)) (nameIn (a .s .now) (a .x)) (c .before .before .name-at .ensures .0) (l .inv .1) (c .before .is-namesake .ensures) ∙ c .if1 .taken))
+    (read-compared (a .s .now) (l .p) (startOf (a .s .now) (a .at) (l .i)) (nameIn (a .s .now) (a .x)) (c .before .before .name-at .ensures .0) (l .inv .1)
+    (c .before .is-namesake .ensures)
+    ∙ c .if1 .taken))
 
 frame-end-requires : tie.Need-frame-end-requires Inv-loop μ-loop
 frame-end-requires c κs =
-    let a = c .before .before .before .before .before .before .args in
-    let l = c .before .before .before .before .loop in
-    held-laid (a .s .now) (l .p) (row-held (a .s .now) (a .at) (c .before .before .before .before .before .before .pre .0) (c .before .before .before .loop-test .taken) (l .inv .1))
-
-add-i : tie.Need-add-i Inv-loop μ-loop
-add-i c = omega arith
-
-loop-less : tie.Need-loop-less Inv-loop μ-loop
-loop-less c = omega arith
+    let at-loop = c .before .before .before .before in
+    let at-entry = at-loop .before .before in
+    let a = at-entry .args in
+    let l = at-loop .loop in
+    held-laid (a .s .now) (l .p) (row-held (a .s .now) (a .at) (at-entry .pre .0) (c .before .before .before .loop-test .taken) (l .inv .1))
 
 loop-again : tie.Need-loop-again Inv-loop μ-loop
 loop-again c =
@@ -66,16 +62,5 @@ returns-2 c =
 
 pub is-repeat-spec : {M : Type 1} → statement M
 is-repeat-spec =
-    tie.close
-    (tie.spec
-    Inv-loop
-    μ-loop
-    loop-holds
-    name-at-requires
-    is-namesake-requires
-    returns
-    frame-end-requires
-    add-i
-    loop-less
-    loop-again
-    returns-2)
+    tie.close (tie.spec Inv-loop μ-loop loop-holds name-at-requires (λ c κs. (c .name-at .ensures .1, c .before .before .before .before .pre .1)) returns
+    frame-end-requires (λ c. omega arith) (λ c. omega arith) loop-again returns-2)

@@ -14,9 +14,6 @@ Inv-loop s at n best₀ p₀ b₀ best p b = (4096 ≤ b) × (p ≡ startOf s at
 abbrev μ-loop : tie.MeasureT-loop
 μ-loop s at n best₀ p₀ b₀ best p b = best - b
 
-block-requires : tie.Need-block-requires Inv-loop μ-loop
-block-requires c κs = c .before .pre
-
 loop-holds : tie.Need-loop-holds Inv-loop μ-loop
 loop-holds c =
     let a = c .before .before .args in
@@ -31,9 +28,6 @@ position-of-requires c κs =
     let t = c .loop-test .taken in
     row-less (a .s .now) (l .p) (row-later (a .s .now) (a .at) (c .before .before .before .before .pre) (omega arith) (l .inv .1)) (omega arith)
 
-sub-block : tie.Need-sub-block Inv-loop μ-loop
-sub-block c = omega (arith, c .before .loop-test .taken)
-
 block-requires-2 : tie.Need-block-requires-2 Inv-loop μ-loop
 block-requires-2 c κs =
     let a = c .before .before .before .before .before .args in
@@ -44,12 +38,25 @@ block-requires-2 c κs =
     row-less (a .s .now) (c .position-of .result) (row-later (a .s .now) (a .at) (c .before .before .before .before .before .pre) (omega arith) e) (omega arith)
 
 add-best : tie.Need-add-best Inv-loop μ-loop
-add-best c = omega (arith, c .block2 .ensures .within, c .before .before .loop-test .taken, c .before .before .before .loop .inv .2 .within, c .before .before .before .before .before .before .fits .n)
+add-best c =
+    omega (
+      arith,
+      c .block2 .ensures .within,
+      c .before .before .loop-test .taken,
+      c .before .before .before .loop .inv .2 .within,
+      c .before .before .before .before .before .before .fits .n,
+    )
 
 add-b : tie.Need-add-b Inv-loop μ-loop
 add-b c =
     let a = c .before .before .before .before .before .before .args in
-    omega (arith, row-few (a .s .now) (a .at) (c .before .before .before .before .before .before .pre), c .before .before .before .before .before .before .good .0 .0, c .before .before .loop-test .taken, c .before .before .before .loop .inv .2 .within)
+    omega (
+      arith,
+      row-few (a .s .now) (a .at) (c .before .before .before .before .before .before .pre),
+      c .before .before .before .before .before .before .good .0 .0,
+      c .before .before .loop-test .taken,
+      c .before .before .before .loop .inv .2 .within,
+    )
 
 loop-less : tie.Need-loop-less Inv-loop μ-loop
 loop-less c = omega (arith, c .block2 .ensures .within, c .before .before .loop-test .taken)
@@ -69,21 +76,10 @@ loop-again c =
     )
 
 returns : tie.Need-returns Inv-loop μ-loop
-returns c = let a = c .before .before .before .before .args in reach-end (called (a .s .now) (a .at)) _ (c .before .loop .inv .2) (omega (arith, c .loop-test .left))
+returns c =
+    let a = c .before .before .before .before .args in reach-end (called (a .s .now) (a .at)) _ (c .before .loop .inv .2) (omega (arith, c .loop-test .left))
 
 pub many-spec : {M : Type 1} → statement M
 many-spec =
-    tie.close
-    (tie.spec
-    Inv-loop
-    μ-loop
-    block-requires
-    loop-holds
-    position-of-requires
-    sub-block
-    block-requires-2
-    add-best
-    add-b
-    loop-less
-    loop-again
-    returns)
+    tie.close (tie.spec Inv-loop μ-loop (λ c κs. c .before .pre) loop-holds position-of-requires (λ c. omega (arith, c .before .loop-test .taken))
+    block-requires-2 add-best add-b loop-less loop-again returns)

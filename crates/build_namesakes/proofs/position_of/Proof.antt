@@ -12,20 +12,11 @@ Inv-loop s at j p₀ i₀ p i = (i ≤ j) × (p ≡ startOf s at i)
 abbrev μ-loop : tie.MeasureT-loop
 μ-loop s at j p₀ i₀ p i = j - i
 
-loop-holds : tie.Need-loop-holds Inv-loop μ-loop
-loop-holds c = (omega arith, start-here _ _ refl)
-
 frame-end-requires : tie.Need-frame-end-requires Inv-loop μ-loop
 frame-end-requires c κs =
     let a = c .before .before .before .args in
     let l = c .before .loop in
     held-laid (a .s .now) (l .p) (row-held (a .s .now) (a .at) (c .before .before .before .pre) (c .loop-test .taken) (l .inv .1))
-
-add-i : tie.Need-add-i Inv-loop μ-loop
-add-i c = omega arith
-
-loop-less : tie.Need-loop-less Inv-loop μ-loop
-loop-less c = omega arith
 
 loop-again : tie.Need-loop-again Inv-loop μ-loop
 loop-again c =
@@ -41,4 +32,5 @@ returns c =
     l .inv .1 ∙ ap (startOf (a .s .now) (a .at)) e
 
 pub position-of-spec : {M : Type 1} → statement M
-position-of-spec = tie.close (tie.spec Inv-loop μ-loop loop-holds frame-end-requires add-i loop-less loop-again returns)
+position-of-spec =
+    tie.close (tie.spec Inv-loop μ-loop (λ c. (omega arith, start-here _ _ refl)) frame-end-requires (λ c. omega arith) (λ c. omega arith) loop-again returns)

@@ -13,8 +13,9 @@ insert-requires c κs =
 
 returns : tie.Need-returns
 returns c =
-    let e = c .before .before .before .before .before .before .insert .ensures in
-    let l = c .before .before .before .before .before .before .before .before .before .before .if1 .taken in
+    let earlier = c .before .before .before .before .before in
+    let e = earlier .before .insert .ensures in
+    let l = earlier .before .before .before .before .before .if1 .taken in
     (take-one l (e .0), (take-one l refl, e .1))
 
 returns-2 : tie.Need-returns-2
@@ -22,15 +23,5 @@ returns-2 c = let l = c .if1 .left in (take-none l, (take-none l, c .before .bef
 
 pub take-in-spec : {M : Type 1} → statement M
 take-in-spec =
-    tie.close
-    (tie.spec
-    insert-requires
-    (λ c. search needs)
-    (λ c. search needs)
-    (λ c. search needs)
-    (λ c. search needs)
-    (λ c. search needs)
-    (λ c. search needs)
-    (λ c. search needs)
-    returns
-    returns-2)
+    tie.close (tie.spec insert-requires (λ c. search needs) (λ c. search needs) (λ c. search needs) (λ c. search needs) (λ c. search needs) (λ c. search needs)
+    (λ c. search needs) returns returns-2)

@@ -28,7 +28,8 @@ put-keys-below t =
     and 2 put-keys-kinds.ps (falls 2 put-keys-kinds.ps _<_ μ-put-keys t) put-keys.Pre
 
 abbrev put-keys-Inv-loop : put-keys-lts.InvT-loop
-put-keys-Inv-loop s at out₀ offset parent item levels p₀ out p = (p .at ≤ length s) × (p .count ≤ p .offset) × (length out ≡ length out₀) × Going s at out₀ offset parent item levels out p
+put-keys-Inv-loop s at out₀ offset parent item levels p₀ out p =
+    (p .at ≤ length s) × (p .count ≤ p .offset) × (length out ≡ length out₀) × Going s at out₀ offset parent item levels out p
 
 abbrev put-keys-μ-loop : put-keys-lts.MeasureT-loop
 put-keys-μ-loop s at out₀ offset parent item levels p₀ out p = length s - p .at
@@ -55,7 +56,8 @@ put-keys-is-opening-requires : (t : ℕ) → put-keys-lts.Need-is-opening-requir
   finish-key-reads.Asked,
   finish-key-reads.Learnt,
 ) (put-keys-at t) put-keys.Post put-keys-Inv-loop put-keys-μ-loop
-put-keys-is-opening-requires t c κs = (c .loop .inv .0, going-laid _ _ _ _ _ _ _ _ _ (c .loop .inv .3) _ _ (c .before .before .before .pre .1 .2) (c .before .before .before .pre .1 .3))
+put-keys-is-opening-requires t c κs =
+    (c .loop .inv .0, going-laid _ _ _ _ _ _ _ _ _ (c .loop .inv .3) _ _ (c .before .before .before .pre .1 .2) (c .before .before .before .pre .1 .3))
 
 put-keys-start-key-requires : (t : ℕ) → put-keys-lts.Need-start-key-requires (
   is-opening-reads.Asked,
@@ -68,8 +70,10 @@ put-keys-start-key-requires : (t : ℕ) → put-keys-lts.Need-start-key-requires
   finish-key-reads.Learnt,
 ) (put-keys-at t) put-keys.Post put-keys-Inv-loop put-keys-μ-loop
 put-keys-start-key-requires t c κs =
-    let pre = c .before .before .before .before .before .before .pre in
-    key-starts _ _ _ _ _ _ _ _ _ (c .before .before .before .loop .inv .3) (sym (c .before .before .is-opening .ensures) ∙ c .before .if1 .taken) (c .before .before .before .loop .inv .2) _ _ (pre .1 .2) (pre .1 .3)
+    let at-loop = c .before .before .before in
+    let pre = at-loop .before .before .before .pre in
+    key-starts _ _ _ _ _ _ _ _ _ (at-loop .loop .inv .3) (sym (c .before .before .is-opening .ensures) ∙ c .before .if1 .taken) (at-loop .loop .inv .2) _ _
+    (pre .1 .2) (pre .1 .3)
 
 put-keys-is-opening-requires-2 : (t : ℕ) → put-keys-lts.Need-is-opening-requires-2 (
   is-opening-reads.Asked,
@@ -82,8 +86,11 @@ put-keys-is-opening-requires-2 : (t : ℕ) → put-keys-lts.Need-is-opening-requ
   finish-key-reads.Learnt,
 ) (put-keys-at t) put-keys.Post put-keys-Inv-loop put-keys-μ-loop
 put-keys-is-opening-requires-2 t c κs =
-    let pre = c .before .before .before .before .before .before .before .before .before .pre in
-    behind-values _ _ _ _ _ _ _ _ _ (c .before .before .before .before .before .before .loop .inv .3) (sym (c .before .before .before .before .before .is-opening .ensures) ∙ c .before .before .before .before .if1 .taken) (c .before .before .before .before .before .before .loop .inv .2) _ _ (pre .1 .2) (pre .1 .3) _ _ (c .before .before .start-key .ensures)
+    let at-is-opening = c .before .before .before .before .before in
+    let pre = at-is-opening .before .before .before .before .pre in
+    behind-values _ _ _ _ _ _ _ _ _ (at-is-opening .before .loop .inv .3)
+    (sym (at-is-opening .is-opening .ensures) ∙ c .before .before .before .before .if1 .taken) (at-is-opening .before .loop .inv .2) _ _ (pre .1 .2)
+    (pre .1 .3) _ _ (c .before .before .start-key .ensures)
 
 put-keys-sub-put-keys : (t : ℕ) → put-keys-lts.Need-sub-put-keys (
   is-opening-reads.Asked,
@@ -97,7 +104,11 @@ put-keys-sub-put-keys : (t : ℕ) → put-keys-lts.Need-sub-put-keys (
 ) (put-keys-at t) put-keys.Post put-keys-Inv-loop put-keys-μ-loop
 put-keys-sub-put-keys t c =
     let pre = c .before .before .before .before .before .before .before .before .before .before .before .before .pre in
-    let l = a-level _ _ _ _ _ _ _ _ _ (c .before .before .before .before .before .before .before .before .before .loop .inv .3) (sym (c .before .before .before .before .before .before .before .before .is-opening .ensures) ∙ c .before .before .before .before .before .before .before .if1 .taken) (c .before .before .before .before .before .before .before .before .before .loop .inv .2) _ _ (pre .1 .2) (pre .1 .3) in
+    let l =
+    a-level _ _ _ _ _ _ _ _ _ (c .before .before .before .before .before .before .before .before .before .loop .inv .3)
+    (sym (c .before .before .before .before .before .before .before .before .is-opening .ensures)
+    ∙ c .before .before .before .before .before .before .before .if1 .taken)
+    (c .before .before .before .before .before .before .before .before .before .loop .inv .2) _ _ (pre .1 .2) (pre .1 .3) in
     omega (arith, l)
 
 put-keys-put-keys-requires : (t : ℕ) → put-keys-lts.Need-put-keys-requires (
@@ -113,10 +124,14 @@ put-keys-put-keys-requires : (t : ℕ) → put-keys-lts.Need-put-keys-requires (
 put-keys-put-keys-requires t c κs =
     let pre = c .before .before .before .before .before .before .before .before .before .before .before .before .pre in
     let g = c .before .before .before .before .before .before .before .before .before .loop .inv .3 in
-    let one = sym (c .before .before .before .before .before .before .before .before .is-opening .ensures) ∙ c .before .before .before .before .before .before .before .if1 .taken in
+    let one =
+    sym (c .before .before .before .before .before .before .before .before .is-opening .ensures)
+    ∙ c .before .before .before .before .before .before .before .if1 .taken in
     let same = c .before .before .before .before .before .before .before .before .before .loop .inv .2 in
-    let l = a-level _ _ _ _ _ _ _ _ _ g one same _ _ (pre .1 .2) (pre .1 .3) in
-    (omega (arith, pre .0, l), keys-below _ _ _ _ _ _ _ _ _ g one same _ _ (pre .1 .2) (pre .1 .3) _ _ (c .before .before .before .before .before .start-key .ensures) (pre .1 .5))
+    let l = a-level _ _ _ _ _ _ _ _ _ g one same _ _ (pre .1 .2) (pre .1 .3) in (
+      omega (arith, pre .0, l),
+      keys-below _ _ _ _ _ _ _ _ _ g one same _ _ (pre .1 .2) (pre .1 .3) _ _ (c .before .before .before .before .before .start-key .ensures) (pre .1 .5),
+    )
 
 put-keys-finish-key-requires : (t : ℕ) → put-keys-lts.Need-finish-key-requires (
   is-opening-reads.Asked,
@@ -129,8 +144,19 @@ put-keys-finish-key-requires : (t : ℕ) → put-keys-lts.Need-finish-key-requir
   finish-key-reads.Learnt,
 ) (put-keys-at t) put-keys.Post put-keys-Inv-loop put-keys-μ-loop
 put-keys-finish-key-requires t c κs =
-    let pre = c .before .before .before .before .before .before .before .before .before .before .before .before .pre in
-    (key-finishes _ _ _ _ _ _ _ _ _ (c .before .before .before .before .before .before .before .before .before .loop .inv .3) (sym (c .before .before .before .before .before .before .before .before .is-opening .ensures) ∙ c .before .before .before .before .before .before .before .if1 .taken) (c .before .before .before .before .before .before .before .before .before .loop .inv .2) _ _ (pre .1 .2) (pre .1 .3) _ _ (c .before .before .before .before .before .start-key .ensures) _ _ (⊎-elim (λ x. below-is _ _ _ _ _ _ _ (x .5) (x .6) (x .2 .ensures)) (λ x. below-is _ _ _ _ _ _ _ (x .1) (x .2) (none-below _ _ _ _ _ _ _ (sym (c .before .before .is-opening2 .ensures) ∙ x .0 .left))) (c .before .if2 .came)) (c .before .before .before .before .before .before .before .before .before .loop .inv .1), pre .1 .4, pre .1 .5)
+    let at-start-key = c .before .before .before .before .before in
+    let at-loop = at-start-key .before .before .before .before in
+    let pre = at-loop .before .before .before .pre in (
+      key-finishes _ _ _ _ _ _ _ _ _ (at-loop .loop .inv .3)
+          (sym (at-start-key .before .before .before .is-opening .ensures) ∙ at-start-key .before .before .if1 .taken) (at-loop .loop .inv .2) _ _ (pre .1 .2)
+          (pre .1 .3) _ _ (at-start-key .start-key .ensures) _ _
+          (⊎-elim (λ x. below-is _ _ _ _ _ _ _ (x .5) (x .6) (x .2 .ensures))
+          (λ x. below-is _ _ _ _ _ _ _ (x .1) (x .2) (none-below _ _ _ _ _ _ _ (sym (c .before .before .is-opening2 .ensures) ∙ x .0 .left)))
+          (c .before .if2 .came))
+          (at-loop .loop .inv .1),
+      pre .1 .4,
+      pre .1 .5,
+    )
 
 put-keys-loop-less : (t : ℕ) → put-keys-lts.Need-loop-less (
   is-opening-reads.Asked,
@@ -145,12 +171,20 @@ put-keys-loop-less : (t : ℕ) → put-keys-lts.Need-loop-less (
 put-keys-loop-less t c =
     let pre = c .before .before .before .before .before .before .before .before .before .before .before .before .before .before .before .pre in
     let g = c .before .before .before .before .before .before .before .before .before .before .before .before .loop .inv .3 in
-    let one = sym (c .before .before .before .before .before .before .before .before .before .before .before .is-opening .ensures) ∙ c .before .before .before .before .before .before .before .before .before .before .if1 .taken in
+    let one =
+    sym (c .before .before .before .before .before .before .before .before .before .before .before .is-opening .ensures)
+    ∙ c .before .before .before .before .before .before .before .before .before .before .if1 .taken in
     let same = c .before .before .before .before .before .before .before .before .before .before .before .before .loop .inv .2 in
     let few = c .before .before .before .before .before .before .before .before .before .before .before .before .loop .inv .1 in
     let d = c .before .before .before .before .before .before .before .before .start-key .ensures in
     let e = c .before .before .finish-key .ensures in
-    let o = onward _ _ _ _ _ _ _ _ _ g one same _ _ (pre .1 .2) (pre .1 .3) _ _ d _ _ (⊎-elim (λ x. below-is _ _ _ _ _ _ _ (x .5) (x .6) (x .2 .ensures)) (λ x. below-is _ _ _ _ _ _ _ (x .1) (x .2) (none-below _ _ _ _ _ _ _ (sym (c .before .before .before .before .before .is-opening2 .ensures) ∙ x .0 .left))) (c .before .before .before .before .if2 .came)) few _ _ e in
+    let o =
+    onward _ _ _ _ _ _ _ _ _ g one same _ _ (pre .1 .2) (pre .1 .3) _ _ d _ _
+    (⊎-elim (λ x. below-is _ _ _ _ _ _ _ (x .5) (x .6) (x .2 .ensures))
+    (λ x. below-is _ _ _ _ _ _ _ (x .1) (x .2)
+    (none-below _ _ _ _ _ _ _ (sym (c .before .before .before .before .before .is-opening2 .ensures) ∙ x .0 .left)))
+    (c .before .before .before .before .if2 .came))
+    few _ _ e in
     omega (arith, o .0, o .1)
 
 put-keys-loop-again : (t : ℕ) → put-keys-lts.Need-loop-again (
@@ -164,15 +198,30 @@ put-keys-loop-again : (t : ℕ) → put-keys-lts.Need-loop-again (
   finish-key-reads.Learnt,
 ) (put-keys-at t) put-keys.Post put-keys-Inv-loop put-keys-μ-loop
 put-keys-loop-again t c =
-    let pre = c .before .before .before .before .before .before .before .before .before .before .before .before .before .before .before .pre in
-    let g = c .before .before .before .before .before .before .before .before .before .before .before .before .loop .inv .3 in
-    let one = sym (c .before .before .before .before .before .before .before .before .before .before .before .is-opening .ensures) ∙ c .before .before .before .before .before .before .before .before .before .before .if1 .taken in
-    let same = c .before .before .before .before .before .before .before .before .before .before .before .before .loop .inv .2 in
-    let few = c .before .before .before .before .before .before .before .before .before .before .before .before .loop .inv .1 in
-    let d = c .before .before .before .before .before .before .before .before .start-key .ensures in
+    let at-is-opening2 = c .before .before .before .before .before in
+    let at-if1 = at-is-opening2 .before .before .before .before .before in
+    let pre = at-if1 .before .before .before .before .before .pre in
+    let g = at-if1 .before .before .loop .inv .3 in
+    let one = sym (at-if1 .before .is-opening .ensures) ∙ at-if1 .if1 .taken in
+    let same = at-if1 .before .before .loop .inv .2 in
+    let few = at-if1 .before .before .loop .inv .1 in
+    let d = at-is-opening2 .before .before .before .start-key .ensures in
     let e = c .before .before .finish-key .ensures in
-    let o = onward _ _ _ _ _ _ _ _ _ g one same _ _ (pre .1 .2) (pre .1 .3) _ _ d _ _ (⊎-elim (λ x. below-is _ _ _ _ _ _ _ (x .5) (x .6) (x .2 .ensures)) (λ x. below-is _ _ _ _ _ _ _ (x .1) (x .2) (none-below _ _ _ _ _ _ _ (sym (c .before .before .before .before .before .is-opening2 .ensures) ∙ x .0 .left))) (c .before .before .before .before .if2 .came)) few _ _ e in
-    (o .1, o .2, o .3, λ f t₁ h room. rest-goes _ _ _ _ _ _ _ _ _ g one same f t₁ h room _ _ d _ _ (⊎-elim (λ x. below-is _ _ _ _ _ _ _ (x .5) (x .6) (x .2 .ensures)) (λ x. below-is _ _ _ _ _ _ _ (x .1) (x .2) (none-below _ _ _ _ _ _ _ (sym (c .before .before .before .before .before .is-opening2 .ensures) ∙ x .0 .left))) (c .before .before .before .before .if2 .came)) few _ _ e)
+    let o =
+    onward _ _ _ _ _ _ _ _ _ g one same _ _ (pre .1 .2) (pre .1 .3) _ _ d _ _
+    (⊎-elim (λ x. below-is _ _ _ _ _ _ _ (x .5) (x .6) (x .2 .ensures))
+    (λ x. below-is _ _ _ _ _ _ _ (x .1) (x .2) (none-below _ _ _ _ _ _ _ (sym (at-is-opening2 .is-opening2 .ensures) ∙ x .0 .left)))
+    (c .before .before .before .before .if2 .came))
+    few _ _ e in (
+      o .1,
+      o .2,
+      o .3,
+      λ f t₁ h room. rest-goes _ _ _ _ _ _ _ _ _ g one same f t₁ h room _ _ d _ _
+          (⊎-elim (λ x. below-is _ _ _ _ _ _ _ (x .5) (x .6) (x .2 .ensures))
+          (λ x. below-is _ _ _ _ _ _ _ (x .1) (x .2) (none-below _ _ _ _ _ _ _ (sym (at-is-opening2 .is-opening2 .ensures) ∙ x .0 .left)))
+          (c .before .before .before .before .if2 .came))
+          few _ _ e,
+    )
 
 put-keys-same-length : (t : ℕ) → put-keys-lts.Need-same-length (
   is-opening-reads.Asked,

@@ -23,34 +23,27 @@ add-t9-2 : tie.Need-add-t9-2
 add-t9-2 c = let a = c .before .before .before .args in let r = value-there (a .s .now) (a .at) (c .before .before .before .pre) in omega arith
 
 add-t10 : tie.Need-add-t10
-add-t10 c = let a = c .before .before .before .args in let r = value-there (a .s .now) (a .at) (c .before .before .before .pre) in omega (arith, c .u32-at2 .ensures)
+add-t10 c =
+    let a = c .before .before .before .args in let r = value-there (a .s .now) (a .at) (c .before .before .before .pre) in omega (arith, c .u32-at2 .ensures)
 
 sub-t11 : tie.Need-sub-t11
-sub-t11 c = let a = c .before .before .before .args in let r = value-there (a .s .now) (a .at) (c .before .before .before .pre) in omega (arith, c .before .u32-at .ensures)
+sub-t11 c =
+    let a = c .before .before .before .args in
+    let r = value-there (a .s .now) (a .at) (c .before .before .before .pre) in omega (arith, c .before .u32-at .ensures)
 
 sub-t12 : tie.Need-sub-t12
-sub-t12 c = let a = c .before .before .before .args in let r = value-there (a .s .now) (a .at) (c .before .before .before .pre) in omega (arith, c .u32-at2 .ensures, c .before .u32-at .ensures)
+sub-t12 c =
+    let a = c .before .before .before .args in
+    let r = value-there (a .s .now) (a .at) (c .before .before .before .pre) in omega (arith, c .u32-at2 .ensures, c .before .u32-at .ensures)
 
 u32-at-requires-3 : tie.Need-u32-at-requires-3
 u32-at-requires-3 c κs = let a = c .before .before .before .args in let r = value-there (a .s .now) (a .at) (c .before .before .before .pre) in omega arith
 
 returns : tie.Need-returns
-returns c = value-read _ _ (c .before .before .before .before .pre) _ _ _ (c .before .before .u32-at .ensures) (c .before .u32-at2 .ensures) (c .u32-at3 .ensures)
+returns c =
+    value-read _ _ (c .before .before .before .before .pre) _ _ _ (c .before .before .u32-at .ensures) (c .before .u32-at2 .ensures) (c .u32-at3 .ensures)
 
 pub held-at-spec : {M : Type 1} → statement M
 held-at-spec =
-    tie.close
-    (tie.spec
-    u32-at-requires
-    (λ c. search needs)
-    add-start
-    add-u32-at
-    u32-at-requires-2
-    (λ c. search needs)
-    add-t9
-    add-t9-2
-    add-t10
-    sub-t11
-    sub-t12
-    u32-at-requires-3
-    returns)
+    tie.close (tie.spec u32-at-requires (λ c. search needs) add-start add-u32-at u32-at-requires-2 (λ c. search needs) add-t9 add-t9-2 add-t10 sub-t11 sub-t12
+    u32-at-requires-3 returns)

@@ -6,11 +6,5 @@ use Rattle.build_write.proofs.is_value.Tie as tie
 add-u16-at : tie.Need-add-u16-at
 add-u16-at c = let e = kind-there (c .before .args .s .now) (c .before .args .at) (c .before .pre) in omega arith
 
-u16-at-requires : tie.Need-u16-at-requires
-u16-at-requires c κs = kind-there _ _ (c .before .pre)
-
-returns : tie.Need-returns
-returns c = value-told _ _ (c .before .before .pre) _ (c .u16-at .ensures)
-
 pub is-value-spec : {M : Type 1} → statement M
-is-value-spec = tie.close (tie.spec add-u16-at u16-at-requires returns)
+is-value-spec = tie.close (tie.spec add-u16-at (λ c κs. kind-there _ _ (c .before .pre)) (λ c. value-told _ _ (c .before .before .pre) _ (c .u16-at .ensures)))

@@ -12,30 +12,32 @@ Inv-loop out₀ place first n p₀ out p = (length out ≡ length out₀) × Goi
 abbrev μ-loop : tie.MeasureT-loop
 μ-loop out₀ place first n p₀ out p = p .left
 
-loop-holds : tie.Need-loop-holds Inv-loop μ-loop
-loop-holds c = (refl, starts-going _ _ _ _)
-
 put-element-requires : tie.Need-put-element-requires Inv-loop μ-loop
-put-element-requires c κs = element-fits _ _ _ _ _ _ (c .before .before .before .loop .inv .1) (c .before .if1 .taken) _ (c .before .before .before .loop .inv .0) (c .before .before .before .before .before .pre .0) (c .before .before .before .before .before .pre .1) (c .before .before .before .before .before .pre .2) (c .before .before .before .before .before .pre .3) (c .before .before .before .before .before .pre .4)
+put-element-requires c κs =
+    element-fits _ _ _ _ _ _ (c .before .before .before .loop .inv .1) (c .before .if1 .taken) _ (c .before .before .before .loop .inv .0)
+    (c .before .before .before .before .before .pre .0) (c .before .before .before .before .before .pre .1)
+    (c .before .before .before .before .before .pre .2) (c .before .before .before .before .before .pre .3)
+    (c .before .before .before .before .before .pre .4)
 
 loop-less : tie.Need-loop-less Inv-loop μ-loop
-loop-less c = let x = element-fits _ _ _ _ _ _ (c .before .before .before .before .before .before .loop .inv .1) (c .before .before .before .before .if1 .taken) _ (c .before .before .before .before .before .before .loop .inv .0) (c .before .before .before .before .before .before .before .before .pre .0) (c .before .before .before .before .before .before .before .before .pre .1) (c .before .before .before .before .before .before .before .before .pre .2) (c .before .before .before .before .before .before .before .before .pre .3) (c .before .before .before .before .before .before .before .before .pre .4) in let m = c .before .before .put-element .ensures (x .2 .0) (x .2 .1) (x .2 .2) (x .2 .3) in omega (arith, m .fewer)
+loop-less c =
+    let x =
+    element-fits _ _ _ _ _ _ (c .before .before .before .before .before .before .loop .inv .1) (c .before .before .before .before .if1 .taken) _
+    (c .before .before .before .before .before .before .loop .inv .0) (c .before .before .before .before .before .before .before .before .pre .0)
+    (c .before .before .before .before .before .before .before .before .pre .1)
+    (c .before .before .before .before .before .before .before .before .pre .2)
+    (c .before .before .before .before .before .before .before .before .pre .3)
+    (c .before .before .before .before .before .before .before .before .pre .4) in
+    let m = c .before .before .put-element .ensures (x .2 .0) (x .2 .1) (x .2 .2) (x .2 .3) in omega (arith, m .fewer)
 
 loop-again : tie.Need-loop-again Inv-loop μ-loop
-loop-again c = (omega (arith, c .before .before .before .before .before .before .loop .inv .0), goes-on _ _ _ _ _ _ (c .before .before .before .before .before .before .loop .inv .1) (c .before .before .before .before .if1 .taken) _ _ (c .before .before .put-element .ensures))
-
-returns : tie.Need-returns Inv-loop μ-loop
-returns c = all-there _ _ _ _ _ _ (c .before .before .loop .inv .1) (c .if1 .left)
+loop-again c = (
+  omega (arith, c .before .before .before .before .before .before .loop .inv .0),
+  goes-on _ _ _ _ _ _ (c .before .before .before .before .before .before .loop .inv .1) (c .before .before .before .before .if1 .taken) _ _
+      (c .before .before .put-element .ensures),
+)
 
 pub put-elements-spec : {M : Type 1} → statement M
 put-elements-spec =
-    tie.close
-    (tie.spec
-    Inv-loop
-    μ-loop
-    loop-holds
-    put-element-requires
-    loop-less
-    loop-again
-    (λ c. search needs)
-    returns)
+    tie.close (tie.spec Inv-loop μ-loop (λ c. (refl, starts-going _ _ _ _)) put-element-requires loop-less loop-again (λ c. search needs)
+    (λ c. all-there _ _ _ _ _ _ (c .before .before .loop .inv .1) (c .if1 .left)))

@@ -20,27 +20,46 @@ is-value-requires : tie.Need-is-value-requires Inv-loop μ-loop
 is-value-requires c κs = listed-laid _ _ _ _ _ _ _ (c .loop .inv .2) _ _ (c .before .before .before .pre .2)
 
 list-next-requires : tie.Need-list-next-requires Inv-loop μ-loop
-list-next-requires c κs = list-fits _ _ _ _ _ _ _ (c .before .before .before .loop .inv .2) (sym (c .before .before .is-value .ensures) ∙ c .before .if1 .taken) _ (c .before .before .before .before .before .before .pre .0) (c .before .before .before .before .before .before .pre .1) (c .before .before .before .before .before .before .pre .2) (c .before .before .before .before .before .before .pre .3) (more-room (c .before .before .before .loop .inv .1) (c .before .before .before .before .before .before .pre .4))
+list-next-requires c κs =
+    let at-loop = c .before .before .before in
+    let at-entry = at-loop .before .before .before in
+    list-fits _ _ _ _ _ _ _ (at-loop .loop .inv .2) (sym (c .before .before .is-value .ensures) ∙ c .before .if1 .taken) _ (at-entry .pre .0) (at-entry .pre .1)
+    (at-entry .pre .2) (at-entry .pre .3) (more-room (at-loop .loop .inv .1) (at-entry .pre .4))
 
 loop-less : tie.Need-loop-less Inv-loop μ-loop
-loop-less c = let x = list-fits _ _ _ _ _ _ _ (c .before .before .before .before .before .before .loop .inv .2) (sym (c .before .before .before .before .before .is-value .ensures) ∙ c .before .before .before .before .if1 .taken) _ (c .before .before .before .before .before .before .before .before .before .pre .0) (c .before .before .before .before .before .before .before .before .before .pre .1) (c .before .before .before .before .before .before .before .before .before .pre .2) (c .before .before .before .before .before .before .before .before .before .pre .3) (more-room (c .before .before .before .before .before .before .loop .inv .1) (c .before .before .before .before .before .before .before .before .before .pre .4)) in let m = c .before .before .list-next .ensures (x .0) (x .1 .is) in omega (arith, m .further, m .inside)
+loop-less c =
+    let x =
+    list-fits _ _ _ _ _ _ _ (c .before .before .before .before .before .before .loop .inv .2)
+    (sym (c .before .before .before .before .before .is-value .ensures) ∙ c .before .before .before .before .if1 .taken) _
+    (c .before .before .before .before .before .before .before .before .before .pre .0)
+    (c .before .before .before .before .before .before .before .before .before .pre .1)
+    (c .before .before .before .before .before .before .before .before .before .pre .2)
+    (c .before .before .before .before .before .before .before .before .before .pre .3)
+    (more-room (c .before .before .before .before .before .before .loop .inv .1)
+    (c .before .before .before .before .before .before .before .before .before .pre .4)) in
+    let m = c .before .before .list-next .ensures (x .0) (x .1 .is) in omega (arith, m .further, m .inside)
 
 loop-again : tie.Need-loop-again Inv-loop μ-loop
-loop-again c = let x = list-fits _ _ _ _ _ _ _ (c .before .before .before .before .before .before .loop .inv .2) (sym (c .before .before .before .before .before .is-value .ensures) ∙ c .before .before .before .before .if1 .taken) _ (c .before .before .before .before .before .before .before .before .before .pre .0) (c .before .before .before .before .before .before .before .before .before .pre .1) (c .before .before .before .before .before .before .before .before .before .pre .2) (c .before .before .before .before .before .before .before .before .before .pre .3) (more-room (c .before .before .before .before .before .before .loop .inv .1) (c .before .before .before .before .before .before .before .before .before .pre .4)) in let m = c .before .before .list-next .ensures (x .0) (x .1 .is) in (m .inside, omega (arith, c .before .before .before .before .before .before .loop .inv .1), lists-on _ _ _ _ _ _ _ (c .before .before .before .before .before .before .loop .inv .2) (sym (c .before .before .before .before .before .is-value .ensures) ∙ c .before .before .before .before .if1 .taken) _ _ (c .before .before .list-next .ensures))
+loop-again c =
+    let x =
+    list-fits _ _ _ _ _ _ _ (c .before .before .before .before .before .before .loop .inv .2)
+    (sym (c .before .before .before .before .before .is-value .ensures) ∙ c .before .before .before .before .if1 .taken) _
+    (c .before .before .before .before .before .before .before .before .before .pre .0)
+    (c .before .before .before .before .before .before .before .before .before .pre .1)
+    (c .before .before .before .before .before .before .before .before .before .pre .2)
+    (c .before .before .before .before .before .before .before .before .before .pre .3)
+    (more-room (c .before .before .before .before .before .before .loop .inv .1)
+    (c .before .before .before .before .before .before .before .before .before .pre .4)) in
+    let m = c .before .before .list-next .ensures (x .0) (x .1 .is) in (
+      m .inside,
+      omega (arith, c .before .before .before .before .before .before .loop .inv .1),
+      lists-on _ _ _ _ _ _ _ (c .before .before .before .before .before .before .loop .inv .2)
+          (sym (c .before .before .before .before .before .is-value .ensures) ∙ c .before .before .before .before .if1 .taken) _ _
+          (c .before .before .list-next .ensures),
+    )
 
 returns : tie.Need-returns Inv-loop μ-loop
 returns c = all-listed _ _ _ _ _ _ _ (c .before .before .loop .inv .2) (sym (c .before .is-value .ensures) ∙ c .if1 .left)
 
 pub put-offsets-spec : {M : Type 1} → statement M
-put-offsets-spec =
-    tie.close
-    (tie.spec
-    Inv-loop
-    μ-loop
-    loop-holds
-    is-value-requires
-    list-next-requires
-    loop-less
-    loop-again
-    (λ c. search needs)
-    returns)
+put-offsets-spec = tie.close (tie.spec Inv-loop μ-loop loop-holds is-value-requires list-next-requires loop-less loop-again (λ c. search needs) returns)

@@ -15,45 +15,49 @@ cast-t18 : tie.Need-cast-t18
 cast-t18 c = omega (arith, (known-few _ _ _ _ _ _ _ _ (c .before .before .before .before .before .before .before .before .before .pre .4)) .0)
 
 cast-t21 : tie.Need-cast-t21
-cast-t21 c = omega (arith, (known-bounds _ _ _ _ _ _ _ _ (c .before .before .before .before .before .before .before .before .before .before .before .pre .4)) .0)
+cast-t21 c =
+    omega (arith, (known-bounds _ _ _ _ _ _ _ _ (c .before .before .before .before .before .before .before .before .before .before .before .pre .4)) .0)
 
 cast-t22 : tie.Need-cast-t22
-cast-t22 c = omega (arith, (known-bounds _ _ _ _ _ _ _ _ (c .before .before .before .before .before .before .before .before .before .before .before .before .pre .4)) .1)
+cast-t22 c =
+    omega (arith, (known-bounds _ _ _ _ _ _ _ _ (c .before .before .before .before .before .before .before .before .before .before .before .before .pre .4)) .1)
 
 cast-t23 : tie.Need-cast-t23
-cast-t23 c = omega (arith, (known-bounds _ _ _ _ _ _ _ _ (c .before .before .before .before .before .before .before .before .before .before .before .before .before .pre .4)) .2)
+cast-t23 c =
+    omega (
+      arith,
+      (known-bounds _ _ _ _ _ _ _ _ (c .before .before .before .before .before .before .before .before .before .before .before .before .before .pre .4)) .2,
+    )
 
 part-of-requires : tie.Need-part-of-requires
-part-of-requires c κs = c .before .before .before .before .before .before .before .before .before .before .before .before .before .pre .4 .lies .inside
+part-of-requires c κs =
+    let earlier = c .before .before .before .before .before in
+    let earlier2 = earlier .before .before .before .before .before in
+    earlier2 .before .before .before .pre .4 .lies .inside
 
 add-put-key : tie.Need-add-put-key
-add-put-key c = omega (arith, c .before .before .before .before .before .before .before .before .before .before .before .before .before .before .before .pre .4 .low)
+add-put-key c =
+    omega (arith, c .before .before .before .before .before .before .before .before .before .before .before .before .before .before .before .pre .4 .low)
 
 put-key-requires : tie.Need-put-key-requires
-put-key-requires c κs = own-room _ _ _ _ _ _ _ _ (c .before .before .before .before .before .before .before .before .before .before .before .before .before .before .before .pre .4) _ (c .before .part-of .ensures) _ (c .before .before .before .before .before .before .before .before .before .before .before .before .before .before .before .pre .7)
+put-key-requires c κs =
+    let at-part-of = c .before in
+    let earlier = at-part-of .before .before .before .before .before in
+    let earlier2 = earlier .before .before .before .before .before in
+    let at-entry = earlier2 .before .before .before .before in
+    own-room _ _ _ _ _ _ _ _ (at-entry .pre .4) _ (at-part-of .part-of .ensures) _ (at-entry .pre .7)
 
 returns : tie.Need-returns
-returns c = λ sh x vs b k. c .before .before .put-key .ensures ∙ own-put _ _ (own-record _ _ _ _ _ _ _ _ k _ (c .before .before .before .before .part-of .ensures) _ _ _ _ _ _ (c .before .before .before .before .before .before .before .before .before .before .before .before .key-flags .ensures) (c .before .before .before .before .before .before .before .before .before .before .if-any .ensures) (c .before .before .before .before .before .before .before .before .before .before .before .before .before .before .list-size .ensures) (c .before .before .before .before .before .before .before .before .if-any2 .ensures))
+returns c =
+    let at-part-of = c .before .before .before .before in
+    let at-if-any2 = at-part-of .before .before .before .before in
+    let at-key-flags = at-if-any2 .before .before .before .before in
+    λ sh x vs b k. c .before .before .put-key .ensures
+    ∙ own-put _ _
+    (own-record _ _ _ _ _ _ _ _ k _ (at-part-of .part-of .ensures) _ _ _ _ _ _ (at-key-flags .key-flags .ensures)
+    (at-if-any2 .before .before .if-any .ensures) (at-key-flags .before .before .list-size .ensures) (at-if-any2 .if-any2 .ensures))
 
 pub put-own-spec : {M : Type 1} → statement M
 put-own-spec =
-    tie.close
-    (tie.spec
-    list-size-requires
-    sub-list
-    (λ c. search needs)
-    (λ c κs. search needs)
-    (λ c. search needs)
-    (λ c. search needs)
-    (λ c κs. search needs)
-    cast-t18
-    (λ c κs. search needs)
-    (λ c. search needs)
-    cast-t21
-    cast-t22
-    cast-t23
-    part-of-requires
-    add-put-key
-    put-key-requires
-    (λ c. search needs)
-    returns)
+    tie.close (tie.spec list-size-requires sub-list (λ c. search needs) (λ c κs. search needs) (λ c. search needs) (λ c. search needs) (λ c κs. search needs)
+    cast-t18 (λ c κs. search needs) (λ c. search needs) cast-t21 cast-t22 cast-t23 part-of-requires add-put-key put-key-requires (λ c. search needs) returns)

@@ -21,27 +21,47 @@ is-value-requires : tie.Need-is-value-requires Inv-loop μ-loop
 is-value-requires c κs = going-laid _ _ _ _ _ _ (c .loop .inv .3) _ _ (c .before .before .before .pre .2)
 
 put-next-requires : tie.Need-put-next-requires Inv-loop μ-loop
-put-next-requires c κs = next-fits _ _ _ _ _ _ (c .before .before .before .loop .inv .3) (sym (c .before .before .is-value .ensures) ∙ c .before .if1 .taken) _ (c .before .before .before .loop .inv .1) (c .before .before .before .before .before .before .pre .0) (c .before .before .before .before .before .before .pre .1) (c .before .before .before .before .before .before .pre .2) (room-in (c .before .before .before .loop .inv .2) (c .before .before .before .before .before .before .pre .3))
+put-next-requires c κs =
+    let at-loop = c .before .before .before in
+    let at-entry = at-loop .before .before .before in
+    next-fits _ _ _ _ _ _ (at-loop .loop .inv .3) (sym (c .before .before .is-value .ensures) ∙ c .before .if1 .taken) _ (at-loop .loop .inv .1)
+    (at-entry .pre .0) (at-entry .pre .1) (at-entry .pre .2) (room-in (at-loop .loop .inv .2) (at-entry .pre .3))
 
 loop-less : tie.Need-loop-less Inv-loop μ-loop
-loop-less c = let x = next-fits _ _ _ _ _ _ (c .before .before .before .before .before .before .loop .inv .3) (sym (c .before .before .before .before .before .is-value .ensures) ∙ c .before .before .before .before .if1 .taken) _ (c .before .before .before .before .before .before .loop .inv .1) (c .before .before .before .before .before .before .before .before .before .pre .0) (c .before .before .before .before .before .before .before .before .before .pre .1) (c .before .before .before .before .before .before .before .before .before .pre .2) (room-in (c .before .before .before .before .before .before .loop .inv .2) (c .before .before .before .before .before .before .before .before .before .pre .3)) in let m = c .before .before .put-next .ensures (x .0) (x .1 .is) in omega (arith, m .further, m .inside)
+loop-less c =
+    let x =
+    next-fits _ _ _ _ _ _ (c .before .before .before .before .before .before .loop .inv .3)
+    (sym (c .before .before .before .before .before .is-value .ensures) ∙ c .before .before .before .before .if1 .taken) _
+    (c .before .before .before .before .before .before .loop .inv .1)
+    (c .before .before .before .before .before .before .before .before .before .pre .0)
+    (c .before .before .before .before .before .before .before .before .before .pre .1)
+    (c .before .before .before .before .before .before .before .before .before .pre .2)
+    (room-in (c .before .before .before .before .before .before .loop .inv .2)
+    (c .before .before .before .before .before .before .before .before .before .pre .3)) in
+    let m = c .before .before .put-next .ensures (x .0) (x .1 .is) in omega (arith, m .further, m .inside)
 
 loop-again : tie.Need-loop-again Inv-loop μ-loop
-loop-again c = let x = next-fits _ _ _ _ _ _ (c .before .before .before .before .before .before .loop .inv .3) (sym (c .before .before .before .before .before .is-value .ensures) ∙ c .before .before .before .before .if1 .taken) _ (c .before .before .before .before .before .before .loop .inv .1) (c .before .before .before .before .before .before .before .before .before .pre .0) (c .before .before .before .before .before .before .before .before .before .pre .1) (c .before .before .before .before .before .before .before .before .before .pre .2) (room-in (c .before .before .before .before .before .before .loop .inv .2) (c .before .before .before .before .before .before .before .before .before .pre .3)) in let m = c .before .before .put-next .ensures (x .0) (x .1 .is) in (m .inside, omega (arith, m .counted, m .behind, value-least (x .0), c .before .before .before .before .before .before .loop .inv .1), omega (arith, c .before .before .before .before .before .before .loop .inv .2), goes-on _ _ _ _ _ _ (c .before .before .before .before .before .before .loop .inv .3) (sym (c .before .before .before .before .before .is-value .ensures) ∙ c .before .before .before .before .if1 .taken) _ _ (c .before .before .put-next .ensures))
+loop-again c =
+    let x =
+    next-fits _ _ _ _ _ _ (c .before .before .before .before .before .before .loop .inv .3)
+    (sym (c .before .before .before .before .before .is-value .ensures) ∙ c .before .before .before .before .if1 .taken) _
+    (c .before .before .before .before .before .before .loop .inv .1)
+    (c .before .before .before .before .before .before .before .before .before .pre .0)
+    (c .before .before .before .before .before .before .before .before .before .pre .1)
+    (c .before .before .before .before .before .before .before .before .before .pre .2)
+    (room-in (c .before .before .before .before .before .before .loop .inv .2)
+    (c .before .before .before .before .before .before .before .before .before .pre .3)) in
+    let m = c .before .before .put-next .ensures (x .0) (x .1 .is) in (
+      m .inside,
+      omega (arith, m .counted, m .behind, value-least (x .0), c .before .before .before .before .before .before .loop .inv .1),
+      omega (arith, c .before .before .before .before .before .before .loop .inv .2),
+      goes-on _ _ _ _ _ _ (c .before .before .before .before .before .before .loop .inv .3)
+          (sym (c .before .before .before .before .before .is-value .ensures) ∙ c .before .before .before .before .if1 .taken) _ _
+          (c .before .before .put-next .ensures),
+    )
 
 returns : tie.Need-returns Inv-loop μ-loop
 returns c = all-written _ _ _ _ _ _ (c .before .before .loop .inv .3) (sym (c .before .is-value .ensures) ∙ c .if1 .left)
 
 pub put-values-spec : {M : Type 1} → statement M
-put-values-spec =
-    tie.close
-    (tie.spec
-    Inv-loop
-    μ-loop
-    loop-holds
-    is-value-requires
-    put-next-requires
-    loop-less
-    loop-again
-    (λ c. search needs)
-    returns)
+put-values-spec = tie.close (tie.spec Inv-loop μ-loop loop-holds is-value-requires put-next-requires loop-less loop-again (λ c. search needs) returns)

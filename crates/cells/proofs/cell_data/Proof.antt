@@ -11,5 +11,4 @@ returns c = let k = c .before .before .before .args .c in rw (add-sub-cancel-lef
 
 pub cell-data-spec : {M : Type 1} → statement M
 cell-data-spec =
-    tie.close
-    (tie.spec (λ c. search needs) (λ c. search needs) (λ c. search needs) (λ c. search needs) (λ c. search needs) (λ c. search needs) returns)
+    tie.close (tie.spec (λ c. search needs) (λ c. search needs) (λ c. search needs) (λ c. search needs) (λ c. search needs) (λ c. search needs) returns)

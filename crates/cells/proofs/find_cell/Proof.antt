@@ -15,6 +15,4 @@ returns-2 : tie.Need-returns-2
 returns-2 c = sym (length-some _ _ _ _ _ (c .before .named-length .ensures) (c .if1 .left) .0)
 
 pub find-cell-spec : {M : Type 1} → statement M
-find-cell-spec =
-    tie.close
-    (tie.spec (λ c κs. search needs) returns sub-t9 returns-2)
+find-cell-spec = tie.close (tie.spec (λ c κs. search needs) returns sub-t9 returns-2)

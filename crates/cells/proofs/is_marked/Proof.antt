@@ -4,11 +4,8 @@ use borrow.Author.Needs.{needs}
 use Rattle.cells.proofs.is_marked.Statement.{statement}
 use Rattle.cells.proofs.is_marked.Tie as tie
 
-returns : tie.Need-returns
-returns c = sym (marked-odd _ _ (c .if1 .taken))
-
-returns-2 : tie.Need-returns-2
-returns-2 c = c .is-marked .ensures ∙ sym (marked-set _ _ (c .before .if1 .left))
-
 pub is-marked-spec : {M : Type 1} → statement M
-is-marked-spec = tie.close (tie.spec (λ c. search needs) returns (λ c κs. search needs) returns-2)
+is-marked-spec =
+    tie.close
+    (tie.spec (λ c. search needs) (λ c. sym (marked-odd _ _ (c .if1 .taken))) (λ c κs. search needs)
+    (λ c. c .is-marked .ensures ∙ sym (marked-set _ _ (c .before .if1 .left))))

@@ -17,5 +17,4 @@ unfolding markAt
 returns-2 c = sym (set-out _ _ _ (omega arith))
 
 pub mark-spec : {M : Type 1} → statement M
-mark-spec =
-    tie.close (tie.spec (λ c. search needs) (λ c. search needs) (λ c. search needs) (λ c. search needs) (λ c. search needs) returns returns-2)
+mark-spec = tie.close (tie.spec (λ c. search needs) (λ c. search needs) (λ c. search needs) (λ c. search needs) (λ c. search needs) returns returns-2)

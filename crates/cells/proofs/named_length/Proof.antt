@@ -18,13 +18,5 @@ returns-3 c = rw (c .before .before .enum-told2 .given .1, ← c .before .is-mar
 
 pub named-length-spec : {M : Type 1} → statement M
 named-length-spec =
-    tie.close
-    (tie.spec
-    (λ c. search needs)
-    (λ c κs. search needs)
-    (λ c. search needs)
-    (λ c κs. search needs)
-    (λ c κs. search needs)
-    returns
-    returns-2
+    tie.close (tie.spec (λ c. search needs) (λ c κs. search needs) (λ c. search needs) (λ c κs. search needs) (λ c κs. search needs) returns returns-2
     returns-3)

@@ -12,9 +12,6 @@ Inv-loop bins at end i byte o₀ o = Without bins at end i byte o
 abbrev μ-loop : tie.MeasureT-loop
 μ-loop bins at end i byte o₀ o = end - o
 
-loop-holds : tie.Need-loop-holds Inv-loop μ-loop
-loop-holds c = without-start (c .pre .0) (c .pre .1) _
-
 add-if1 : tie.Need-add-if1 Inv-loop μ-loop
 add-if1 c = let b = c .before .before .pre .0 in omega (arith, b .inside, b .small)
 
@@ -26,9 +23,6 @@ shared-slice-read-if1 c =
     let p = c .before .before .before .pre in
     omega (arith, with-room (p .0) (p .1) _ (c .before .before .loop .inv) (c .before .loop-test .taken), p .0 .inside, p .1)
 
-returns : tie.Need-returns Inv-loop μ-loop
-returns c = c .before .before .before .loop .inv
-
 add-o : tie.Need-add-o Inv-loop μ-loop
 add-o c = let b = c .before .before .before .before .pre .0 in omega (arith, b .inside, b .small)
 
@@ -37,9 +31,8 @@ loop-again c =
     let p = c .before .before .before .before .pre in
     without-on (p .0) (p .1) _ (c .before .before .before .loop .inv) (c .before .before .loop-test .taken) (c .if1 .left)
 
-returns-2 : tie.Need-returns-2 Inv-loop μ-loop
-returns-2 c = c .before .loop .inv
-
 pub next-with-spec : {M : Type 1} → statement M
 next-with-spec =
-    tie.close (tie.spec Inv-loop μ-loop loop-holds add-if1 add-if1-2 shared-slice-read-if1 returns add-o (λ c. search needs) loop-again returns-2)
+    tie.close
+    (tie.spec Inv-loop μ-loop (λ c. without-start (c .pre .0) (c .pre .1) _) add-if1 add-if1-2 shared-slice-read-if1
+    (λ c. c .before .before .before .loop .inv) add-o (λ c. search needs) loop-again (λ c. c .before .loop .inv))

@@ -20,14 +20,4 @@ returns c =
     rw (add-sub-cancel-left (a .o .0 + 4 + a .at) (a .len)) (part-bytes _ _ _ _ (c .before .before .pre))
 
 pub part-in-spec : {M : Type 1} → statement M
-part-in-spec =
-    tie.close
-    (tie.spec
-    (λ c. search needs)
-    (λ c. search needs)
-    add-start-2
-    add-end
-    (λ c. search needs)
-    (λ c. search needs)
-    part-result-end
-    returns)
+part-in-spec = tie.close (tie.spec (λ c. search needs) (λ c. search needs) add-start-2 add-end (λ c. search needs) (λ c. search needs) part-result-end returns)

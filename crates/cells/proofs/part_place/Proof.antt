@@ -23,5 +23,4 @@ returns-3 c = let a = c .before .before .args in sym (place-none (a .o) (a .at) 
 
 pub part-place-spec : {M : Type 1} → statement M
 part-place-spec =
-    tie.close
-    (tie.spec (λ c κs. search needs) (λ c. search needs) (λ c. search needs) returns (λ c κs. search needs) (λ c. search needs) returns-2 returns-3)
+    tie.close (tie.spec (λ c κs. search needs) (λ c. search needs) (λ c. search needs) returns (λ c κs. search needs) (λ c. search needs) returns-2 returns-3)

@@ -18,20 +18,12 @@ returns c = let s = survey-front _ _ (sym (c .before .before .before .front-flaw
 
 returns-2 : tie.Need-returns-2
 returns-2 c =
-    let a = c .before .before .before .before .before .before .before .before .before .before .args in
-    let front = sym (c .before .before .before .before .before .before .before .front-flaw .ensures) ∙ c .before .before .before .before .before .enum-told .given .1 in
+    let at-enum-told = c .before .before .before .before .before in
+    let a = at-enum-told .before .before .before .before .before .args in
+    let front = sym (at-enum-told .before .before .front-flaw .ensures) ∙ at-enum-told .enum-told .given .1 in
     let s = survey-on (now (a .hive)) (now (a .map)) _ _ front (c .before .before .before .before .bins-of .ensures) (c .before .before .scan .ensures .0) in
     (sym (s .0), c .before .before .scan .ensures .1 ∙ sym (s .1))
 
 pub survey-spec : {M : Type 1} → statement M
 survey-spec =
-    tie.close
-    (tie.spec
-    (λ c κs. search needs)
-    (λ c. search needs)
-    (λ c. search needs)
-    bins-of-requires
-    scan-requires
-    returns
-    (λ c. search needs)
-    returns-2)
+    tie.close (tie.spec (λ c κs. search needs) (λ c. search needs) (λ c. search needs) bins-of-requires scan-requires returns (λ c. search needs) returns-2)

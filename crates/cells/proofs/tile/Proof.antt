@@ -20,9 +20,6 @@ abbrev μ-loop : tie.MeasureT-loop
 loop-holds : tie.Need-loop-holds Inv-loop μ-loop
 loop-holds c = record { before-end = omega arith; eights = omega arith; small = omega arith; kept = refl; counts = refl; bits = refl }
 
-same-length : tie.Need-same-length Inv-loop μ-loop
-same-length c = c .before .before .before .before .before .loop .inv .kept
-
 returns : tie.Need-returns Inv-loop μ-loop
 unfolding rowOf marks
 returns c = let l = c .before .before .before .before .before .loop in
@@ -52,7 +49,9 @@ loop-less c = let g = good _ _ (is-good (c .before .before .before .before .befo
 loop-again : tie.Need-loop-again Inv-loop μ-loop
 loop-again c = let e = c .before .before .before .before .before in
     let l = e .before .before .before .before .before .loop in
-    rw (c .before .before .mark .ensures) (walked-used (l .inv) (e .before .before .before .before .loop-test .taken) (e .before .before .before .size-at .ensures) (is-good e) (c .before .before .before .before .if2 .taken))
+    rw (c .before .before .mark .ensures)
+    (walked-used (l .inv) (e .before .before .before .before .loop-test .taken) (e .before .before .before .size-at .ensures) (is-good e)
+    (c .before .before .before .before .if2 .taken))
 
 loop-less-2 : tie.Need-loop-less-2 Inv-loop μ-loop
 loop-less-2 c = let g = good _ _ (is-good (c .before)) in omega arith
@@ -62,9 +61,6 @@ loop-again-2 c = let e = c .before in
     let l = e .before .before .before .before .before .loop in
     walked-free (l .inv) (e .before .before .before .before .loop-test .taken) (e .before .before .before .size-at .ensures) (is-good e) (c .if2 .left)
 
-same-length-2 : tie.Need-same-length-2 Inv-loop μ-loop
-same-length-2 c = c .before .loop .inv .kept
-
 returns-2 : tie.Need-returns-2 Inv-loop μ-loop
 unfolding rowOf marks
 returns-2 c = let l = c .before .loop in
@@ -73,25 +69,6 @@ returns-2 c = let l = c .before .loop in
 
 pub tile-spec : {M : Type 1} → statement M
 tile-spec =
-    tie.close
-    (tie.spec
-    Inv-loop
-    μ-loop
-    loop-holds
-    (λ c κs. search needs)
-    (λ c. search needs)
-    (λ c. search needs)
-    (λ c κs. search needs)
-    (λ c. search needs)
-    same-length
-    returns
-    add-next
-    (λ c κs. search needs)
-    add-used
-    add-free
-    loop-less
-    loop-again
-    loop-less-2
-    loop-again-2
-    same-length-2
-    returns-2)
+    tie.close (tie.spec Inv-loop μ-loop loop-holds (λ c κs. search needs) (λ c. search needs) (λ c. search needs) (λ c κs. search needs) (λ c. search needs)
+    (λ c. c .before .before .before .before .before .loop .inv .kept) returns add-next (λ c κs. search needs) add-used add-free loop-less loop-again loop-less-2
+    loop-again-2 (λ c. c .before .loop .inv .kept) returns-2)

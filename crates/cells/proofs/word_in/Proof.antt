@@ -11,8 +11,8 @@ add-u32-at-2 c = let h = word-room _ _ _ (c .before .before .pre) in search need
 u32-at-requires : tie.Need-u32-at-requires
 u32-at-requires c κs = let h = word-room _ _ _ (c .before .before .pre) in omega arith
 
-returns : tie.Need-returns
-returns c = c .u32-at .ensures ∙ word-is _ _ _ (c .before .before .before .pre)
-
 pub word-in-spec : {M : Type 1} → statement M
-word-in-spec = tie.close (tie.spec (λ c. search needs) (λ c. search needs) add-u32-at-2 u32-at-requires returns)
+word-in-spec =
+    tie.close
+    (tie.spec (λ c. search needs) (λ c. search needs) add-u32-at-2 u32-at-requires
+    (λ c. c .u32-at .ensures ∙ word-is _ _ _ (c .before .before .before .pre)))

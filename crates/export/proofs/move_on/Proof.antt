@@ -7,7 +7,9 @@ go-below-requires : tie.Need-go-below-requires
 go-below-requires c κs = rw (c .before .before .what .given .1) at (c .before .before .before .before .before .pre)
 
 add-t12 : tie.Need-add-t12
-add-t12 c = let p = rw (c .before .before .before .before .before .what .given .1) at (c .before .before .before .before .before .before .before .before .pre) in omega (arith, p .1)
+add-t12 c =
+    let p = rw (c .before .before .before .before .before .what .given .1) at (c .before .before .before .before .before .before .before .before .pre) in
+    omega (arith, p .1)
 
 sub-t13 : tie.Need-sub-t13
 sub-t13 c = let p = rw (c .enum-told3 .given .1) at (c .before .before .before .pre) in omega arith
@@ -26,17 +28,5 @@ returns-4 c = let e = c .enum-told3 .given .1 in (rw e, rw e)
 
 pub move-on-spec : {M : Type 1} → statement M
 move-on-spec =
-    tie.close
-    (tie.spec
-    (λ c. search needs)
-    (λ c. search needs)
-    (λ c. search needs)
-    go-below-requires
-    add-t12
-    (λ c. search needs)
-    sub-t13
-    returns
-    returns-2
-    (λ c. search needs)
-    returns-3
-    returns-4)
+    tie.close (tie.spec (λ c. search needs) (λ c. search needs) (λ c. search needs) go-below-requires add-t12 (λ c. search needs) sub-t13 returns returns-2
+    (λ c. search needs) returns-3 returns-4)

@@ -16,37 +16,36 @@ Inv-loop bins minor levels₀ n next₀ left₀ levels next left =
 abbrev μ-loop : tie.MeasureT-loop
 μ-loop bins minor levels₀ n next₀ left₀ levels next left = left
 
-loop-holds : tie.Need-loop-holds Inv-loop μ-loop
-loop-holds c = (refl, c .before .before .pre, refl)
-
 due-frame-requires : tie.Need-due-frame-requires Inv-loop μ-loop
 due-frame-requires c κs = (c .before .before .loop .inv .1, λ e. absurd (let z : _≡_ {A = ℕ} 0 1 = cc in omega arith))
-
-same-length : tie.Need-same-length Inv-loop μ-loop
-same-length c = c .before .before .before .before .before .loop .inv .2
 
 returns : tie.Need-returns Inv-loop μ-loop
 returns c =
     let l = c .before .before .before .before .before .loop in
     let a = c .before .before .before .before .before .before .before .before .args in
-    let w = l .inv .0 ∙ went-over (a .bins .now) (a .minor) (l .left) (l .levels) (l .next) (omega arith) (sym (c .before .before .due-frame .ensures) ∙ c .enum-told .given .1) in
+    let w =
+    l .inv .0
+    ∙ went-over (a .bins .now) (a .minor) (l .left) (l .levels) (l .next) (omega arith)
+    (sym (c .before .before .due-frame .ensures) ∙ c .enum-told .given .1) in
     (sym (ap (λ (g : Went). g .answer) w), (sym (ap (λ (g : Went). g .levels) w), tt))
-
-same-length-2 : tie.Need-same-length-2 Inv-loop μ-loop
-same-length-2 c = c .before .before .before .before .before .before .loop .inv .2
 
 returns-2 : tie.Need-returns-2 Inv-loop μ-loop
 returns-2 c =
     let l = c .before .before .before .before .before .before .loop in
     let a = c .before .before .before .before .before .before .before .before .before .args in
-    let w = l .inv .0 ∙ went-bad (a .bins .now) (a .minor) (l .left) (l .levels) (l .next) (omega arith) (sym (c .before .before .before .due-frame .ensures) ∙ c .before .r .given .1) in
+    let w =
+    l .inv .0
+    ∙ went-bad (a .bins .now) (a .minor) (l .left) (l .levels) (l .next) (omega arith)
+    (sym (c .before .before .before .due-frame .ensures) ∙ c .before .r .given .1) in
     (sym (ap (λ (g : Went). g .answer) w), (sym (ap (λ (g : Went). g .levels) w), tt))
 
 move-on-requires : tie.Need-move-on-requires Inv-loop μ-loop
 move-on-requires c κs =
-    let l = c .before .before .before .before .before .before .before .loop in
-    let a = c .before .before .before .before .before .before .before .before .before .before .args in
-    due-lies (a .bins .now) (a .minor) (l .levels) (l .next) (sym (c .before .before .before .before .due-frame .ensures) ∙ c .before .before .f .given .1) .goes
+    let at-due-frame = c .before .before .before .before in
+    let at-loop = at-due-frame .before .before .before in
+    let l = at-loop .loop in
+    let a = at-loop .before .before .before .args in
+    due-lies (a .bins .now) (a .minor) (l .levels) (l .next) (sym (at-due-frame .due-frame .ensures) ∙ c .before .before .f .given .1) .goes
 
 loop-again : tie.Need-loop-again Inv-loop μ-loop
 loop-again c =
@@ -57,9 +56,6 @@ loop-again c =
     rw (c .before .before .move-on .ensures .0, c .before .before .move-on .ensures .1)
     (l .inv .0 ∙ went-comes (a .bins .now) (a .minor) (l .left) (l .levels) (l .next) (omega arith) e, z .0, z .1 ∙ l .inv .2)
 
-same-length-3 : tie.Need-same-length-3 Inv-loop μ-loop
-same-length-3 c = c .before .loop .inv .2
-
 returns-3 : tie.Need-returns-3 Inv-loop μ-loop
 returns-3 c =
     let l = c .before .loop in
@@ -69,22 +65,7 @@ returns-3 c =
 
 pub pass-spec : {M : Type 1} → statement M
 pass-spec =
-    tie.close
-    (tie.spec
-    Inv-loop
-    μ-loop
-    loop-holds
-    due-frame-requires
-    (λ c. search needs)
-    same-length
-    returns
-    (λ c. search needs)
-    same-length-2
-    returns-2
-    (λ c. search needs)
-    move-on-requires
-    (λ c. search needs)
-    (λ c. search needs)
-    loop-again
-    same-length-3
-    returns-3)
+    tie.close (tie.spec Inv-loop μ-loop (λ c. (refl, c .before .before .pre, refl)) due-frame-requires (λ c. search needs)
+    (λ c. c .before .before .before .before .before .loop .inv .2) returns (λ c. search needs)
+    (λ c. c .before .before .before .before .before .before .loop .inv .2) returns-2 (λ c. search needs) move-on-requires (λ c. search needs)
+    (λ c. search needs) loop-again (λ c. c .before .loop .inv .2) returns-3)

@@ -25,7 +25,11 @@ abbrev μ-loop : tie.MeasureT-loop
 μ-loop bins minor levels₀ out₀ next₀ at₀ frames₀ known₀ levels out next at frames known = length out₀ - at
 
 loop-holds : tie.Need-loop-holds Inv-loop μ-loop
-loop-holds c = let a = c .before .before .before .args in (run-start (a .bins .now) (a .minor) (now (a .levels)) (a .c) (now (a .out)) (c .before .before .before .pre), λ e. absurd (let z : _≡_ {A = ℕ} 0 1 = cc in omega arith))
+loop-holds c =
+    let a = c .before .before .before .args in (
+      run-start (a .bins .now) (a .minor) (now (a .levels)) (a .c) (now (a .out)) (c .before .before .before .pre),
+      λ e. absurd (let z : _≡_ {A = ℕ} 0 1 = cc in omega arith),
+    )
 
 take-turn-requires : tie.Need-take-turn-requires Inv-loop μ-loop
 take-turn-requires c κs =
@@ -48,11 +52,19 @@ same-length-2 c =
 
 returns : tie.Need-returns Inv-loop μ-loop
 returns c =
-    let l = c .before .before .before .before .before .before .before .before .before .before .loop in
-    let a = c .before .before .before .before .before .before .before .before .before .before .before .before .before .before .args in
-    let t = sym (c .before .before .before .before .before .before .before .take-turn .ensures .0) ∙ c .before .enum-told .given .1 in
-    let s = stops-over (dueAt (a .bins .now) (a .minor) (l .levels) (l .next)) (l .next .depth) (length (l .out) - l .at) (l .at) t in
-    (c .ended .ensures ∙ stop-answer (a .bins .now) (a .minor) (now (a .levels)) (a .c) (now (a .out)) (l .inv .0) s, (c .before .before .before .before .before .before .before .take-turn .ensures .1 .0 ∙ stop-levels (a .bins .now) (a .minor) (now (a .levels)) (a .c) (now (a .out)) (l .inv .0) s, c .before .before .before .before .before .before .before .take-turn .ensures .1 .1 ∙ stop-out (a .bins .now) (a .minor) (now (a .levels)) (a .c) (now (a .out)) (l .inv .0) s))
+    let at-enum-told = c .before in
+    let earlier = at-enum-told .before .before .before .before .before in
+    let at-loop = earlier .before .before .before .before in
+    let l = at-loop .loop in
+    let a = at-loop .before .before .before .before .args in
+    let t = sym (earlier .before .take-turn .ensures .0) ∙ at-enum-told .enum-told .given .1 in
+    let s = stops-over (dueAt (a .bins .now) (a .minor) (l .levels) (l .next)) (l .next .depth) (length (l .out) - l .at) (l .at) t in (
+      c .ended .ensures ∙ stop-answer (a .bins .now) (a .minor) (now (a .levels)) (a .c) (now (a .out)) (l .inv .0) s,
+      (
+        earlier .before .take-turn .ensures .1 .0 ∙ stop-levels (a .bins .now) (a .minor) (now (a .levels)) (a .c) (now (a .out)) (l .inv .0) s,
+        earlier .before .take-turn .ensures .1 .1 ∙ stop-out (a .bins .now) (a .minor) (now (a .levels)) (a .c) (now (a .out)) (l .inv .0) s,
+      ),
+    )
 
 same-length-3 : tie.Need-same-length-3 Inv-loop μ-loop
 same-length-3 c =
@@ -68,11 +80,19 @@ same-length-4 c =
 
 returns-2 : tie.Need-returns-2 Inv-loop μ-loop
 returns-2 c =
-    let l = c .before .before .before .before .before .before .before .before .before .before .before .loop in
-    let a = c .before .before .before .before .before .before .before .before .before .before .before .before .before .before .before .args in
-    let t = sym (c .before .before .before .before .before .before .before .before .take-turn .ensures .0) ∙ c .before .before .r .given .1 in
-    let s = stops-bad (dueAt (a .bins .now) (a .minor) (l .levels) (l .next)) (l .next .depth) (length (l .out) - l .at) (l .at) t in
-    (c .ended2 .ensures ∙ stop-answer (a .bins .now) (a .minor) (now (a .levels)) (a .c) (now (a .out)) (l .inv .0) s, (c .before .before .before .before .before .before .before .before .take-turn .ensures .1 .0 ∙ stop-levels (a .bins .now) (a .minor) (now (a .levels)) (a .c) (now (a .out)) (l .inv .0) s, c .before .before .before .before .before .before .before .before .take-turn .ensures .1 .1 ∙ stop-out (a .bins .now) (a .minor) (now (a .levels)) (a .c) (now (a .out)) (l .inv .0) s))
+    let at-r = c .before .before in
+    let earlier = at-r .before .before .before .before .before in
+    let at-loop = earlier .before .before .before .before in
+    let l = at-loop .loop in
+    let a = at-loop .before .before .before .before .args in
+    let t = sym (earlier .before .take-turn .ensures .0) ∙ at-r .r .given .1 in
+    let s = stops-bad (dueAt (a .bins .now) (a .minor) (l .levels) (l .next)) (l .next .depth) (length (l .out) - l .at) (l .at) t in (
+      c .ended2 .ensures ∙ stop-answer (a .bins .now) (a .minor) (now (a .levels)) (a .c) (now (a .out)) (l .inv .0) s,
+      (
+        earlier .before .take-turn .ensures .1 .0 ∙ stop-levels (a .bins .now) (a .minor) (now (a .levels)) (a .c) (now (a .out)) (l .inv .0) s,
+        earlier .before .take-turn .ensures .1 .1 ∙ stop-out (a .bins .now) (a .minor) (now (a .levels)) (a .c) (now (a .out)) (l .inv .0) s,
+      ),
+    )
 
 add-frames : tie.Need-add-frames Inv-loop μ-loop
 add-frames c =
@@ -92,34 +112,18 @@ loop-less c =
 
 loop-again : tie.Need-loop-again Inv-loop μ-loop
 loop-again c =
-    let l = c .before .before .before .before .before .before .before .before .before .before .before .loop in
-    let a = c .before .before .before .before .before .before .before .before .before .before .before .before .before .before .before .args in
-    let t = sym (c .before .before .before .before .before .before .before .before .take-turn .ensures .0) ∙ c .before .before .behind .given .1 in
-    rw (c .before .before .before .before .before .before .before .before .take-turn .ensures .1 .0, c .before .before .before .before .before .before .before .before .take-turn .ensures .1 .1) (
+    let at-behind = c .before .before in
+    let earlier = at-behind .before .before .before .before .before in
+    let at-loop = earlier .before .before .before .before in
+    let l = at-loop .loop in
+    let a = at-loop .before .before .before .before .args in
+    let t = sym (earlier .before .take-turn .ensures .0) ∙ at-behind .behind .given .1 in
+    rw (earlier .before .take-turn .ensures .1 .0, earlier .before .take-turn .ensures .1 .1) (
       run-turn (a .bins .now) (a .minor) (now (a .levels)) (a .c) (now (a .out)) (l .inv .0) t,
       λ e. turn-known (a .bins .now) (a .minor) (l .levels) (l .next) (length (l .out) - l .at) (l .at) t (ltb-true _ _ (sym (c .is-known .ensures) ∙ e)),
     )
 
 pub run-in-spec : {M : Type 1} → statement M
 run-in-spec =
-    tie.close
-    (tie.spec
-    Inv-loop
-    μ-loop
-    loop-holds
-    take-turn-requires
-    (λ c. search needs)
-    (λ c κs. search needs)
-    same-length
-    same-length-2
-    returns
-    (λ c. search needs)
-    (λ c κs. search needs)
-    same-length-3
-    same-length-4
-    returns-2
-    (λ c. search needs)
-    add-frames
-    (λ c κs. search needs)
-    loop-less
-    loop-again)
+    tie.close (tie.spec Inv-loop μ-loop loop-holds take-turn-requires (λ c. search needs) (λ c κs. search needs) same-length same-length-2 returns
+    (λ c. search needs) (λ c κs. search needs) same-length-3 same-length-4 returns-2 (λ c. search needs) add-frames (λ c κs. search needs) loop-less loop-again)

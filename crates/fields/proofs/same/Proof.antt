@@ -16,15 +16,6 @@ Inv-loop a b i₀ i = (i ≤ length a) × (sameBytes a b ≡ sameBytes (drop i a
 abbrev μ-loop : tie.MeasureT-loop
 μ-loop a b i₀ i = length a - i
 
-returns : tie.Need-returns Inv-loop μ-loop
-returns c = sym (unequal _ _ (c .if1 .taken))
-
-loop-holds : tie.Need-loop-holds Inv-loop μ-loop
-loop-holds c = (omega arith, refl)
-
-same-eight-requires : tie.Need-same-eight-requires Inv-loop μ-loop
-same-eight-requires c κs = omega arith
-
 returns-2 : tie.Need-returns-2 Inv-loop μ-loop
 returns-2 c = sym (c .before .before .before .before .loop .inv .1 ∙ c .before .same-eight .ensures .apart (not-true _ (c .if3 .taken)))
 
@@ -33,21 +24,23 @@ loop-again c =
     let l = c .before .before .before .before .loop in
     (omega arith, l .inv .1 ∙ c .before .same-eight .ensures .alike (not-false _ (c .if3 .left)))
 
-u64-at-requires : tie.Need-u64-at-requires Inv-loop μ-loop
-u64-at-requires c κs = omega arith
-
-u64-at-requires-2 : tie.Need-u64-at-requires-2 Inv-loop μ-loop
-u64-at-requires-2 c κs = omega arith
-
 returns-3 : tie.Need-returns-3 Inv-loop μ-loop
 returns-3 c =
     let l = c .before .before .before .before .before .before in
-    sym (l .loop .inv .1 ∙ eight _ _ (λ (i : ℕ). l .before .before .before .shared-slice-known .given i .fits) (λ (i : ℕ). l .before .before .shared-slice-known2 .given i .fits) (l .loop .i) (omega arith) (omega arith) .apart (λ e. c .if5 .taken (c .before .before .u64-at .ensures ∙ e ∙ sym (c .before .u64-at2 .ensures))))
+    sym
+    (l .loop .inv .1
+    ∙ eight _ _ (λ (i : ℕ). l .before .before .before .shared-slice-known .given i .fits)
+    (λ (i : ℕ). l .before .before .shared-slice-known2 .given i .fits) (l .loop .i) (omega arith) (omega arith) .apart
+    (λ e. c .if5 .taken (c .before .before .u64-at .ensures ∙ e ∙ sym (c .before .u64-at2 .ensures))))
 
 loop-again-2 : tie.Need-loop-again-2 Inv-loop μ-loop
 loop-again-2 c =
-    let l = c .before .before .before .before .before .before in
-    (omega arith, l .loop .inv .1 ∙ eight _ _ (λ (i : ℕ). l .before .before .before .shared-slice-known .given i .fits) (λ (i : ℕ). l .before .before .shared-slice-known2 .given i .fits) (l .loop .i) (omega arith) (omega arith) .alike (sym (c .before .before .u64-at .ensures) ∙ c .if5 .left ∙ c .before .u64-at2 .ensures))
+    let l = c .before .before .before .before .before .before in (
+      omega arith,
+      l .loop .inv .1
+          ∙ eight _ _ (λ (i : ℕ). l .before .before .before .shared-slice-known .given i .fits) (λ (i : ℕ). l .before .before .shared-slice-known2 .given i .fits)
+          (l .loop .i) (omega arith) (omega arith) .alike (sym (c .before .before .u64-at .ensures) ∙ c .if5 .left ∙ c .before .u64-at2 .ensures),
+    )
 
 returns-4 : tie.Need-returns-4 Inv-loop μ-loop
 returns-4 c =
@@ -66,29 +59,6 @@ returns-5 c =
 
 pub same-spec : {M : Type 1} → statement M
 same-spec =
-    tie.close
-    (tie.spec
-    Inv-loop
-    μ-loop
-    returns
-    loop-holds
-    (λ c. search needs)
-    same-eight-requires
-    returns-2
-    (λ c. search needs)
-    (λ c. search needs)
-    loop-again
-    (λ c. search needs)
-    u64-at-requires
-    u64-at-requires-2
-    returns-3
-    (λ c. search needs)
-    (λ c. search needs)
-    loop-again-2
-    (λ c. search needs)
-    (λ c. search needs)
-    returns-4
-    (λ c. search needs)
-    (λ c. search needs)
-    loop-again-3
-    returns-5)
+    tie.close (tie.spec Inv-loop μ-loop (λ c. sym (unequal _ _ (c .if1 .taken))) (λ c. (omega arith, refl)) (λ c. search needs) (λ c κs. omega arith) returns-2
+    (λ c. search needs) (λ c. search needs) loop-again (λ c. search needs) (λ c κs. omega arith) (λ c κs. omega arith) returns-3 (λ c. search needs)
+    (λ c. search needs) loop-again-2 (λ c. search needs) (λ c. search needs) returns-4 (λ c. search needs) (λ c. search needs) loop-again-3 returns-5)

@@ -17,5 +17,4 @@ returns-2 c =
     rw (below v (c .if1 .left)) (toZ-ofZ w32 (toZ w32 v) (toZ-fits w32 v (c .before .fits .v)))
 
 pub signed-spec : {M : Type 1} → statement M
-signed-spec =
-    tie.close (tie.spec (λ c. search needs) (λ c. search needs) (λ c. search needs) sub-result-2 (λ c. search needs) returns-2)
+signed-spec = tie.close (tie.spec (λ c. search needs) (λ c. search needs) (λ c. search needs) sub-result-2 (λ c. search needs) returns-2)

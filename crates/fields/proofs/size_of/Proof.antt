@@ -16,23 +16,9 @@ lows c = low _ (c .before .fits .z) (rw (back (c .before)) at (c .if1 .taken))
 highs : (c : tie.Else1) → High (c .before .args .z)
 highs c = high _ (c .before .fits .z) (rw (back (c .before)) at (c .if1 .left))
 
-sub-t4 : tie.Need-sub-t4
-sub-t4 c = rw (back (c .before)) (lows c .fits)
-
-cast-t5 : tie.Need-cast-t5
-cast-t5 c = rw (back (c .before), toZ-ofZ w32 _ (lows c .fits)) (lows c .up)
-
-add-t6 : tie.Need-add-t6
-add-t6 c = rw (back (c .before), toZ-ofZ w32 _ (lows c .fits)) (lows c .one)
-
-cast-t7 : tie.Need-cast-t7
-cast-t7 c = rw (back (c .before)) (highs c .up)
-
-returns : tie.Need-returns
-returns c = rw (back (c .before), toZ-ofZ w32 _ (lows c .fits)) (lows c .is)
-
-returns-2 : tie.Need-returns-2
-returns-2 c = rw (back (c .before)) (highs c .is)
-
 pub size-of-spec : {M : Type 1} → statement M
-size-of-spec = tie.close (tie.spec sub-t4 cast-t5 add-t6 cast-t7 returns returns-2)
+size-of-spec =
+    tie.close
+    (tie.spec (λ c. rw (back (c .before)) (lows c .fits)) (λ c. rw (back (c .before), toZ-ofZ w32 _ (lows c .fits)) (lows c .up))
+    (λ c. rw (back (c .before), toZ-ofZ w32 _ (lows c .fits)) (lows c .one)) (λ c. rw (back (c .before)) (highs c .up))
+    (λ c. rw (back (c .before), toZ-ofZ w32 _ (lows c .fits)) (lows c .is)) (λ c. rw (back (c .before)) (highs c .is)))

@@ -12,5 +12,4 @@ returns c =
     rw (add-sub-cancel-left (a .i) (length (a .what .now))) at (c .same .ensures)
 
 pub stands-at-spec : {M : Type 1} → statement M
-stands-at-spec =
-    tie.close (tie.spec (λ c. search needs) (λ c. search needs) (λ c. search needs) (λ c. search needs) (λ c κs. search needs) returns)
+stands-at-spec = tie.close (tie.spec (λ c. search needs) (λ c. search needs) (λ c. search needs) (λ c. search needs) (λ c κs. search needs) returns)

@@ -9,30 +9,7 @@ Inv-loop hive₀ room₀ units₀ map₀ count i₀ hive room units map i = Unit
 abbrev μ-loop : tie.MeasureT-loop
 μ-loop hive₀ room₀ units₀ map₀ count i₀ hive room units map i = count - i
 
--- src/main.rt:28:9
-
--- src/main.rt:30:5
-
--- src/main.rt:31:9
-
--- src/main.rt:32:9
-
--- src/main.rt:30:5
-
--- src/main.rt:30:5
-
--- src/main.rt:22:1
-
 pub streams-spec : {M : Type 1} → statement M
 streams-spec =
-    tie.close
-    (tie.spec
-    Inv-loop
-    μ-loop
-    (λ c κs. search needs)
-    (λ c. search needs)
-    (λ c κs. search needs)
-    (λ c. search needs)
-    (λ c. search needs)
-    (λ c. search needs)
-    (λ c. search needs))
+    tie.close (tie.spec Inv-loop μ-loop (λ c κs. search needs) (λ c. search needs) (λ c κs. search needs) (λ c. search needs) (λ c. search needs)
+    (λ c. search needs) (λ c. search needs))

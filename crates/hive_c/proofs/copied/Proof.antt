@@ -12,6 +12,4 @@ returns-2 : tie.Need-returns-2
 returns-2 c = ap (λ (a : HiveAnswer). copyWith a 0) (c .refused .ensures) ∙ sym (ap copyIn (c .before .before .c2 .given .1))
 
 pub copied-spec : {M : Type 1} → statement M
-copied-spec =
-    tie.close
-    (tie.spec (λ c. search needs) (λ c κs. search needs) (λ c. search needs) (λ c κs. search needs) returns returns-2)
+copied-spec = tie.close (tie.spec (λ c. search needs) (λ c κs. search needs) (λ c. search needs) (λ c κs. search needs) returns returns-2)

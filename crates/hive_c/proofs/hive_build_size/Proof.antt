@@ -4,8 +4,5 @@ use borrow.Author.Needs.{needs}
 use Rattle.hive_c.proofs.hive_build_size.Statement.{statement}
 use Rattle.hive_c.proofs.hive_build_size.Tie as tie
 
-returns : tie.Need-returns
-returns c = c .made .ensures ∙ ap builtIn (c .before .measure .ensures)
-
 pub hive-build-size-spec : {M : Type 1} → statement M
-hive-build-size-spec = tie.close (tie.spec (λ c κs. search needs) (λ c κs. search needs) returns)
+hive-build-size-spec = tie.close (tie.spec (λ c κs. search needs) (λ c κs. search needs) (λ c. c .made .ensures ∙ ap builtIn (c .before .measure .ensures)))

@@ -4,8 +4,5 @@ use borrow.Author.Needs.{needs}
 use Rattle.hive_c.proofs.hive_child_of.Statement.{statement}
 use Rattle.hive_c.proofs.hive_child_of.Tie as tie
 
-returns : tie.Need-returns
-returns c = c .key-answer .ensures ∙ ap keyIn (c .before .child-of .ensures)
-
 pub hive-child-of-spec : {M : Type 1} → statement M
-hive-child-of-spec = tie.close (tie.spec (λ c κs. search needs) (λ c κs. search needs) returns)
+hive-child-of-spec = tie.close (tie.spec (λ c κs. search needs) (λ c κs. search needs) (λ c. c .key-answer .ensures ∙ ap keyIn (c .before .child-of .ensures)))

@@ -4,13 +4,5 @@ use borrow.Author.Needs.{needs}
 use Rattle.hive_c.proofs.hive_key_at.Statement.{statement}
 use Rattle.hive_c.proofs.hive_key_at.Tie as tie
 
-returns : tie.Need-returns
-returns c = c .key-told .ensures ∙ ap factsIn (c .before .key-facts .ensures)
-
 pub hive-key-at-spec : {M : Type 1} → statement M
-hive-key-at-spec =
-    tie.close
-    (tie.spec
-    (λ c κs. search needs)
-    (λ c κs. search needs)
-    returns)
+hive-key-at-spec = tie.close (tie.spec (λ c κs. search needs) (λ c κs. search needs) (λ c. c .key-told .ensures ∙ ap factsIn (c .before .key-facts .ensures)))

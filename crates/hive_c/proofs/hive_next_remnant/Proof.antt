@@ -4,13 +4,5 @@ use borrow.Author.Needs.{needs}
 use Rattle.hive_c.proofs.hive_next_remnant.Statement.{statement}
 use Rattle.hive_c.proofs.hive_next_remnant.Tie as tie
 
-returns : tie.Need-returns
-returns c = c .remnant .ensures ∙ ap remnantIn (c .before .next .ensures)
-
 pub hive-next-remnant-spec : {M : Type 1} → statement M
-hive-next-remnant-spec =
-    tie.close
-    (tie.spec
-    (λ c κs. search needs)
-    (λ c κs. search needs)
-    returns)
+hive-next-remnant-spec = tie.close (tie.spec (λ c κs. search needs) (λ c κs. search needs) (λ c. c .remnant .ensures ∙ ap remnantIn (c .before .next .ensures)))

@@ -4,13 +4,6 @@ use borrow.Author.Needs.{needs}
 use Rattle.hive_c.proofs.hive_nth_subkey.Statement.{statement}
 use Rattle.hive_c.proofs.hive_nth_subkey.Tie as tie
 
-returns : tie.Need-returns
-returns c = c .member .ensures ∙ ap memberIn (c .before .nth-subkey .ensures)
-
 pub hive-nth-subkey-spec : {M : Type 1} → statement M
 hive-nth-subkey-spec =
-    tie.close
-    (tie.spec
-    (λ c κs. search needs)
-    (λ c κs. search needs)
-    returns)
+    tie.close (tie.spec (λ c κs. search needs) (λ c κs. search needs) (λ c. c .member .ensures ∙ ap memberIn (c .before .nth-subkey .ensures)))

@@ -4,8 +4,6 @@ use borrow.Author.Needs.{needs}
 use Rattle.hive_c.proofs.hive_quick_child_of.Statement.{statement}
 use Rattle.hive_c.proofs.hive_quick_child_of.Tie as tie
 
-returns : tie.Need-returns
-returns c = c .key-answer .ensures ∙ ap keyIn (c .before .quick-child-of .ensures)
-
 pub hive-quick-child-of-spec : {M : Type 1} → statement M
-hive-quick-child-of-spec = tie.close (tie.spec (λ c κs. search needs) (λ c κs. search needs) returns)
+hive-quick-child-of-spec =
+    tie.close (tie.spec (λ c κs. search needs) (λ c κs. search needs) (λ c. c .key-answer .ensures ∙ ap keyIn (c .before .quick-child-of .ensures)))

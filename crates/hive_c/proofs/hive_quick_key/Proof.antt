@@ -4,8 +4,6 @@ use borrow.Author.Needs.{needs}
 use Rattle.hive_c.proofs.hive_quick_key.Statement.{statement}
 use Rattle.hive_c.proofs.hive_quick_key.Tie as tie
 
-returns : tie.Need-returns
-returns c = c .key-answer .ensures ∙ ap keyIn (c .before .quick-key .ensures)
-
 pub hive-quick-key-spec : {M : Type 1} → statement M
-hive-quick-key-spec = tie.close (tie.spec (λ c κs. search needs) (λ c κs. search needs) returns)
+hive-quick-key-spec =
+    tie.close (tie.spec (λ c κs. search needs) (λ c κs. search needs) (λ c. c .key-answer .ensures ∙ ap keyIn (c .before .quick-key .ensures)))

@@ -4,8 +4,5 @@ use borrow.Author.Needs.{needs}
 use Rattle.hive_c.proofs.hive_recover_log.Statement.{statement}
 use Rattle.hive_c.proofs.hive_recover_log.Tie as tie
 
-returns : tie.Need-returns
-returns c = c .told .ensures ∙ ap logIn (c .before .log-facts .ensures)
-
 pub hive-recover-log-spec : {M : Type 1} → statement M
-hive-recover-log-spec = tie.close (tie.spec (λ c κs. search needs) (λ c κs. search needs) returns)
+hive-recover-log-spec = tie.close (tie.spec (λ c κs. search needs) (λ c κs. search needs) (λ c. c .told .ensures ∙ ap logIn (c .before .log-facts .ensures)))

@@ -4,8 +4,6 @@ use borrow.Author.Needs.{needs}
 use Rattle.hive_c.proofs.hive_recover_mark.Statement.{statement}
 use Rattle.hive_c.proofs.hive_recover_mark.Tie as tie
 
-returns : tie.Need-returns
-returns c = c .marked .ensures ∙ ap markIn (c .before .next-mark .ensures)
-
 pub hive-recover-mark-spec : {M : Type 1} → statement M
-hive-recover-mark-spec = tie.close (tie.spec (λ c κs. search needs) (λ c κs. search needs) returns)
+hive-recover-mark-spec =
+    tie.close (tie.spec (λ c κs. search needs) (λ c κs. search needs) (λ c. c .marked .ensures ∙ ap markIn (c .before .next-mark .ensures)))

@@ -4,8 +4,5 @@ use borrow.Author.Needs.{needs}
 use Rattle.hive_c.proofs.hive_recover_next.Statement.{statement}
 use Rattle.hive_c.proofs.hive_recover_next.Tie as tie
 
-returns : tie.Need-returns
-returns c = c .next .ensures ∙ ap pageIn (c .before .next-page .ensures)
-
 pub hive-recover-next-spec : {M : Type 1} → statement M
-hive-recover-next-spec = tie.close (tie.spec (λ c κs. search needs) (λ c κs. search needs) returns)
+hive-recover-next-spec = tie.close (tie.spec (λ c κs. search needs) (λ c κs. search needs) (λ c. c .next .ensures ∙ ap pageIn (c .before .next-page .ensures)))

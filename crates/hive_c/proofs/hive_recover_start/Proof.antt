@@ -4,8 +4,5 @@ use borrow.Author.Needs.{needs}
 use Rattle.hive_c.proofs.hive_recover_start.Statement.{statement}
 use Rattle.hive_c.proofs.hive_recover_start.Tie as tie
 
-returns : tie.Need-returns
-returns c = c .started .ensures ∙ ap startIn (c .before .start .ensures)
-
 pub hive-recover-start-spec : {M : Type 1} → statement M
-hive-recover-start-spec = tie.close (tie.spec (λ c κs. search needs) (λ c κs. search needs) returns)
+hive-recover-start-spec = tie.close (tie.spec (λ c κs. search needs) (λ c κs. search needs) (λ c. c .started .ensures ∙ ap startIn (c .before .start .ensures)))

@@ -4,13 +4,6 @@ use borrow.Author.Needs.{needs}
 use Rattle.hive_c.proofs.hive_value_at.Statement.{statement}
 use Rattle.hive_c.proofs.hive_value_at.Tie as tie
 
-returns : tie.Need-returns
-returns c = c .value-answer .ensures ∙ ap valueIn (c .before .info-at .ensures)
-
 pub hive-value-at-spec : {M : Type 1} → statement M
 hive-value-at-spec =
-    tie.close
-    (tie.spec
-    (λ c κs. search needs)
-    (λ c κs. search needs)
-    returns)
+    tie.close (tie.spec (λ c κs. search needs) (λ c κs. search needs) (λ c. c .value-answer .ensures ∙ ap valueIn (c .before .info-at .ensures)))

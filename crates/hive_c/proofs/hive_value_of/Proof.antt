@@ -4,8 +4,6 @@ use borrow.Author.Needs.{needs}
 use Rattle.hive_c.proofs.hive_value_of.Statement.{statement}
 use Rattle.hive_c.proofs.hive_value_of.Tie as tie
 
-returns : tie.Need-returns
-returns c = c .spot-answer .ensures ∙ ap spottedIn (c .before .value-of .ensures)
-
 pub hive-value-of-spec : {M : Type 1} → statement M
-hive-value-of-spec = tie.close (tie.spec (λ c κs. search needs) (λ c κs. search needs) returns)
+hive-value-of-spec =
+    tie.close (tie.spec (λ c κs. search needs) (λ c κs. search needs) (λ c. c .spot-answer .ensures ∙ ap spottedIn (c .before .value-of .ensures)))

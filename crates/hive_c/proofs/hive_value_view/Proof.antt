@@ -4,8 +4,6 @@ use borrow.Author.Needs.{needs}
 use Rattle.hive_c.proofs.hive_value_view.Statement.{statement}
 use Rattle.hive_c.proofs.hive_value_view.Tie as tie
 
-returns : tie.Need-returns
-returns c = c .value-answer .ensures ∙ ap valueIn (c .before .view-info .ensures)
-
 pub hive-value-view-spec : {M : Type 1} → statement M
-hive-value-view-spec = tie.close (tie.spec (λ c κs. search needs) (λ c κs. search needs) returns)
+hive-value-view-spec =
+    tie.close (tie.spec (λ c κs. search needs) (λ c κs. search needs) (λ c. c .value-answer .ensures ∙ ap valueIn (c .before .view-info .ensures)))

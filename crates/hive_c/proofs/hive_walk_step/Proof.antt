@@ -8,13 +8,16 @@ use Rattle.hive_c.proofs.hive_walk_step.Statement.{statement}
 use Rattle.hive_c.proofs.hive_walk_step.Tie as tie
 
 walked-requires : tie.Need-walked-requires
-walked-requires c κs = ap (λ (x : Walked). keepsCount x (c .before .before .before .before .before .before .args .depth)) (c .before .before .step .ensures .0) ∙ step-keeps _ _ _
+walked-requires c κs =
+    let at-step = c .before .before in
+    ap (λ (x : Walked). keepsCount x (at-step .before .before .before .before .args .depth)) (at-step .step .ensures .0) ∙ step-keeps _ _ _
 
 returns : tie.Need-returns
-returns c = (
-  c .walked .ensures ∙ ap (λ (x : Walked). walkIn x (c .before .before .before .before .before .before .before .args .depth)) (c .before .before .before .step .ensures .0),
-  c .before .before .before .step .ensures .1,
-)
+returns c =
+    let at-step = c .before .before .before in (
+      c .walked .ensures ∙ ap (λ (x : Walked). walkIn x (at-step .before .before .before .before .args .depth)) (at-step .step .ensures .0),
+      at-step .step .ensures .1,
+    )
 
 pub hive-walk-step-spec : {M : Type 1} → statement M
 hive-walk-step-spec = tie.close (tie.spec (λ c κs. search needs) walked-requires (λ c. search needs) returns)

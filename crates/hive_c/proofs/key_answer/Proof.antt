@@ -4,13 +4,7 @@ use borrow.Author.Needs.{needs}
 use Rattle.hive_c.proofs.key_answer.Statement.{statement}
 use Rattle.hive_c.proofs.key_answer.Tie as tie
 
-returns : tie.Need-returns
-returns c = c .granted .ensures ∙ sym (ap keyIn (c .before .before .k .given .1))
-
-returns-2 : tie.Need-returns-2
-returns-2 c = c .refused .ensures ∙ sym (ap keyIn (c .before .before .k2 .given .1))
-
 pub key-answer-spec : {M : Type 1} → statement M
 key-answer-spec =
-    tie.close
-    (tie.spec (λ c. search needs) (λ c κs. search needs) (λ c. search needs) (λ c κs. search needs) returns returns-2)
+    tie.close (tie.spec (λ c. search needs) (λ c κs. search needs) (λ c. search needs) (λ c κs. search needs)
+    (λ c. c .granted .ensures ∙ sym (ap keyIn (c .before .before .k .given .1))) (λ c. c .refused .ensures ∙ sym (ap keyIn (c .before .before .k2 .given .1))))

@@ -12,6 +12,4 @@ returns-2 : tie.Need-returns-2
 returns-2 c = ap (λ (a : HiveAnswer). keyWith a 0 0 0 0 0 0 0) (c .refused .ensures) ∙ sym (ap factsIn (c .before .before .k2 .given .1))
 
 pub key-told-spec : {M : Type 1} → statement M
-key-told-spec =
-    tie.close
-    (tie.spec (λ c. search needs) (λ c κs. search needs) (λ c. search needs) (λ c κs. search needs) returns returns-2)
+key-told-spec = tie.close (tie.spec (λ c. search needs) (λ c κs. search needs) (λ c. search needs) (λ c κs. search needs) returns returns-2)

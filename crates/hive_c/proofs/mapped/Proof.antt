@@ -12,6 +12,4 @@ returns-2 : tie.Need-returns-2
 returns-2 c = ap (λ (a : HiveAnswer). recoveryWith a 0 0) (c .refused .ensures) ∙ sym (ap mapIn (c .before .before .m2 .given .1))
 
 pub mapped-spec : {M : Type 1} → statement M
-mapped-spec =
-    tie.close
-    (tie.spec (λ c. search needs) (λ c κs. search needs) (λ c. search needs) (λ c κs. search needs) returns returns-2)
+mapped-spec = tie.close (tie.spec (λ c. search needs) (λ c κs. search needs) (λ c. search needs) (λ c κs. search needs) returns returns-2)

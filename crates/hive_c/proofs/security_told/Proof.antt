@@ -14,12 +14,4 @@ returns-2 c = c .no-piece .ensures ∙ ap (λ (a : HiveAnswer). pieceWith a 0 0)
 
 pub security-told-spec : {M : Type 1} → statement M
 security-told-spec =
-    tie.close
-    (tie.spec
-    (λ c. search needs)
-    (λ c κs. search needs)
-    (λ c. search needs)
-    (λ c κs. search needs)
-    (λ c κs. search needs)
-    returns
-    returns-2)
+    tie.close (tie.spec (λ c. search needs) (λ c κs. search needs) (λ c. search needs) (λ c κs. search needs) (λ c κs. search needs) returns returns-2)

@@ -11,6 +11,4 @@ returns-2 : tie.Need-returns-2
 returns-2 c = c .refused .ensures ∙ sym (ap spottedIn (c .before .before .s2 .given .1))
 
 pub spot-answer-spec : {M : Type 1} → statement M
-spot-answer-spec =
-    tie.close
-    (tie.spec (λ c. search needs) (λ c κs. search needs) (λ c. search needs) (λ c κs. search needs) returns returns-2)
+spot-answer-spec = tie.close (tie.spec (λ c. search needs) (λ c κs. search needs) (λ c. search needs) (λ c κs. search needs) returns returns-2)

@@ -12,6 +12,4 @@ returns-2 : tie.Need-returns-2
 returns-2 c = ap (λ (a : HiveAnswer). valueWith a 0 0 0 0) (c .refused .ensures) ∙ sym (ap valueIn (c .before .before .v2 .given .1))
 
 pub value-answer-spec : {M : Type 1} → statement M
-value-answer-spec =
-    tie.close
-    (tie.spec (λ c. search needs) (λ c κs. search needs) (λ c. search needs) (λ c κs. search needs) returns returns-2)
+value-answer-spec = tie.close (tie.spec (λ c. search needs) (λ c κs. search needs) (λ c. search needs) (λ c κs. search needs) returns returns-2)

@@ -45,21 +45,5 @@ returns-4 c =
 
 pub walked-spec : {M : Type 1} → statement M
 walked-spec =
-    tie.close
-    (tie.spec
-    (λ c. search needs)
-    opening-requires
-    (λ c. search needs)
-    (λ c κs. search needs)
-    sub-nameless
-    (λ c κs. search needs)
-    (λ c. search needs)
-    (λ c κs. search needs)
-    (λ c κs. search needs)
-    (λ c. search needs)
-    (λ c κs. search needs)
-    (λ c κs. search needs)
-    returns
-    returns-2
-    returns-3
-    returns-4)
+    tie.close (tie.spec (λ c. search needs) opening-requires (λ c. search needs) (λ c κs. search needs) sub-nameless (λ c κs. search needs) (λ c. search needs)
+    (λ c κs. search needs) (λ c κs. search needs) (λ c. search needs) (λ c κs. search needs) (λ c κs. search needs) returns returns-2 returns-3 returns-4)

@@ -9,24 +9,19 @@ entry-of-requires : tie.Need-entry-of-requires
 entry-of-requires c κs = key-name _ _ (sym (c .before .before .before .before .before .key-at .ensures) ∙ c .before .before .before .k .given .1)
 
 stamp-of-requires : tie.Need-stamp-of-requires
-stamp-of-requires c κs = facts-room _ _ (sym (c .before .before .before .before .before .before .key-at .ensures) ∙ c .before .before .before .before .k .given .1)
+stamp-of-requires c κs =
+    let at-k = c .before .before .before .before in
+    facts-room _ _ (sym (at-k .before .before .key-at .ensures) ∙ at-k .k .given .1)
 
 returns : tie.Need-returns
 returns c = ap Refused (c .refused .ensures) ∙ sym (facts-bad _ _ (sym (c .before .before .before .before .key-at .ensures) ∙ c .before .before .f .given .1))
 
 returns-2 : tie.Need-returns-2
-returns-2 c = sym (facts-are _ _ (sym (c .before .before .before .before .before .before .before .key-at .ensures) ∙ c .before .before .before .before .before .k .given .1) (c .before .entry-of .ensures) (c .stamp-of .ensures))
+returns-2 c =
+    let at-k = c .before .before .before .before .before in
+    sym (facts-are _ _ (sym (at-k .before .before .key-at .ensures) ∙ at-k .k .given .1) (c .before .entry-of .ensures) (c .stamp-of .ensures))
 
 pub facts-in-spec : {M : Type 1} → statement M
 facts-in-spec =
-    tie.close
-    (tie.spec
-    (λ c. search needs)
-    (λ c κs. search needs)
-    (λ c. search needs)
-    (λ c κs. search needs)
-    (λ c. search needs)
-    entry-of-requires
-    stamp-of-requires
-    returns
-    returns-2)
+    tie.close (tie.spec (λ c. search needs) (λ c κs. search needs) (λ c. search needs) (λ c κs. search needs) (λ c. search needs) entry-of-requires
+    stamp-of-requires returns returns-2)

@@ -4,9 +4,6 @@ use borrow.Author.Needs.{needs}
 use Rattle.listing.proofs.given_flaw.Statement.{statement}
 use Rattle.listing.proofs.given_flaw.Tie as tie
 
-bins-of-requires : tie.Need-bins-of-requires
-bins-of-requires c κs = sym (c .before .before .base-flaw .ensures) ∙ c .enum-told .given .1
-
 returns : tie.Need-returns
 returns c = sym (given-base _ _ (sym (c .before .before .before .base-flaw .ensures) ∙ c .before .f .given .1))
 
@@ -16,5 +13,5 @@ returns-2 c = let e = sym (c .before .before .before .before .base-flaw .ensures
 
 pub given-flaw-spec : {M : Type 1} → statement M
 given-flaw-spec =
-    tie.close
-    (tie.spec (λ c κs. search needs) (λ c. search needs) (λ c. search needs) bins-of-requires (λ c κs. search needs) returns returns-2)
+    tie.close (tie.spec (λ c κs. search needs) (λ c. search needs) (λ c. search needs) (λ c κs. sym (c .before .before .base-flaw .ensures) ∙ c .enum-told .given .1)
+    (λ c κs. search needs) returns returns-2)

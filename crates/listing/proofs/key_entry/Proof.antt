@@ -12,17 +12,11 @@ returns : tie.Need-returns
 returns c = ap Refused (c .refused .ensures) ∙ sym (key-bad _ _ _ (sym (c .before .before .before .before .key-at .ensures) ∙ c .before .before .f .given .1))
 
 returns-2 : tie.Need-returns-2
-returns-2 c = ap At (c .entry-of .ensures) ∙ sym (key-is _ _ _ (sym (c .before .before .before .before .before .key-at .ensures) ∙ c .before .before .before .k .given .1))
+returns-2 c =
+    ap At (c .entry-of .ensures)
+    ∙ sym (key-is _ _ _ (sym (c .before .before .before .before .before .key-at .ensures) ∙ c .before .before .before .k .given .1))
 
 pub key-entry-spec : {M : Type 1} → statement M
 key-entry-spec =
-    tie.close
-    (tie.spec
-    (λ c. search needs)
-    (λ c κs. search needs)
-    (λ c. search needs)
-    (λ c κs. search needs)
-    (λ c. search needs)
-    entry-of-requires
-    returns
+    tie.close (tie.spec (λ c. search needs) (λ c κs. search needs) (λ c. search needs) (λ c κs. search needs) (λ c. search needs) entry-of-requires returns
     returns-2)

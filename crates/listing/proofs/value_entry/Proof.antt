@@ -9,20 +9,15 @@ entry-of-requires : tie.Need-entry-of-requires
 entry-of-requires c κs = value-name _ _ _ (sym (c .before .before .before .before .value-at .ensures) ∙ c .before .before .x .given .1)
 
 returns : tie.Need-returns
-returns c = ap Refused (c .refused .ensures) ∙ sym (value-bad _ _ _ _ (sym (c .before .before .before .before .value-at .ensures) ∙ c .before .before .f .given .1))
+returns c =
+    ap Refused (c .refused .ensures) ∙ sym (value-bad _ _ _ _ (sym (c .before .before .before .before .value-at .ensures) ∙ c .before .before .f .given .1))
 
 returns-2 : tie.Need-returns-2
-returns-2 c = ap At (c .entry-of .ensures) ∙ sym (value-is _ _ _ _ (sym (c .before .before .before .before .before .value-at .ensures) ∙ c .before .before .before .x .given .1))
+returns-2 c =
+    ap At (c .entry-of .ensures)
+    ∙ sym (value-is _ _ _ _ (sym (c .before .before .before .before .before .value-at .ensures) ∙ c .before .before .before .x .given .1))
 
 pub value-entry-spec : {M : Type 1} → statement M
 value-entry-spec =
-    tie.close
-    (tie.spec
-    (λ c. search needs)
-    (λ c κs. search needs)
-    (λ c. search needs)
-    (λ c κs. search needs)
-    (λ c. search needs)
-    entry-of-requires
-    returns
+    tie.close (tie.spec (λ c. search needs) (λ c κs. search needs) (λ c. search needs) (λ c κs. search needs) (λ c. search needs) entry-of-requires returns
     returns-2)

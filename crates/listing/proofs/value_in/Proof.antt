@@ -13,13 +13,5 @@ returns-2 c = c .value-below .ensures ∙ sym (in-on _ _ _ _ (sym (c .before .be
 
 pub value-in-spec : {M : Type 1} → statement M
 value-in-spec =
-    tie.close
-    (tie.spec
-    (λ c. search needs)
-    (λ c κs. search needs)
-    (λ c. search needs)
-    (λ c κs. search needs)
-    (λ c. search needs)
-    (λ c κs. search needs)
-    returns
-    returns-2)
+    tie.close (tie.spec (λ c. search needs) (λ c κs. search needs) (λ c. search needs) (λ c κs. search needs) (λ c. search needs) (λ c κs. search needs)
+    returns returns-2)

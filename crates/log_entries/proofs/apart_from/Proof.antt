@@ -21,19 +21,10 @@ loop-holds : tie.Need-loop-holds Inv-loop μ-loop
 unfolding apartFrom
 loop-holds c = (omega arith, refl)
 
-are-apart-requires : tie.Need-are-apart-requires Inv-loop μ-loop
-are-apart-requires c κs = (omega arith, omega arith)
-
 returns : tie.Need-returns Inv-loop μ-loop
 returns c =
     let s = c .before .before .before .before .before in
     sym (not-apart _ _ _ (s .args .i) (c .before .before .before .loop .j) (omega arith) (sym (c .before .are-apart .ensures) ∙ not-true _ (c .if1 .taken)))
-
-add-j : tie.Need-add-j Inv-loop μ-loop
-add-j c = omega arith
-
-loop-less : tie.Need-loop-less Inv-loop μ-loop
-loop-less c = omega arith
 
 loop-again : tie.Need-loop-again Inv-loop μ-loop
 unfolding apartFrom
@@ -47,14 +38,4 @@ returns-2 c =
 
 pub apart-from-spec : {M : Type 1} → statement M
 apart-from-spec =
-    tie.close
-    (tie.spec
-    Inv-loop
-    μ-loop
-    loop-holds
-    are-apart-requires
-    returns
-    add-j
-    loop-less
-    loop-again
-    returns-2)
+    tie.close (tie.spec Inv-loop μ-loop loop-holds (λ c κs. (omega arith, omega arith)) returns (λ c. omega arith) (λ c. omega arith) loop-again returns-2)

@@ -7,12 +7,6 @@ use borrow.Author.Needs.{needs}
 use Rattle.log_entries.proofs.are_apart.Statement.{statement}
 use Rattle.log_entries.proofs.are_apart.Tie as tie
 
-returns : tie.Need-returns
-returns c = sym (first-empty _ _ _ _ (omega arith))
-
-returns-2 : tie.Need-returns-2
-returns-2 c = sym (second-empty _ _ _ _ (λ e. omega arith) (omega arith))
-
 returns-3 : tie.Need-returns-3
 returns-3 c = sym (before-start _ _ _ _ (λ e. omega arith) (λ e. omega arith) (omega arith))
 
@@ -23,27 +17,7 @@ returns-4 c =
 
 pub are-apart-spec : {M : Type 1} → statement M
 are-apart-spec =
-    tie.close
-    (tie.spec
-    (λ c. search needs)
-    (λ c. search needs)
-    (λ c. search needs)
-    (λ c κs. search needs)
-    returns
-    (λ c. search needs)
-    (λ c. search needs)
-    (λ c. search needs)
-    (λ c κs. search needs)
-    returns-2
-    (λ c. search needs)
-    (λ c. search needs)
-    (λ c. search needs)
-    (λ c κs. search needs)
-    (λ c. search needs)
-    (λ c. search needs)
-    (λ c. search needs)
-    (λ c κs. search needs)
-    (λ c. search needs)
-    returns-3
-    (λ c. search needs)
-    returns-4)
+    tie.close (tie.spec (λ c. search needs) (λ c. search needs) (λ c. search needs) (λ c κs. search needs) (λ c. sym (first-empty _ _ _ _ (omega arith)))
+    (λ c. search needs) (λ c. search needs) (λ c. search needs) (λ c κs. search needs) (λ c. sym (second-empty _ _ _ _ (λ e. omega arith) (omega arith)))
+    (λ c. search needs) (λ c. search needs) (λ c. search needs) (λ c κs. search needs) (λ c. search needs) (λ c. search needs) (λ c. search needs)
+    (λ c κs. search needs) (λ c. search needs) returns-3 (λ c. search needs) returns-4)

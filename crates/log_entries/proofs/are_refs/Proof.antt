@@ -22,28 +22,13 @@ loop-holds : tie.Need-loop-holds Inv-loop μ-loop
 unfolding areRefs
 loop-holds c = (omega arith, refl, λ j p. absurd (omega arith))
 
-is-placed-requires : tie.Need-is-placed-requires Inv-loop μ-loop
-is-placed-requires c κs = omega arith
-
 returns : tie.Need-returns Inv-loop μ-loop
 returns c =
     sym (not-placed _ _ _ (c .before .before .before .loop .i) (omega arith) (sym (c .before .is-placed .ensures) ∙ not-true _ (c .if1 .taken)))
 
-is-apart-requires : tie.Need-is-apart-requires Inv-loop μ-loop
-is-apart-requires c κs = (omega arith, c .before .before .before .loop .inv .2)
-
 returns-2 : tie.Need-returns-2 Inv-loop μ-loop
 returns-2 c =
     sym (overlaps _ _ _ (c .before .before .before .before .before .loop .i) (omega arith) (sym (c .before .is-apart .ensures) ∙ not-true _ (c .if2 .taken)))
-
-later-end-requires : tie.Need-later-end-requires Inv-loop μ-loop
-later-end-requires c κs = (omega arith, c .before .before .before .before .before .loop .inv .2)
-
-add-i : tie.Need-add-i Inv-loop μ-loop
-add-i c = omega arith
-
-loop-less : tie.Need-loop-less Inv-loop μ-loop
-loop-less c = omega arith
 
 loop-again : tie.Need-loop-again Inv-loop μ-loop
 unfolding areRefs
@@ -60,17 +45,5 @@ returns-3 c =
 
 pub are-refs-spec : {M : Type 1} → statement M
 are-refs-spec =
-    tie.close
-    (tie.spec
-    Inv-loop
-    μ-loop
-    loop-holds
-    is-placed-requires
-    returns
-    is-apart-requires
-    returns-2
-    later-end-requires
-    add-i
-    loop-less
-    loop-again
-    returns-3)
+    tie.close (tie.spec Inv-loop μ-loop loop-holds (λ c κs. omega arith) returns (λ c κs. (omega arith, c .before .before .before .loop .inv .2)) returns-2
+    (λ c κs. (omega arith, c .before .before .before .before .before .loop .inv .2)) (λ c. omega arith) (λ c. omega arith) loop-again returns-3)

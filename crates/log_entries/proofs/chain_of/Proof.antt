@@ -14,34 +14,10 @@ Inv-loop log chain₀ n₀ chain n = Passed log n chain
 abbrev μ-loop : tie.MeasureT-loop
 μ-loop log chain₀ n₀ chain n = length log - chain .end
 
-sub-u32-at : tie.Need-sub-u32-at Inv-loop μ-loop
-sub-u32-at c = omega arith
-
-part-u32-at-start : tie.Need-part-u32-at-start Inv-loop μ-loop
-part-u32-at-start c = omega arith
-
-part-u32-at-end : tie.Need-part-u32-at-end Inv-loop μ-loop
-part-u32-at-end c = omega arith
-
-u32-at-requires : tie.Need-u32-at-requires Inv-loop μ-loop
-u32-at-requires c κs = omega arith
-
-cast-n : tie.Need-cast-n Inv-loop μ-loop
-cast-n c = omega arith
-
-loop-holds : tie.Need-loop-holds Inv-loop μ-loop
-loop-holds c = none-passed _ _ (omega arith) (omega arith) (c .u32-at .ensures)
-
-is-entry-requires : tie.Need-is-entry-requires Inv-loop μ-loop
-is-entry-requires c κs = c .loop .inv .inside
-
 grown-requires : tie.Need-grown-requires Inv-loop μ-loop
 grown-requires c κs =
     let k = c .before .before in
     (whole _ _ _ (k .loop .inv) (sym (c .before .is-entry .ensures) ∙ c .if1 .taken), omega (arith, k .loop .inv .many, k .loop .inv .inside))
-
-add-n : tie.Need-add-n Inv-loop μ-loop
-add-n c = omega (arith, c .before .before .before .loop .inv .number)
 
 loop-less : tie.Need-loop-less Inv-loop μ-loop
 unfolding grown
@@ -53,26 +29,14 @@ loop-less c =
 loop-again : tie.Need-loop-again Inv-loop μ-loop
 loop-again c =
     let k = c .before .before .before in
-    one-passed _ _ _ (k .loop .inv) (sym (c .before .before .is-entry .ensures) ∙ c .before .if1 .taken) (λ (i : ℕ). k .before .before .before .shared-slice-known .given i .fits) (c .grown .result) (c .grown .ensures)
+    one-passed _ _ _ (k .loop .inv) (sym (c .before .before .is-entry .ensures) ∙ c .before .if1 .taken)
+    (λ (i : ℕ). k .before .before .before .shared-slice-known .given i .fits) (c .grown .result) (c .grown .ensures)
 
 returns : tie.Need-returns Inv-loop μ-loop
 returns c = last-passed _ _ _ (c .before .before .loop .inv) (sym (c .before .is-entry .ensures) ∙ c .if1 .left)
 
 pub chain-of-spec : {M : Type 1} → statement M
 chain-of-spec =
-    tie.close
-    (tie.spec
-    Inv-loop
-    μ-loop
-    sub-u32-at
-    part-u32-at-start
-    part-u32-at-end
-    u32-at-requires
-    cast-n
-    loop-holds
-    is-entry-requires
-    grown-requires
-    add-n
-    loop-less
-    loop-again
-    returns)
+    tie.close (tie.spec Inv-loop μ-loop (λ c. omega arith) (λ c. omega arith) (λ c. omega arith) (λ c κs. omega arith) (λ c. omega arith)
+    (λ c. none-passed _ _ (omega arith) (omega arith) (c .u32-at .ensures)) (λ c κs. c .loop .inv .inside) grown-requires
+    (λ c. omega (arith, c .before .before .before .loop .inv .number)) loop-less loop-again returns)

@@ -8,28 +8,13 @@ use borrow.Author.Needs.{needs}
 use Rattle.log_entries.proofs.is_entry.Statement.{statement}
 use Rattle.log_entries.proofs.is_entry.Tie as tie
 
-returns : tie.Need-returns
-returns c = sym (not-entered _ _ _ (λ e. omega (arith, e .head)))
-
 returns-2 : tie.Need-returns-2
 returns-2 c =
     sym (not-entered _ _ _ (λ e. never _ (e .signed) (sym (c .before .stands-at .ensures) ∙ not-true _ (c .if2 .taken))))
 
-returns-3 : tie.Need-returns-3
-returns-3 c = sym (not-entered _ _ _ (λ e. omega (arith, e .least)))
-
-returns-4 : tie.Need-returns-4
-returns-4 c = sym (not-entered _ _ _ (λ e. omega (arith, e .sectors)))
-
-returns-5 : tie.Need-returns-5
-returns-5 c = sym (not-entered _ _ _ (λ e. omega (arith, e .inside)))
-
 returns-6 : tie.Need-returns-6
 returns-6 c =
     sym (not-entered _ _ _ (λ e. never _ (e .hashed) (sym (c .before .is-hashed .ensures) ∙ not-true _ (c .if6 .taken))))
-
-returns-7 : tie.Need-returns-7
-returns-7 c = sym (not-entered _ _ _ (λ e. omega (arith, e .numbered)))
 
 returns-8 : tie.Need-returns-8
 returns-8 c =
@@ -38,7 +23,8 @@ returns-8 c =
 
 returns-9 : tie.Need-returns-9
 returns-9 c =
-    let bins = sym (c .before .before .is-bins-size .ensures ∙ ap isBinsSize (c .before .before .before .u32-at2 .ensures)) ∙ not-false _ (c .before .if8 .left) in
+    let bins =
+    sym (c .before .before .is-bins-size .ensures ∙ ap isBinsSize (c .before .before .before .u32-at2 .ensures)) ∙ not-false _ (c .before .if8 .left) in
     let n = c .before .before .before .before in
     let h = n .before .before in
     let s = h .before .before .before .before .before .before in
@@ -48,27 +34,8 @@ returns-9 c =
 
 pub is-entry-spec : {M : Type 1} → statement M
 is-entry-spec =
-    tie.close
-    (tie.spec
-    (λ c. search needs)
-    returns
-    (λ c. search needs)
-    (λ c κs. search needs)
-    returns-2
-    (λ c. search needs)
-    (λ c κs. search needs)
-    returns-3
-    returns-4
-    returns-5
-    (λ c κs. search needs)
-    returns-6
-    (λ c. search needs)
-    (λ c κs. search needs)
-    (λ c. search needs)
-    returns-7
-    (λ c. search needs)
-    (λ c κs. search needs)
-    (λ c κs. search needs)
-    returns-8
-    (λ c κs. search needs)
-    returns-9)
+    tie.close (tie.spec (λ c. search needs) (λ c. sym (not-entered _ _ _ (λ e. omega (arith, e .head)))) (λ c. search needs) (λ c κs. search needs) returns-2
+    (λ c. search needs) (λ c κs. search needs) (λ c. sym (not-entered _ _ _ (λ e. omega (arith, e .least))))
+    (λ c. sym (not-entered _ _ _ (λ e. omega (arith, e .sectors)))) (λ c. sym (not-entered _ _ _ (λ e. omega (arith, e .inside)))) (λ c κs. search needs)
+    returns-6 (λ c. search needs) (λ c κs. search needs) (λ c. search needs) (λ c. sym (not-entered _ _ _ (λ e. omega (arith, e .numbered))))
+    (λ c. search needs) (λ c κs. search needs) (λ c κs. search needs) returns-8 (λ c κs. search needs) returns-9)

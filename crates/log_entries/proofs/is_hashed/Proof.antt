@@ -27,34 +27,17 @@ returns c =
 
 returns-2 : tie.Need-returns-2
 returns-2 c =
+    let at-hash = c .before .before .before .before in
     let f = c .before .before .before in
-    let s = f .before .before .before .before .before .before in
+    let s = at-hash .before .before .before .before .before in
     let l = s .args .log .now in
     let at = s .args .at in
     let second = ap (λ (n : ℕ). hashOf (take n (drop at l))) (add-sub-cancel-left at 32) in
     ap₂ eqb (c .before .before .u64-at2 .ensures) (c .hash2 .ensures ∙ second)
-    ∙ sym (by-second l at (sym (f .before .before .before .u64-at .ensures) ∙ f .if1 .left ∙ f .before .hash .ensures ∙ body (f .before .before .before)))
+    ∙ sym (by-second l at (sym (at-hash .before .before .u64-at .ensures) ∙ f .if1 .left ∙ at-hash .hash .ensures ∙ body (at-hash .before .before)))
 
 pub is-hashed-spec : {M : Type 1} → statement M
 is-hashed-spec =
-    tie.close
-    (tie.spec
-    (λ c. search needs)
-    (λ c κs. search needs)
-    (λ c. search needs)
-    (λ c. search needs)
-    (λ c κs. search needs)
-    (λ c. search needs)
-    (λ c. search needs)
-    (λ c. search needs)
-    (λ c. search needs)
-    (λ c κs. search needs)
-    returns
-    (λ c. search needs)
-    (λ c κs. search needs)
-    (λ c. search needs)
-    (λ c. search needs)
-    (λ c. search needs)
-    (λ c. search needs)
-    (λ c κs. search needs)
-    returns-2)
+    tie.close (tie.spec (λ c. search needs) (λ c κs. search needs) (λ c. search needs) (λ c. search needs) (λ c κs. search needs) (λ c. search needs)
+    (λ c. search needs) (λ c. search needs) (λ c. search needs) (λ c κs. search needs) returns (λ c. search needs) (λ c κs. search needs) (λ c. search needs)
+    (λ c. search needs) (λ c. search needs) (λ c. search needs) (λ c κs. search needs) returns-2)

@@ -7,12 +7,6 @@ use borrow.Author.Needs.{needs}
 use Rattle.log_entries.proofs.is_placed.Statement.{statement}
 use Rattle.log_entries.proofs.is_placed.Tie as tie
 
-returns : tie.Need-returns
-returns c = sym (offset-unaligned _ _ _ (λ e. omega arith))
-
-returns-2 : tie.Need-returns-2
-returns-2 c = sym (size-unaligned _ _ _ (omega arith) (λ e. omega arith))
-
 returns-3 : tie.Need-returns-3
 returns-3 c =
     let s = c .before .before .before .before in
@@ -21,19 +15,6 @@ returns-3 c =
 
 pub is-placed-spec : {M : Type 1} → statement M
 is-placed-spec =
-    tie.close
-    (tie.spec
-    (λ c. search needs)
-    (λ c. search needs)
-    (λ c. search needs)
-    (λ c κs. search needs)
-    returns
-    (λ c. search needs)
-    (λ c. search needs)
-    (λ c. search needs)
-    (λ c κs. search needs)
-    returns-2
-    (λ c. search needs)
-    (λ c. search needs)
-    (λ c κs. search needs)
-    returns-3)
+    tie.close (tie.spec (λ c. search needs) (λ c. search needs) (λ c. search needs) (λ c κs. search needs)
+    (λ c. sym (offset-unaligned _ _ _ (λ e. omega arith))) (λ c. search needs) (λ c. search needs) (λ c. search needs) (λ c κs. search needs)
+    (λ c. sym (size-unaligned _ _ _ (omega arith) (λ e. omega arith))) (λ c. search needs) (λ c. search needs) (λ c κs. search needs) returns-3)

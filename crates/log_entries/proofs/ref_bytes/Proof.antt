@@ -17,27 +17,6 @@ loop-holds : tie.Need-loop-holds Inv-loop μ-loop
 unfolding refBytes
 loop-holds c = (omega arith, refl, omega arith)
 
-add-wide-at : tie.Need-add-wide-at Inv-loop μ-loop
-add-wide-at c = omega arith
-
-mul-wide-at : tie.Need-mul-wide-at Inv-loop μ-loop
-mul-wide-at c = omega arith
-
-add-wide-at-2 : tie.Need-add-wide-at-2 Inv-loop μ-loop
-add-wide-at-2 c = omega arith
-
-wide-at-requires : tie.Need-wide-at-requires Inv-loop μ-loop
-wide-at-requires c κs = omega arith
-
-add-sum : tie.Need-add-sum Inv-loop μ-loop
-add-sum c = omega arith
-
-add-i : tie.Need-add-i Inv-loop μ-loop
-add-i c = omega arith
-
-loop-less : tie.Need-loop-less Inv-loop μ-loop
-loop-less c = omega arith
-
 loop-again : tie.Need-loop-again Inv-loop μ-loop
 unfolding refBytes
 loop-again c =
@@ -51,17 +30,5 @@ returns c =
 
 pub ref-bytes-spec : {M : Type 1} → statement M
 ref-bytes-spec =
-    tie.close
-    (tie.spec
-    Inv-loop
-    μ-loop
-    loop-holds
-    add-wide-at
-    mul-wide-at
-    add-wide-at-2
-    wide-at-requires
-    add-sum
-    add-i
-    loop-less
-    loop-again
-    returns)
+    tie.close (tie.spec Inv-loop μ-loop loop-holds (λ c. omega arith) (λ c. omega arith) (λ c. omega arith) (λ c κs. omega arith) (λ c. omega arith)
+    (λ c. omega arith) (λ c. omega arith) loop-again returns)

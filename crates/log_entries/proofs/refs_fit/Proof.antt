@@ -6,9 +6,6 @@ use borrow.Author.Needs.{needs}
 use Rattle.log_entries.proofs.refs_fit.Statement.{statement}
 use Rattle.log_entries.proofs.refs_fit.Tie as tie
 
-returns : tie.Need-returns
-returns c = sym (no-room _ _ (omega arith))
-
 returns-2 : tie.Need-returns-2
 returns-2 c =
     let s = c .before .before .before .before .before .before in
@@ -24,18 +21,5 @@ returns-3 c =
 
 pub refs-fit-spec : {M : Type 1} → statement M
 refs-fit-spec =
-    tie.close
-    (tie.spec
-    (λ c. search needs)
-    (λ c κs. search needs)
-    (λ c. search needs)
-    (λ c. search needs)
-    (λ c κs. search needs)
-    (λ c. search needs)
-    returns
-    (λ c. search needs)
-    (λ c. search needs)
-    (λ c κs. search needs)
-    returns-2
-    (λ c κs. search needs)
-    returns-3)
+    tie.close (tie.spec (λ c. search needs) (λ c κs. search needs) (λ c. search needs) (λ c. search needs) (λ c κs. search needs) (λ c. search needs)
+    (λ c. sym (no-room _ _ (omega arith))) (λ c. search needs) (λ c. search needs) (λ c κs. search needs) returns-2 (λ c κs. search needs) returns-3)

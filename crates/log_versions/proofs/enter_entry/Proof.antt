@@ -12,23 +12,8 @@ use Rattle.log_versions.proofs.enter_entry.Tie as tie
 here : (s : tie.Start) → EntryLies (s .args .log .now) (s .args .c .end)
 here s = entry-here (s .args .log .now) (s .args .c) (s .pre .0) (s .pre .1) (s .pre .2) (s .pre .3)
 
-add-u32-at : tie.Need-add-u32-at
-add-u32-at c = omega (arith, here (c .before) .head)
-
-u32-at-requires : tie.Need-u32-at-requires
-u32-at-requires c κs = omega (arith, here (c .before) .head)
-
-add-u32-at-2 : tie.Need-add-u32-at-2
-add-u32-at-2 c = omega (arith, here (c .before .before) .head)
-
-u32-at-requires-2 : tie.Need-u32-at-requires-2
-u32-at-requires-2 c κs = omega (arith, here (c .before .before) .head)
-
 add-t8 : tie.Need-add-t8
 add-t8 c = omega (arith, here (c .before .before .before) .ends, c .u32-at2 .ensures)
-
-add-t10 : tie.Need-add-t10
-add-t10 c = omega (arith, here (c .before .before .before .before) .head)
 
 add-t12 : tie.Need-add-t12
 add-t12 c = omega (arith, here (c .before .before .before .before) .refs-end, c .before .before .u32-at .ensures)
@@ -43,17 +28,6 @@ returns c =
 
 pub enter-entry-spec : {M : Type 1} → statement M
 enter-entry-spec =
-    tie.close
-    (tie.spec
-    add-u32-at
-    u32-at-requires
-    (λ c. search needs)
-    add-u32-at-2
-    u32-at-requires-2
-    (λ c. search needs)
-    add-t8
-    (λ c. search needs)
-    add-t10
-    (λ c. search needs)
-    add-t12
-    returns)
+    tie.close (tie.spec (λ c. omega (arith, here (c .before) .head)) (λ c κs. omega (arith, here (c .before) .head)) (λ c. search needs)
+    (λ c. omega (arith, here (c .before .before) .head)) (λ c κs. omega (arith, here (c .before .before) .head)) (λ c. search needs) add-t8 (λ c. search needs)
+    (λ c. omega (arith, here (c .before .before .before .before) .head)) (λ c. search needs) add-t12 returns)

@@ -13,21 +13,6 @@ use Rattle.log_versions.proofs.enter_reference.Tie as tie
 here : (s : tie.Start) → RefLies (s .args .log .now) (s .args .c .at) (s .args .c .index) (s .args .c .place)
 here s = ref-here (s .args .log .now) (s .args .c) (s .pre .0) (s .pre .1) (s .pre .2)
 
-add-field : tie.Need-add-field
-add-field c = omega (arith, here (c .before .before) .head)
-
-mul-field : tie.Need-mul-field
-mul-field c = omega (arith, here (c .before .before .before) .head)
-
-add-field-2 : tie.Need-add-field-2
-add-field-2 c = omega (arith, here (c .before .before .before) .head)
-
-add-t4 : tie.Need-add-t4
-add-t4 c = omega (arith, here (c .before .before .before .before) .head)
-
-u32-at-requires : tie.Need-u32-at-requires
-u32-at-requires c κs = omega (arith, here (c .before .before .before .before .before) .head)
-
 add-u32-at : tie.Need-add-u32-at
 add-u32-at c = omega (arith, here (c .before .before .before .before .before .before) .head)
 
@@ -49,16 +34,7 @@ returns c =
 
 pub enter-reference-spec : {M : Type 1} → statement M
 enter-reference-spec =
-    tie.close
-    (tie.spec
-    add-field
-    mul-field
-    add-field-2
-    add-t4
-    (λ c. search needs)
-    u32-at-requires
-    (λ c. search needs)
-    add-u32-at
-    u32-at-requires-2
-    (λ c. search needs)
+    tie.close (tie.spec (λ c. omega (arith, here (c .before .before) .head)) (λ c. omega (arith, here (c .before .before .before) .head))
+    (λ c. omega (arith, here (c .before .before .before) .head)) (λ c. omega (arith, here (c .before .before .before .before) .head)) (λ c. search needs)
+    (λ c κs. omega (arith, here (c .before .before .before .before .before) .head)) (λ c. search needs) add-u32-at u32-at-requires-2 (λ c. search needs)
     returns)

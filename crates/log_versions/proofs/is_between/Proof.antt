@@ -5,9 +5,6 @@ use borrow.Author.Tests.{le-ltb, lt-ltb}
 use Rattle.log_versions.proofs.is_between.Statement.{statement}
 use Rattle.log_versions.proofs.is_between.Tie as tie
 
-returns : tie.Need-returns
-returns c = simp (lt-ltb _ _ (c .if1 .taken))
-
 returns-2 : tie.Need-returns-2
 returns-2 c = simp (le-ltb _ _ (c .before .before .if1 .left), lt-ltb _ _ (c .if2 .taken))
 
@@ -20,4 +17,4 @@ returns-3 c =
     (le-ltb 0 (s .args .c .refs) (c .before .if2 .left)))
 
 pub is-between-spec : {M : Type 1} → statement M
-is-between-spec = tie.close (tie.spec returns returns-2 returns-3)
+is-between-spec = tie.close (tie.spec (λ c. simp (lt-ltb _ _ (c .if1 .taken))) returns-2 returns-3)

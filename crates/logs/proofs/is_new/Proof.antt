@@ -19,7 +19,8 @@ returns-2 : tie.Need-returns-2
 unfolding isNew
 returns-2 c =
     let l = c .before .before .before .before .args .log .now in
-    ap (λ (k : ℕ). eqb k 6) (c .u32-at .ensures) ∙ sym (ap (λ (b : Bool). b && eqb (typeOf (sector l)) 6) (le-leb 512 (length l) (c .before .before .if1 .left)))
+    ap (λ (k : ℕ). eqb k 6) (c .u32-at .ensures)
+    ∙ sym (ap (λ (b : Bool). b && eqb (typeOf (sector l)) 6) (le-leb 512 (length l) (c .before .before .if1 .left)))
 
 pub is-new-spec : {M : Type 1} → statement M
 is-new-spec = tie.close (tie.spec returns (λ c. search needs) (λ c. search needs) (λ c. search needs) (λ c κs. search needs) returns-2)

@@ -26,4 +26,5 @@ returns-2 c =
     c .before .before .put-all2 .ensures ∙ sym (new-put _ (new-told _ (k .read .given .1) (s .pre .1 .0) .0) _)
 
 pub put-all-spec : {M : Type 1} → statement M
-put-all-spec = tie.close (tie.spec (λ c. search needs) put-all-requires (λ c. search needs) put-all-requires-2 (λ c. search needs) returns (λ c. search needs) returns-2)
+put-all-spec =
+    tie.close (tie.spec (λ c. search needs) put-all-requires (λ c. search needs) put-all-requires-2 (λ c. search needs) returns (λ c. search needs) returns-2)

@@ -29,4 +29,7 @@ returns-2 c =
     c .before .before .store-closing2 .ensures ∙ sym (ap (stored (s .args .hive .now) 0) (new-closing _ (new-told _ (k .read .given .1) (s .pre .1 .0) .0)))
 
 pub store-closing-spec : {M : Type 1} → statement M
-store-closing-spec = tie.close (tie.spec (λ c. search needs) store-closing-requires (λ c. search needs) store-closing-requires-2 (λ c. search needs) returns (λ c. search needs) returns-2)
+store-closing-spec =
+    tie.close
+    (tie.spec (λ c. search needs) store-closing-requires (λ c. search needs) store-closing-requires-2 (λ c. search needs) returns (λ c. search needs)
+    returns-2)

@@ -8,24 +8,23 @@ use Rattle.lookup.proofs.copy_info.Statement.{statement}
 use Rattle.lookup.proofs.copy_info.Tie as tie
 
 returns : tie.Need-returns
-returns c = let s = c .before .before .before .before in let out = now (s .args .out) in
-    (ap Refused (c .refused .ensures) ∙ sym (told-short (s .args .key) out (s .args .i) (c .before .if1 .taken)), sym (short-stays (s .args .key) out (s .args .i) (c .before .if1 .taken) _))
+returns c = let s = c .before .before .before .before in let out = now (s .args .out) in (
+  ap Refused (c .refused .ensures) ∙ sym (told-short (s .args .key) out (s .args .i) (c .before .if1 .taken)),
+  sym (short-stays (s .args .key) out (s .args .i) (c .before .if1 .taken) _),
+)
 
 copy-data-requires : tie.Need-copy-data-requires
 copy-data-requires c κs = let s = c .before .before .before .before .before in
     (rw (c .before .bins-of .ensures) (s .pre .1 .0), omega (arith, s .pre .1 .1, c .before .before .if1 .left))
 
 returns-2 : tie.Need-returns-2
-returns-2 c = let s = c .before .before .before .before .before .before .before .before in let out = now (s .args .out) in let p = c .before .before .before .before .before .if1 .left in
-    (sym (told-done (s .args .key) out (s .args .i) p), c .before .before .copy-data .ensures ∙ rw (c .before .before .before .before .bins-of .ensures, ← s .pre .1 .1) (sym (told-written (s .args .key) out (s .args .i) p _)))
+returns-2 c =
+    let at-if1 = c .before .before .before .before .before in
+    let s = at-if1 .before .before .before in let out = now (s .args .out) in let p = at-if1 .if1 .left in (
+      sym (told-done (s .args .key) out (s .args .i) p),
+      c .before .before .copy-data .ensures
+          ∙ rw (c .before .before .before .before .bins-of .ensures, ← s .pre .1 .1) (sym (told-written (s .args .key) out (s .args .i) p _)),
+    )
 
 pub copy-info-spec : {M : Type 1} → statement M
-copy-info-spec =
-    tie.close
-    (tie.spec
-    (λ c κs. search needs)
-    returns
-    (λ c κs. search needs)
-    copy-data-requires
-    (λ c. search needs)
-    returns-2)
+copy-info-spec = tie.close (tie.spec (λ c κs. search needs) returns (λ c κs. search needs) copy-data-requires (λ c. search needs) returns-2)

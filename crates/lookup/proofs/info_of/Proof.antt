@@ -4,12 +4,9 @@ use borrow.Author.Needs.{needs}
 use Rattle.lookup.proofs.info_of.Statement.{statement}
 use Rattle.lookup.proofs.info_of.Tie as tie
 
-part-place-requires : tie.Need-part-place-requires
-part-place-requires c κs = rw (c .part-of .ensures) (part-near _)
-
 returns : tie.Need-returns
 unfolding infoOf placeIn
 returns c = rw (c .part-place .ensures, c .before .part-of .ensures, part-whole _)
 
 pub info-of-spec : {M : Type 1} → statement M
-info-of-spec = tie.close (tie.spec (λ c κs. search needs) part-place-requires returns)
+info-of-spec = tie.close (tie.spec (λ c κs. search needs) (λ c κs. rw (c .part-of .ensures) (part-near _)) returns)

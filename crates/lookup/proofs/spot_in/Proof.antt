@@ -7,7 +7,8 @@ use Rattle.lookup.proofs.spot_in.Statement.{statement}
 use Rattle.lookup.proofs.spot_in.Tie as tie
 
 returns : tie.Need-returns
-returns c = ap Refused (c .refused .ensures) ∙ sym (spot-bad _ _ _ _ (sym (c .before .before .before .before .key-at .ensures) ∙ c .before .before .f .given .1))
+returns c =
+    ap Refused (c .refused .ensures) ∙ sym (spot-bad _ _ _ _ (sym (c .before .before .before .before .key-at .ensures) ∙ c .before .before .f .given .1))
 
 returns-2 : tie.Need-returns-2
 returns-2 c =
@@ -16,14 +17,5 @@ returns-2 c =
 
 pub spot-in-spec : {M : Type 1} → statement M
 spot-in-spec =
-    tie.close
-    (tie.spec
-    (λ c. search needs)
-    (λ c κs. search needs)
-    (λ c. search needs)
-    (λ c κs. search needs)
-    (λ c. search needs)
-    (λ c κs. search needs)
-    (λ c κs. search needs)
-    returns
-    returns-2)
+    tie.close (tie.spec (λ c. search needs) (λ c κs. search needs) (λ c. search needs) (λ c κs. search needs) (λ c. search needs) (λ c κs. search needs)
+    (λ c κs. search needs) returns returns-2)

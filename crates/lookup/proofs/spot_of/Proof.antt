@@ -5,9 +5,6 @@ use borrow.Author.Needs.{needs}
 use Rattle.lookup.proofs.spot_of.Statement.{statement}
 use Rattle.lookup.proofs.spot_of.Tie as tie
 
-bins-of-requires : tie.Need-bins-of-requires
-bins-of-requires c κs = sym (c .before .before .base-flaw .ensures) ∙ c .enum-told .given .1
-
 minor-of-requires : tie.Need-minor-of-requires
 minor-of-requires c κs = sym (c .before .before .before .base-flaw .ensures) ∙ c .before .enum-told .given .1
 
@@ -22,14 +19,5 @@ returns-2 c =
 
 pub spot-of-spec : {M : Type 1} → statement M
 spot-of-spec =
-    tie.close
-    (tie.spec
-    (λ c κs. search needs)
-    (λ c. search needs)
-    (λ c κs. search needs)
-    (λ c. search needs)
-    bins-of-requires
-    minor-of-requires
-    (λ c κs. search needs)
-    returns
-    returns-2)
+    tie.close (tie.spec (λ c κs. search needs) (λ c. search needs) (λ c κs. search needs) (λ c. search needs)
+    (λ c κs. sym (c .before .before .base-flaw .ensures) ∙ c .enum-told .given .1) minor-of-requires (λ c κs. search needs) returns returns-2)

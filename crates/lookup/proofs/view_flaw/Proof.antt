@@ -18,6 +18,4 @@ unfolding viewFault
 returns-3 c = c .flawed .ensures ∙ rw (c .before .enum-told3 .given .1)
 
 pub view-flaw-spec : {M : Type 1} → statement M
-view-flaw-spec =
-    tie.close
-    (tie.spec (λ c. search needs) (λ c. search needs) (λ c. search needs) (λ c κs. search needs) returns returns-2 returns-3)
+view-flaw-spec = tie.close (tie.spec (λ c. search needs) (λ c. search needs) (λ c. search needs) (λ c κs. search needs) returns returns-2 returns-3)

@@ -7,38 +7,31 @@ use Rattle.names.proofs.LawsCodes.{codes-few, found, found-later, four-
 use Rattle.names.proofs.among_four.Statement.{statement}
 use Rattle.names.proofs.among_four.Tie as tie
 
-code-at-requires : tie.Need-code-at-requires
-code-at-requires c κs = omega arith
-
 returns : tie.Need-returns
 returns c = let a = c .before .before .before .args in some (found backslash (codes (a .narrow) (a .s .now)) (a .i) (omega arith) (omega arith))
 
 add-code-at : tie.Need-add-code-at
 add-code-at c = let a = c .before .before .before .args in omega (arith, codes-few (a .narrow) (a .s .now))
 
-code-at-requires-2 : tie.Need-code-at-requires-2
-code-at-requires-2 c κs = omega arith
-
 returns-2 : tie.Need-returns-2
-returns-2 c = let a = c .before .before .before .before .before .args in some (found-later backslash (codes (a .narrow) (a .s .now)) (a .i) 1 (omega arith) (omega arith))
+returns-2 c =
+    let a = c .before .before .before .before .before .args in some (found-later backslash (codes (a .narrow) (a .s .now)) (a .i) 1 (omega arith) (omega arith))
 
 add-code-at-2 : tie.Need-add-code-at-2
 add-code-at-2 c = let a = c .before .before .before .before .before .args in omega (arith, codes-few (a .narrow) (a .s .now))
 
-code-at-requires-3 : tie.Need-code-at-requires-3
-code-at-requires-3 c κs = omega arith
-
 returns-3 : tie.Need-returns-3
-returns-3 c = let a = c .before .before .before .before .before .before .before .args in some (found-later backslash (codes (a .narrow) (a .s .now)) (a .i) 2 (omega arith) (omega arith))
+returns-3 c =
+    let a = c .before .before .before .before .before .before .before .args in
+    some (found-later backslash (codes (a .narrow) (a .s .now)) (a .i) 2 (omega arith) (omega arith))
 
 add-code-at-3 : tie.Need-add-code-at-3
 add-code-at-3 c = let a = c .before .before .before .before .before .before .before .args in omega (arith, codes-few (a .narrow) (a .s .now))
 
-code-at-requires-4 : tie.Need-code-at-requires-4
-code-at-requires-4 c κs = omega arith
-
 returns-4 : tie.Need-returns-4
-returns-4 c = let a = c .before .before .before .before .before .before .before .before .before .args in some (found-later backslash (codes (a .narrow) (a .s .now)) (a .i) 3 (omega arith) (omega arith))
+returns-4 c =
+    let a = c .before .before .before .before .before .before .before .before .before .args in
+    some (found-later backslash (codes (a .narrow) (a .s .now)) (a .i) 3 (omega arith) (omega arith))
 
 returns-5 : tie.Need-returns-5
 returns-5 c =
@@ -51,17 +44,5 @@ returns-5 c =
 
 pub among-four-spec : {M : Type 1} → statement M
 among-four-spec =
-    tie.close
-    (tie.spec
-    code-at-requires
-    returns
-    add-code-at
-    code-at-requires-2
-    returns-2
-    add-code-at-2
-    code-at-requires-3
-    returns-3
-    add-code-at-3
-    code-at-requires-4
-    returns-4
-    returns-5)
+    tie.close (tie.spec (λ c κs. omega arith) returns add-code-at (λ c κs. omega arith) returns-2 add-code-at-2 (λ c κs. omega arith) returns-3 add-code-at-3
+    (λ c κs. omega arith) returns-4 returns-5)

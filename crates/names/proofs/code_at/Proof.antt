@@ -23,6 +23,4 @@ returns-2 : tie.Need-returns-2
 returns-2 c = c .u16-at .ensures ∙ sym (two-code _ _ _ (c .before .before .before .pre) (c .before .if1 .left))
 
 pub code-at-spec : {M : Type 1} → statement M
-code-at-spec =
-    tie.close
-    (tie.spec shared-slice-read-result cast-result mul-u16-at u16-at-requires returns returns-2)
+code-at-spec = tie.close (tie.spec shared-slice-read-result cast-result mul-u16-at u16-at-requires returns returns-2)

@@ -18,12 +18,6 @@ Inv-loop s narrow name end shared i₀ i =
 abbrev μ-loop : tie.MeasureT-loop
 μ-loop s narrow name end shared i₀ i = shared - i
 
-loop-holds : tie.Need-loop-holds Inv-loop μ-loop
-loop-holds c = refl
-
-code-at-requires : tie.Need-code-at-requires Inv-loop μ-loop
-code-at-requires c κs = omega arith
-
 returns : tie.Need-returns Inv-loop μ-loop
 returns c =
     let l = c .before .before .before .before .before .before .before .before .loop in
@@ -36,7 +30,9 @@ returns-2 c =
     let x = ap upper (c .before .before .before .before .before .before .code-at .ensures) in
     let n =
     eqb-false (upper (c .before .before .before .before .before .before .code-at .result)) _
-    (sym (c .before .before .before .before .same-letter .ensures) ∙ not-true (c .before .before .before .before .same-letter .result) (c .before .before .before .if1 .taken)) in
+    (sym (c .before .before .before .before .same-letter .ensures)
+    ∙ not-true (c .before .before .before .before .same-letter .result) (c .before .before .before .if1 .taken))
+    in
     sym (l .inv ∙ turn-above _ _ (l .i) (omega arith) (omega arith) (omega arith))
 
 loop-again : tie.Need-loop-again Inv-loop μ-loop
@@ -60,24 +56,6 @@ returns-5 c = let l = c .before .before .before .loop in sym (l .inv ∙ turn-en
 
 pub compare-name-spec : {M : Type 1} → statement M
 compare-name-spec =
-    tie.close
-    (tie.spec
-    Inv-loop
-    μ-loop
-    (λ c κs. search needs)
-    (λ c κs. search needs)
-    loop-holds
-    code-at-requires
-    (λ c. search needs)
-    (λ c. search needs)
-    (λ c κs. search needs)
-    (λ c κs. search needs)
-    (λ c κs. search needs)
-    returns
-    returns-2
-    (λ c. search needs)
-    (λ c. search needs)
-    loop-again
-    returns-3
-    returns-4
-    returns-5)
+    tie.close (tie.spec Inv-loop μ-loop (λ c κs. search needs) (λ c κs. search needs) (λ c. refl) (λ c κs. omega arith) (λ c. search needs) (λ c. search needs)
+    (λ c κs. search needs) (λ c κs. search needs) (λ c κs. search needs) returns returns-2 (λ c. search needs) (λ c. search needs) loop-again returns-3
+    returns-4 returns-5)

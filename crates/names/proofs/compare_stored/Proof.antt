@@ -21,15 +21,6 @@ abbrev μ-loop : tie.MeasureT-loop
 past-shared-requires : tie.Need-past-shared-requires Inv-loop μ-loop
 past-shared-requires c κs = let e = c .lesser .ensures in (omega arith, omega arith)
 
-loop-holds : tie.Need-loop-holds Inv-loop μ-loop
-loop-holds c = c .past-shared .ensures .1
-
-code-at-requires : tie.Need-code-at-requires Inv-loop μ-loop
-code-at-requires c κs = omega arith
-
-code-at-requires-2 : tie.Need-code-at-requires-2 Inv-loop μ-loop
-code-at-requires-2 c κs = omega arith
-
 returns : tie.Need-returns Inv-loop μ-loop
 returns c =
     let l = c .before .before .before .before .before .before .before .before .loop in
@@ -44,7 +35,9 @@ returns-2 c =
     let y = ap upper (c .before .before .before .before .before .code-at2 .ensures) in
     let n =
     eqb-false (upper (c .before .before .before .before .before .before .code-at .result)) (upper (c .before .before .before .before .before .code-at2 .result))
-    (sym (c .before .before .before .before .same-letter .ensures) ∙ not-true (c .before .before .before .before .same-letter .result) (c .before .before .before .if1 .taken)) in
+    (sym (c .before .before .before .before .same-letter .ensures)
+    ∙ not-true (c .before .before .before .before .same-letter .result) (c .before .before .before .if1 .taken))
+    in
     sym (l .inv ∙ turn-above _ _ (l .i) (omega arith) (omega arith) (omega arith))
 
 loop-again : tie.Need-loop-again Inv-loop μ-loop
@@ -68,25 +61,6 @@ returns-5 c = let l = c .before .before .before .loop in sym (l .inv ∙ turn-en
 
 pub compare-stored-spec : {M : Type 1} → statement M
 compare-stored-spec =
-    tie.close
-    (tie.spec
-    Inv-loop
-    μ-loop
-    (λ c κs. search needs)
-    (λ c κs. search needs)
-    (λ c κs. search needs)
-    past-shared-requires
-    loop-holds
-    code-at-requires
-    code-at-requires-2
-    (λ c κs. search needs)
-    (λ c κs. search needs)
-    (λ c κs. search needs)
-    returns
-    returns-2
-    (λ c. search needs)
-    (λ c. search needs)
-    loop-again
-    returns-3
-    returns-4
-    returns-5)
+    tie.close (tie.spec Inv-loop μ-loop (λ c κs. search needs) (λ c κs. search needs) (λ c κs. search needs) past-shared-requires
+    (λ c. c .past-shared .ensures .1) (λ c κs. omega arith) (λ c κs. omega arith) (λ c κs. search needs) (λ c κs. search needs) (λ c κs. search needs) returns
+    returns-2 (λ c. search needs) (λ c. search needs) loop-again returns-3 returns-4 returns-5)

@@ -14,9 +14,6 @@ Inv-loop a b shared i₀ i = compare a b ≡ left a b i
 abbrev μ-loop : tie.MeasureT-loop
 μ-loop a b shared i₀ i = shared - i
 
-loop-holds : tie.Need-loop-holds Inv-loop μ-loop
-loop-holds c = refl
-
 returns : tie.Need-returns Inv-loop μ-loop
 returns c =
     let t = c .before .before .before .before .before in
@@ -49,23 +46,5 @@ returns-5 c = let l = c .before .before .before .loop in sym (l .inv ∙ turn-en
 
 pub compare-units-spec : {M : Type 1} → statement M
 compare-units-spec =
-    tie.close
-    (tie.spec
-    Inv-loop
-    μ-loop
-    (λ c κs. search needs)
-    loop-holds
-    (λ c. search needs)
-    (λ c. search needs)
-    (λ c κs. search needs)
-    (λ c. search needs)
-    (λ c. search needs)
-    (λ c κs. search needs)
-    returns
-    returns-2
-    (λ c. search needs)
-    (λ c. search needs)
-    loop-again
-    returns-3
-    returns-4
-    returns-5)
+    tie.close (tie.spec Inv-loop μ-loop (λ c κs. search needs) (λ c. refl) (λ c. search needs) (λ c. search needs) (λ c κs. search needs) (λ c. search needs)
+    (λ c. search needs) (λ c κs. search needs) returns returns-2 (λ c. search needs) (λ c. search needs) loop-again returns-3 returns-4 returns-5)

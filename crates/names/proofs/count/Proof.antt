@@ -4,8 +4,5 @@ use Rattle.names.proofs.LawsCodes.{counted}
 use Rattle.names.proofs.count.Statement.{statement}
 use Rattle.names.proofs.count.Tie as tie
 
-returns : tie.Need-returns
-returns c = c .characters .ensures ∙ counted _ _
-
 pub count-spec : {M : Type 1} → statement M
-count-spec = tie.close (tie.spec (λ c κs. search needs) returns)
+count-spec = tie.close (tie.spec (λ c κs. search needs) (λ c. c .characters .ensures ∙ counted _ _))

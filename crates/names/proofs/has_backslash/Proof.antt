@@ -13,51 +13,20 @@ Inv-loop s narrow end last i₀ i = Clear (codes narrow s) i
 abbrev μ-loop : tie.MeasureT-loop
 μ-loop s narrow end last i₀ i = last - i
 
-returns : tie.Need-returns Inv-loop μ-loop
-returns c = c .has-in-turn .ensures
-
-loop-holds : tie.Need-loop-holds Inv-loop μ-loop
-loop-holds c = clear-first _
-
-among-four-requires : tie.Need-among-four-requires Inv-loop μ-loop
-among-four-requires c κs = omega arith
-
 returns-2 : tie.Need-returns-2 Inv-loop μ-loop
 returns-2 c =
     let l = c .before .before .before .loop in
     sym (four-found _ (l .i) (l .inv) (c .if2 .taken) (c .before .among-four .ensures))
-
-add-i : tie.Need-add-i Inv-loop μ-loop
-add-i c = omega arith
-
-loop-less : tie.Need-loop-less Inv-loop μ-loop
-loop-less c = omega arith
 
 loop-again : tie.Need-loop-again Inv-loop μ-loop
 loop-again c =
     let l = c .before .before .before .loop in
     clear-four _ (l .i) (l .inv) (c .if2 .left) (c .before .among-four .ensures)
 
-among-four-requires-2 : tie.Need-among-four-requires-2 Inv-loop μ-loop
-among-four-requires-2 c κs = omega arith
-
 returns-3 : tie.Need-returns-3 Inv-loop μ-loop
 returns-3 c = let l = c .before .before .loop in four-last _ (l .i) _ (l .inv) (omega arith) (omega arith) (c .among-four2 .ensures)
 
 pub has-backslash-spec : {M : Type 1} → statement M
 has-backslash-spec =
-    tie.close
-    (tie.spec
-    Inv-loop
-    μ-loop
-    (λ c κs. search needs)
-    (λ c κs. search needs)
-    returns
-    loop-holds
-    among-four-requires
-    returns-2
-    add-i
-    loop-less
-    loop-again
-    among-four-requires-2
-    returns-3)
+    tie.close (tie.spec Inv-loop μ-loop (λ c κs. search needs) (λ c κs. search needs) (λ c. c .has-in-turn .ensures) (λ c. clear-first _) (λ c κs. omega arith)
+    returns-2 (λ c. omega arith) (λ c. omega arith) loop-again (λ c κs. omega arith) returns-3)

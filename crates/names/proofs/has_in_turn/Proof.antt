@@ -15,12 +15,6 @@ Inv-loop s narrow end i₀ i = hasCode backslash (codes narrow s) ≡ hasCode ba
 abbrev μ-loop : tie.MeasureT-loop
 μ-loop s narrow end i₀ i = end - i
 
-loop-holds : tie.Need-loop-holds Inv-loop μ-loop
-loop-holds c = refl
-
-code-at-requires : tie.Need-code-at-requires Inv-loop μ-loop
-code-at-requires c κs = omega arith
-
 returns : tie.Need-returns Inv-loop μ-loop
 returns c =
     let l = c .before .before .before .loop in
@@ -36,15 +30,5 @@ returns-2 c = let l = c .before .loop in sym (l .inv ∙ ended _ _ (l .i) (omega
 
 pub has-in-turn-spec : {M : Type 1} → statement M
 has-in-turn-spec =
-    tie.close
-    (tie.spec
-    Inv-loop
-    μ-loop
-    (λ c κs. search needs)
-    loop-holds
-    code-at-requires
-    returns
-    (λ c. search needs)
-    (λ c. search needs)
-    loop-again
+    tie.close (tie.spec Inv-loop μ-loop (λ c κs. search needs) (λ c. refl) (λ c κs. omega arith) returns (λ c. search needs) (λ c. search needs) loop-again
     returns-2)

@@ -21,9 +21,6 @@ loop-holds : tie.Need-loop-holds Inv-loop μ-loop
 unfolding hashOf
 loop-holds c = refl
 
-capital-at-requires : tie.Need-capital-at-requires Inv-loop μ-loop
-capital-at-requires c κs = omega arith
-
 loop-again : tie.Need-loop-again Inv-loop μ-loop
 loop-again c =
     let l = c .before .before .before .loop in
@@ -34,15 +31,5 @@ returns c = let l = c .before .loop in sym (l .inv ∙ mixed-ended _ (l .h) (l .
 
 pub hash-spec : {M : Type 1} → statement M
 hash-spec =
-    tie.close
-    (tie.spec
-    Inv-loop
-    μ-loop
-    (λ c κs. search needs)
-    loop-holds
-    capital-at-requires
-    (λ c κs. search needs)
-    (λ c. search needs)
-    (λ c. search needs)
-    loop-again
-    returns)
+    tie.close (tie.spec Inv-loop μ-loop (λ c κs. search needs) loop-holds (λ c κs. omega arith) (λ c κs. search needs) (λ c. search needs) (λ c. search needs)
+    loop-again returns)

@@ -47,18 +47,5 @@ returns-2 c =
 
 pub is-hinted-spec : {M : Type 1} → statement M
 is-hinted-spec =
-    tie.close
-    (tie.spec
-    (λ c κs. search needs)
-    (λ c κs. search needs)
-    (λ c κs. search needs)
-    (λ c κs. search needs)
-    (λ c κs. search needs)
-    returns
-    mul-result
-    add-result
-    mul-result-2
-    add-result-2
-    mul-result-3
-    add-result-3
-    returns-2)
+    tie.close (tie.spec (λ c κs. search needs) (λ c κs. search needs) (λ c κs. search needs) (λ c κs. search needs) (λ c κs. search needs) returns mul-result
+    add-result mul-result-2 add-result-2 mul-result-3 add-result-3 returns-2)

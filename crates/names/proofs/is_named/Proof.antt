@@ -27,9 +27,6 @@ loop-holds : tie.Need-loop-holds Inv-loop μ-loop
 unfolding sameName
 loop-holds c = refl
 
-code-at-requires : tie.Need-code-at-requires Inv-loop μ-loop
-code-at-requires c κs = omega arith
-
 returns-2 : tie.Need-returns-2 Inv-loop μ-loop
 returns-2 c =
     let l = c .before .before .before .before .before .loop in
@@ -41,26 +38,13 @@ loop-again : tie.Need-loop-again Inv-loop μ-loop
 loop-again c =
     let l = c .before .before .before .before .before .loop in
     l .inv ∙ ap isSame (turn-level _ _ (l .i) (omega arith) (omega arith)
-    (sym (ap upper (c .before .before .before .code-at .ensures)) ∙ eqb-true _ _ (sym (c .before .same-letter .ensures) ∙ not-false (c .before .same-letter .result) (c .if2 .left))))
+    (sym (ap upper (c .before .before .before .code-at .ensures))
+    ∙ eqb-true _ _ (sym (c .before .same-letter .ensures) ∙ not-false (c .before .same-letter .result) (c .if2 .left))))
 
 returns-3 : tie.Need-returns-3 Inv-loop μ-loop
 returns-3 c = let l = c .before .loop in sym (l .inv ∙ ap isSame (turn-ended _ _ (l .i) (omega arith) (omega arith)))
 
 pub is-named-spec : {M : Type 1} → statement M
 is-named-spec =
-    tie.close
-    (tie.spec
-    Inv-loop
-    μ-loop
-    (λ c κs. search needs)
-    returns
-    loop-holds
-    code-at-requires
-    (λ c. search needs)
-    (λ c. search needs)
-    (λ c κs. search needs)
-    returns-2
-    (λ c. search needs)
-    (λ c. search needs)
-    loop-again
-    returns-3)
+    tie.close (tie.spec Inv-loop μ-loop (λ c κs. search needs) returns loop-holds (λ c κs. omega arith) (λ c. search needs) (λ c. search needs)
+    (λ c κs. search needs) returns-2 (λ c. search needs) (λ c. search needs) loop-again returns-3)

@@ -27,18 +27,13 @@ loop-holds : tie.Need-loop-holds Inv-loop μ-loop
 unfolding sameName
 loop-holds c = refl
 
-code-at-requires : tie.Need-code-at-requires Inv-loop μ-loop
-code-at-requires c κs = omega arith
-
-code-at-requires-2 : tie.Need-code-at-requires-2 Inv-loop μ-loop
-code-at-requires-2 c κs = omega arith
-
 returns-2 : tie.Need-returns-2 Inv-loop μ-loop
 returns-2 c =
     let l = c .before .before .before .before .before .loop in
     sym (l .inv ∙ turn-apart _ _ (l .i) (omega arith) (omega arith)
     (λ e. never (c .before .same-letter .result)
-    (c .before .same-letter .ensures ∙ eq-eqb _ _ (ap upper (c .before .before .before .code-at .ensures) ∙ e ∙ sym (ap upper (c .before .before .code-at2 .ensures))))
+    (c .before .same-letter .ensures
+    ∙ eq-eqb _ _ (ap upper (c .before .before .before .code-at .ensures) ∙ e ∙ sym (ap upper (c .before .before .code-at2 .ensures))))
     (not-true (c .before .same-letter .result) (c .if2 .taken))))
 
 loop-again : tie.Need-loop-again Inv-loop μ-loop
@@ -54,19 +49,5 @@ returns-3 c = let l = c .before .loop in sym (l .inv ∙ ap isSame (turn-ended _
 
 pub is-same-spec : {M : Type 1} → statement M
 is-same-spec =
-    tie.close
-    (tie.spec
-    Inv-loop
-    μ-loop
-    (λ c κs. search needs)
-    (λ c κs. search needs)
-    returns
-    loop-holds
-    code-at-requires
-    code-at-requires-2
-    (λ c κs. search needs)
-    returns-2
-    (λ c. search needs)
-    (λ c. search needs)
-    loop-again
-    returns-3)
+    tie.close (tie.spec Inv-loop μ-loop (λ c κs. search needs) (λ c κs. search needs) returns loop-holds (λ c κs. omega arith) (λ c κs. omega arith)
+    (λ c κs. search needs) returns-2 (λ c. search needs) (λ c. search needs) loop-again returns-3)

@@ -15,31 +15,12 @@ Inv-loop a b end i₀ i = (i ≤ end) × (compare a b ≡ left a b i)
 abbrev μ-loop : tie.MeasureT-loop
 μ-loop a b end i₀ i = end - i
 
-loop-holds : tie.Need-loop-holds Inv-loop μ-loop
-loop-holds c = (omega arith, refl)
-
-returns : tie.Need-returns Inv-loop μ-loop
-returns c = c .before .before .before .before .loop .inv
-
 loop-again : tie.Need-loop-again Inv-loop μ-loop
 loop-again c =
     let l = c .before .before .before .before .loop in
     (omega arith, l .inv .1 ∙ turn-level _ _ (l .i) (omega arith) (omega arith) (ap upper (c .if1 .left)))
 
-returns-2 : tie.Need-returns-2 Inv-loop μ-loop
-returns-2 c = c .before .loop .inv
-
 pub past-alike-spec : {M : Type 1} → statement M
 past-alike-spec =
-    tie.close
-    (tie.spec
-    Inv-loop
-    μ-loop
-    loop-holds
-    (λ c. search needs)
-    (λ c. search needs)
-    returns
-    (λ c. search needs)
-    (λ c. search needs)
-    loop-again
-    returns-2)
+    tie.close (tie.spec Inv-loop μ-loop (λ c. (omega arith, refl)) (λ c. search needs) (λ c. search needs) (λ c. c .before .before .before .before .loop .inv)
+    (λ c. search needs) (λ c. search needs) loop-again (λ c. c .before .loop .inv))

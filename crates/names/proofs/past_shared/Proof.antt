@@ -12,11 +12,5 @@ returns : tie.Need-returns
 unfolding codes
 returns c = rw (c .before .before .if1 .taken, c .before .if2 .taken) (c .past-alike .ensures)
 
-returns-2 : tie.Need-returns-2
-returns-2 c = (omega arith, refl)
-
-returns-3 : tie.Need-returns-3
-returns-3 c = (omega arith, refl)
-
 pub past-shared-spec : {M : Type 1} → statement M
-past-shared-spec = tie.close (tie.spec past-alike-requires returns returns-2 returns-3)
+past-shared-spec = tie.close (tie.spec past-alike-requires returns (λ c. (omega arith, refl)) (λ c. (omega arith, refl)))

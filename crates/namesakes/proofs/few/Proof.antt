@@ -13,26 +13,14 @@ Inv-loop bins e end j₀ j = Passed (called bins (entriesOf bins e)) j
 abbrev μ-loop : tie.MeasureT-loop
 μ-loop bins e end j₀ j = end - j
 
-loop-holds : tie.Need-loop-holds Inv-loop μ-loop
-loop-holds c = pass-start _
-
-is-repeat-requires : tie.Need-is-repeat-requires Inv-loop μ-loop
-is-repeat-requires c κs = (c .before .before .before .pre, c .loop-test .taken)
-
 returns : tie.Need-returns Inv-loop μ-loop
 returns c = pass-found _ _ (c .before .before .before .loop .inv) _ (c .before .before .loop-test .taken) (sym (c .before .is-repeat .ensures) ∙ c .if1 .taken)
-
-add-j : tie.Need-add-j Inv-loop μ-loop
-add-j c = omega arith
-
-loop-less : tie.Need-loop-less Inv-loop μ-loop
-loop-less c = omega (arith, c .before .before .loop-test .taken)
 
 loop-again : tie.Need-loop-again Inv-loop μ-loop
 loop-again c = pass-on _ _ (c .before .before .before .loop .inv) (sym (c .before .is-repeat .ensures) ∙ c .if1 .left)
 
-returns-2 : tie.Need-returns-2 Inv-loop μ-loop
-returns-2 c = pass-end _ _ (c .before .loop .inv) _ (c .loop-test .left)
-
 pub few-spec : {M : Type 1} → statement M
-few-spec = tie.close (tie.spec Inv-loop μ-loop loop-holds is-repeat-requires returns add-j loop-less loop-again returns-2)
+few-spec =
+    tie.close
+    (tie.spec Inv-loop μ-loop (λ c. pass-start _) (λ c κs. (c .before .before .before .pre, c .loop-test .taken)) returns (λ c. omega arith)
+    (λ c. omega (arith, c .before .before .loop-test .taken)) loop-again (λ c. pass-end _ _ (c .before .loop .inv) _ (c .loop-test .left)))

@@ -1,17 +1,6 @@
 use Rattle.namesakes.proofs.first_repeated.Statement.{statement}
 use Rattle.namesakes.proofs.first_repeated.Tie as tie
 
-few-requires : tie.Need-few-requires
-few-requires c κs = c .before .before .before .pre
-
-returns : tie.Need-returns
-returns c = c .few .ensures
-
-many-requires : tie.Need-many-requires
-many-requires c κs = c .before .before .before .pre
-
-returns-2 : tie.Need-returns-2
-returns-2 c = c .many .ensures
-
 pub first-repeated-spec : {M : Type 1} → statement M
-first-repeated-spec = tie.close (tie.spec few-requires returns many-requires returns-2)
+first-repeated-spec =
+    tie.close (tie.spec (λ c κs. c .before .before .before .pre) (λ c. c .few .ensures) (λ c κs. c .before .before .before .pre) (λ c. c .many .ensures))

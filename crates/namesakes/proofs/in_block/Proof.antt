@@ -18,13 +18,19 @@ abbrev μ-loop : tie.MeasureT-loop
 μ-loop bins e s best keys₀ older₀ heads₀ j₀ n₀ keys older heads j n = best - j
 
 loop-holds : tie.Need-loop-holds Inv-loop μ-loop
-loop-holds c = let a = c .before .before .before .before .args in scan-start (called (a .bins .now) (entriesOf (a .bins .now) (a .e))) (a .s) _ _ _ (c .before .before .before .before .pre .1 .1)
+loop-holds c =
+    let a = c .before .before .before .before .args in
+    scan-start (called (a .bins .now) (entriesOf (a .bins .now) (a .e))) (a .s) _ _ _ (c .before .before .before .before .pre .1 .1)
 
 name-of-requires : tie.Need-name-of-requires Inv-loop μ-loop
-name-of-requires c κs = (c .before .before .before .before .before .before .pre .0, omega (arith, c .before .before .before .before .before .before .pre .1 .0, c .loop-test .taken))
+name-of-requires c κs =
+    (c .before .before .before .before .before .before .pre .0, omega (arith, c .before .before .before .before .before .before .pre .1 .0, c .loop-test .taken))
 
 hash-of-requires : tie.Need-hash-of-requires Inv-loop μ-loop
-hash-of-requires c κs = rw (c .name-of .ensures) (c .before .before .before .before .before .before .before .pre .0 .lie _ (omega (arith, c .before .before .before .before .before .before .before .pre .1 .0, c .before .loop-test .taken)))
+hash-of-requires c κs =
+    rw (c .name-of .ensures)
+    (c .before .before .before .before .before .before .before .pre .0 .lie _
+    (omega (arith, c .before .before .before .before .before .before .before .pre .1 .0, c .before .loop-test .taken)))
 
 is-met-requires : tie.Need-is-met-requires Inv-loop μ-loop
 is-met-requires c κs =
@@ -42,22 +48,33 @@ is-met-requires c κs =
     }
 
 same-length : tie.Need-same-length Inv-loop μ-loop
-same-length c = c .before .before .before .before .before .before .before .before .loop .inv .keys-same
+same-length c =
+    let earlier = c .before .before .before .before .before in
+    earlier .before .before .before .loop .inv .keys-same
 
 same-length-2 : tie.Need-same-length-2 Inv-loop μ-loop
-same-length-2 c = c .before .before .before .before .before .before .before .before .loop .inv .older-same
+same-length-2 c =
+    let earlier = c .before .before .before .before .before in
+    earlier .before .before .before .loop .inv .older-same
 
 same-length-3 : tie.Need-same-length-3 Inv-loop μ-loop
-same-length-3 c = c .before .before .before .before .before .before .before .before .loop .inv .heads-same
+same-length-3 c =
+    let earlier = c .before .before .before .before .before in
+    earlier .before .before .before .loop .inv .heads-same
 
 returns : tie.Need-returns Inv-loop μ-loop
 returns c =
-    let a = c .before .before .before .before .before .before .before .before .before .before .before .before .before .args in
+    let at-is-met = c .before in
+    let at-name-of = at-is-met .before .before .before .before .before in
+    let at-loop = at-name-of .before .before in
+    let a = at-loop .before .before .before .before .before .args in
     let vs = entriesOf (a .bins .now) (a .e) in
-    let l = c .before .before .before .before .before .before .before .before .loop in
-    let x = c .before .before .before .before .before .before .name-of in
-    scan-found (called (a .bins .now) vs) (a .s) _ _ _ _ _ _ (l .j) (l .n) (l .inv) _ (c .before .before .before .before .before .before .before .loop-test .taken)
-    (ap (metIn (later (called (a .bins .now) vs) (a .s)) (l .n)) (sym (read-name (a .bins .now) vs (l .j) (x .ensures))) ∙ sym (c .before .is-met .ensures) ∙ c .if1 .taken)
+    let l = at-loop .loop in
+    let x = at-name-of .name-of in
+    scan-found (called (a .bins .now) vs) (a .s) _ _ _ _ _ _ (l .j) (l .n) (l .inv) _ (at-name-of .before .loop-test .taken)
+    (ap (metIn (later (called (a .bins .now) vs) (a .s)) (l .n)) (sym (read-name (a .bins .now) vs (l .j) (x .ensures)))
+    ∙ sym (at-is-met .is-met .ensures)
+    ∙ c .if1 .taken)
 
 take-in-requires : tie.Need-take-in-requires Inv-loop μ-loop
 take-in-requires c κs =
@@ -66,30 +83,34 @@ take-in-requires c κs =
     (k .table, (omega (arith, k .keys-same, k .older-same, p .links), omega (arith, k .keys-same, p .few)))
 
 add-j : tie.Need-add-j Inv-loop μ-loop
-add-j c = omega (arith, c .before .before .before .before .before .before .before .before .before .before .before .before .before .before .before .before .before .before .before .before .before .before .before .fits .best, c .before .before .before .before .before .before .before .before .before .before .before .before .before .before .before .before .before .loop-test .taken)
+add-j c =
+    omega (
+      arith,
+      c .before .before .before .before .before .before .before .before .before .before .before .before .before .before .before .before .before .before .before .before .before .before .before .fits .best,
+      c .before .before .before .before .before .before .before .before .before .before .before .before .before .before .before .before .before .loop-test .taken,
+    )
 
 loop-less : tie.Need-loop-less Inv-loop μ-loop
-loop-less c = omega (arith, c .before .before .before .before .before .before .before .before .before .before .before .before .before .before .before .before .before .loop-test .taken)
+loop-less c =
+    omega (
+      arith,
+      c .before .before .before .before .before .before .before .before .before .before .before .before .before .before .before .before .before .loop-test .taken,
+    )
 
 loop-again : tie.Need-loop-again Inv-loop μ-loop
 loop-again c =
-    let a = c .before .before .before .before .before .before .before .before .before .before .before .before .before .before .before .before .before .before .before .before .before .before .before .args in
+    let at-keys = c .before .before .before .before .before in
+    let at-if1 = at-keys .before .before .before .before .before in
+    let at-hash-of = at-if1 .before .before .before .before .before in
+    let at-loop = at-hash-of .before .before .before in
+    let a = at-loop .before .before .before .before .before .args in
     let vs = entriesOf (a .bins .now) (a .e) in
-    let l = c .before .before .before .before .before .before .before .before .before .before .before .before .before .before .before .before .before .before .loop in
-    let i = read-name (a .bins .now) vs (l .j) (c .before .before .before .before .before .before .before .before .before .before .before .before .before .before .before .before .name-of .ensures) in
-    let n = ap (metIn (later (called (a .bins .now) vs) (a .s)) (l .n)) (sym i) ∙ sym (c .before .before .before .before .before .before .before .before .before .before .before .is-met .ensures) ∙ c .before .before .before .before .before .before .before .before .before .before .if1 .left in
-    let t = c .before .before .before .before .before .before .take-in .ensures in
-    scan-on (called (a .bins .now) vs) (a .s) _ _ _ _ _ _ (l .j) (l .n) (l .inv) n (c .before .before .before .before .before .before .before .before .before .before .before .before .before .before .before .hash-of .ensures ∙ ap hashOf i) _ _ _ (t .0) (t .1)
-    (c .before .before .before .before .before .keys .given) (c .before .before .before .older .given) (c .before .heads .given)
-
-same-length-4 : tie.Need-same-length-4 Inv-loop μ-loop
-same-length-4 c = c .before .loop .inv .keys-same
-
-same-length-5 : tie.Need-same-length-5 Inv-loop μ-loop
-same-length-5 c = c .before .loop .inv .older-same
-
-same-length-6 : tie.Need-same-length-6 Inv-loop μ-loop
-same-length-6 c = c .before .loop .inv .heads-same
+    let l = at-loop .loop in
+    let i = read-name (a .bins .now) vs (l .j) (at-hash-of .before .name-of .ensures) in
+    let n = ap (metIn (later (called (a .bins .now) vs) (a .s)) (l .n)) (sym i) ∙ sym (at-if1 .before .is-met .ensures) ∙ at-if1 .if1 .left in
+    let t = at-keys .before .take-in .ensures in
+    scan-on (called (a .bins .now) vs) (a .s) _ _ _ _ _ _ (l .j) (l .n) (l .inv) n (at-hash-of .hash-of .ensures ∙ ap hashOf i) _ _ _ (t .0) (t .1)
+    (at-keys .keys .given) (c .before .before .before .older .given) (c .before .heads .given)
 
 returns-2 : tie.Need-returns-2 Inv-loop μ-loop
 returns-2 c =
@@ -98,23 +119,6 @@ returns-2 c =
 
 pub in-block-spec : {M : Type 1} → statement M
 in-block-spec =
-    tie.close
-    (tie.spec
-    Inv-loop
-    μ-loop
-    loop-holds
-    name-of-requires
-    hash-of-requires
-    is-met-requires
-    same-length
-    same-length-2
-    same-length-3
-    returns
-    take-in-requires
-    add-j
-    loop-less
-    loop-again
-    same-length-4
-    same-length-5
-    same-length-6
-    returns-2)
+    tie.close (tie.spec Inv-loop μ-loop loop-holds name-of-requires hash-of-requires is-met-requires same-length same-length-2 same-length-3 returns
+    take-in-requires add-j loop-less loop-again (λ c. c .before .loop .inv .keys-same) (λ c. c .before .loop .inv .older-same)
+    (λ c. c .before .loop .inv .heads-same) returns-2)

@@ -18,24 +18,24 @@ Inv-loop bins e j x i₀ i = (i ≤ j) × (metIn (called bins (entriesOf bins e)
 abbrev μ-loop : tie.MeasureT-loop
 μ-loop bins e j x i₀ i = j - i
 
-name-of-requires : tie.Need-name-of-requires Inv-loop μ-loop
-name-of-requires c κs = (c .before .pre .0, c .before .pre .1)
-
-loop-holds : tie.Need-loop-holds Inv-loop μ-loop
-loop-holds c = (omega arith, none-met _ _ refl)
-
 name-of-requires-2 : tie.Need-name-of-requires-2 Inv-loop μ-loop
 name-of-requires-2 c κs = (c .before .before .before .before .pre .0, omega (arith, c .before .before .before .before .pre .1, c .loop-test .taken))
 
 is-namesake-requires : tie.Need-is-namesake-requires Inv-loop μ-loop
-is-namesake-requires c κs =
-    (rw (c .name-of2 .ensures) (c .before .before .before .before .before .pre .0 .lie _ (omega (arith, c .before .before .before .before .before .pre .1, c .before .loop-test .taken))), rw (c .before .before .before .name-of .ensures) (c .before .before .before .before .before .pre .0 .lie _ (c .before .before .before .before .before .pre .1)))
+is-namesake-requires c κs = (
+  rw (c .name-of2 .ensures)
+      (c .before .before .before .before .before .pre .0 .lie _
+      (omega (arith, c .before .before .before .before .before .pre .1, c .before .loop-test .taken))),
+  rw (c .before .before .before .name-of .ensures)
+      (c .before .before .before .before .before .pre .0 .lie _ (c .before .before .before .before .before .pre .1)),
+)
 
 returns : tie.Need-returns Inv-loop μ-loop
 returns c =
+    let at-name-of = c .before .before .before .before .before in
     let l = c .before .before .before .before .loop in
-    let a = c .before .before .before .before .before .before .before .args in
-    let x = c .before .before .before .before .before .name-of in
+    let a = at-name-of .before .before .args in
+    let x = at-name-of .name-of in
     let vs = entriesOf (a .bins .now) (a .e) in
     sym (ap (metIn (called (a .bins .now) vs) (a .j)) (sym (read-name (a .bins .now) vs (a .j) (x .ensures)))
     ∙ met-here (called (a .bins .now) vs) (codesOf (a .bins .now) (x .result)) (a .j) (l .i) (c .before .before .before .loop-test .taken)
@@ -43,9 +43,6 @@ returns c =
 
 add-i : tie.Need-add-i Inv-loop μ-loop
 add-i c = omega (arith, c .before .before .before .before .before .before .before .fits .j, c .before .before .before .loop-test .taken)
-
-loop-less : tie.Need-loop-less Inv-loop μ-loop
-loop-less c = omega (arith, c .before .before .before .loop-test .taken)
 
 loop-again : tie.Need-loop-again Inv-loop μ-loop
 loop-again c =
@@ -70,16 +67,5 @@ returns-2 c =
 
 pub is-repeat-spec : {M : Type 1} → statement M
 is-repeat-spec =
-    tie.close
-    (tie.spec
-    Inv-loop
-    μ-loop
-    name-of-requires
-    loop-holds
-    name-of-requires-2
-    is-namesake-requires
-    returns
-    add-i
-    loop-less
-    loop-again
-    returns-2)
+    tie.close (tie.spec Inv-loop μ-loop (λ c κs. (c .before .pre .0, c .before .pre .1)) (λ c. (omega arith, none-met _ _ refl)) name-of-requires-2
+    is-namesake-requires returns add-i (λ c. omega (arith, c .before .before .before .loop-test .taken)) loop-again returns-2)

@@ -12,11 +12,12 @@ insert-requires c κs =
 
 returns : tie.Need-returns
 returns c =
-    let e = c .before .before .before .before .before .before .insert .ensures in
-    (take-one (c .before .before .before .before .before .before .before .before .before .before .if1 .taken) (e .0), e .1)
-
-returns-2 : tie.Need-returns-2
-returns-2 c = (take-none (c .if1 .left), c .before .before .before .before .pre .0)
+    let earlier = c .before .before .before .before .before in
+    let e = earlier .before .insert .ensures in
+    (take-one (earlier .before .before .before .before .before .if1 .taken) (e .0), e .1)
 
 pub take-in-spec : {M : Type 1} → statement M
-take-in-spec = tie.close (tie.spec insert-requires (λ c. search needs) (λ c. search needs) (λ c. search needs) (λ c. search needs) returns returns-2)
+take-in-spec =
+    tie.close
+    (tie.spec insert-requires (λ c. search needs) (λ c. search needs) (λ c. search needs) (λ c. search needs) returns
+    (λ c. (take-none (c .if1 .left), c .before .before .before .before .pre .0)))

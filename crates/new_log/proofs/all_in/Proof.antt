@@ -20,9 +20,6 @@ loop-holds : tie.Need-loop-holds Inv-loop μ-loop
 unfolding inBelow
 loop-holds c = refl
 
-window-in-requires : tie.Need-window-in-requires Inv-loop μ-loop
-window-in-requires c κs = c .before .before .before .before .before .pre
-
 returns : tie.Need-returns Inv-loop μ-loop
 returns c =
     let k = c .before .before .before in
@@ -30,12 +27,6 @@ returns c =
     sym
     (in-none (s .args .hive .now) (s .args .log .now) (k .loop .base + 131072)
     (c .before .window-in .ensures ∙ ap₂ _&&_ (k .loop .inv) (not-true _ (c .if1 .taken))))
-
-add-base : tie.Need-add-base Inv-loop μ-loop
-add-base c = omega arith
-
-loop-less : tie.Need-loop-less Inv-loop μ-loop
-loop-less c = omega arith
 
 loop-again : tie.Need-loop-again Inv-loop μ-loop
 loop-again c = c .before .window-in .ensures ∙ ap₂ _&&_ (c .before .before .before .loop .inv) (not-false _ (c .if1 .left))
@@ -49,14 +40,5 @@ returns-2 c =
 
 pub all-in-spec : {M : Type 1} → statement M
 all-in-spec =
-    tie.close
-    (tie.spec
-    Inv-loop
-    μ-loop
-    loop-holds
-    window-in-requires
-    returns
-    add-base
-    loop-less
-    loop-again
-    returns-2)
+    tie.close (tie.spec Inv-loop μ-loop loop-holds (λ c κs. c .before .before .before .before .before .pre) returns (λ c. omega arith) (λ c. omega arith)
+    loop-again returns-2)

@@ -17,14 +17,13 @@ Inv-loop hive log base map₀ c₀ map c = Left (differs hive log) base map₀ (
 abbrev μ-loop : tie.MeasureT-loop
 μ-loop hive log base map₀ c₀ map c = length (rest log c)
 
-first-requires : tie.Need-first-requires Inv-loop μ-loop
-first-requires c κs = c .before .before .before .pre .0
-
 loop-holds : tie.Need-loop-holds Inv-loop μ-loop
 loop-holds c =
     let s = c .before .before .before .before in
-    let l = s .args .log .now in
-    (begins (differs (s .args .hive .now) l) (s .args .base) (s .args .map .now) (versions l) (rest l (c .first .result)) (c .first .ensures .all), c .first .ensures .stands)
+    let l = s .args .log .now in (
+      begins (differs (s .args .hive .now) l) (s .args .base) (s .args .map .now) (versions l) (rest l (c .first .result)) (c .first .ensures .all),
+      c .first .ensures .stands,
+    )
 
 put-differs-requires : tie.Need-put-differs-requires Inv-loop μ-loop
 put-differs-requires c κs =
@@ -34,29 +33,31 @@ put-differs-requires c κs =
     (omega (arith, k .loop .inv .1 .below some, s .pre .1), k .loop .inv .1 .fits some)
 
 next-requires : tie.Need-next-requires Inv-loop μ-loop
-next-requires c κs = (c .before .before .before .before .if1 .taken, c .before .before .before .before .before .before .loop .inv .1)
+next-requires c κs =
+    let at-if1 = c .before .before .before .before in
+    (at-if1 .if1 .taken, at-if1 .before .before .loop .inv .1)
 
 loop-less : tie.Need-loop-less Inv-loop μ-loop
 loop-less c =
-    let k = c .before .before .before .before .before .before .before in
+    let earlier = c .before .before .before .before .before in
+    let k = earlier .before .before in
     fewer (k .before .before .before .before .before .args .log .now) (k .loop .c) (c .next .result) (c .next .ensures)
 
 loop-again : tie.Need-loop-again Inv-loop μ-loop
 loop-again c =
-    let k = c .before .before .before .before .before .before .before in
+    let at-put-differs = c .before .before .before in
+    let k = at-put-differs .before .before .before .before in
     let s = k .before .before .before .before .before in
     let l = s .args .log .now in
     let says = differs (s .args .hive .now) l in
     let d = c .next .result in (
-      subst (λ (m : List ℕ). Left says (s .args .base) (s .args .map .now) (versions l) m (rest l d)) (sym (c .before .before .before .put-differs .ensures))
-          (goes says (s .args .base) (s .args .map .now) (versions l) (k .loop .map) (rest l (k .loop .c)) (record { page = k .loop .c .page; place = k .loop .c .place }) (rest l d)
+      subst (λ (m : List ℕ). Left says (s .args .base) (s .args .map .now) (versions l) m (rest l d)) (sym (at-put-differs .put-differs .ensures))
+          (goes says (s .args .base) (s .args .map .now) (versions l) (k .loop .map) (rest l (k .loop .c))
+          (record { page = k .loop .c .page; place = k .loop .c .place }) (rest l d)
           (c .next .ensures .split)
           (k .loop .inv .0)),
       c .next .ensures .stands,
     )
-
-same-length : tie.Need-same-length Inv-loop μ-loop
-same-length c = c .before .before .loop .inv .0 .long
 
 returns : tie.Need-returns Inv-loop μ-loop
 returns c =
@@ -69,15 +70,5 @@ returns c =
 
 pub differ-window-spec : {M : Type 1} → statement M
 differ-window-spec =
-    tie.close
-    (tie.spec
-    Inv-loop
-    μ-loop
-    first-requires
-    loop-holds
-    put-differs-requires
-    next-requires
-    loop-less
-    loop-again
-    same-length
-    returns)
+    tie.close (tie.spec Inv-loop μ-loop (λ c κs. c .before .before .before .pre .0) loop-holds put-differs-requires next-requires loop-less loop-again
+    (λ c. c .before .before .loop .inv .0 .long) returns)

@@ -10,7 +10,8 @@ use Rattle.new_log.proofs.has_page.Tie as tie
 returns : tie.Need-returns
 returns c =
     let s = c .before in
-    sym (ap (λ (b : Bool). b && ltb ((s .args .page - s .args .base) / 8) (length (s .args .map .now))) (lt-leb (s .args .base) (s .args .page) (c .if1 .taken)))
+    sym
+    (ap (λ (b : Bool). b && ltb ((s .args .page - s .args .base) / 8) (length (s .args .map .now))) (lt-leb (s .args .base) (s .args .page) (c .if1 .taken)))
 
 returns-2 : tie.Need-returns-2
 returns-2 c =

@@ -13,9 +13,6 @@ Inv-loop log page c₀ c = (isLogged log page ≡ names page (rest log c)) × St
 abbrev μ-loop : tie.MeasureT-loop
 μ-loop log page c₀ c = length (rest log c)
 
-first-requires : tie.Need-first-requires Inv-loop μ-loop
-first-requires c κs = c .before .pre
-
 loop-holds : tie.Need-loop-holds Inv-loop μ-loop
 loop-holds c = (ap (names (c .before .before .args .page)) (sym (c .first .ensures .all)), c .first .ensures .stands)
 
@@ -36,8 +33,10 @@ loop-less c =
 loop-again : tie.Need-loop-again Inv-loop μ-loop
 loop-again c =
     let k = c .before .before .before .before .before in
-    let s = k .before .before .before in
-    (k .loop .inv .0 ∙ named-beside (s .args .log .now) (s .args .page) (k .loop .c) (c .next .result) (c .next .ensures) (c .before .if2 .left), c .next .ensures .stands)
+    let s = k .before .before .before in (
+      k .loop .inv .0 ∙ named-beside (s .args .log .now) (s .args .page) (k .loop .c) (c .next .result) (c .next .ensures) (c .before .if2 .left),
+      c .next .ensures .stands,
+    )
 
 returns-2 : tie.Need-returns-2 Inv-loop μ-loop
 unfolding names
@@ -46,15 +45,4 @@ returns-2 c =
     sym (k .loop .inv .0 ∙ ap (names (k .before .before .before .args .page)) (k .loop .inv .1 .over (omega (arith, c .if1 .left))))
 
 pub is-logged-spec : {M : Type 1} → statement M
-is-logged-spec =
-    tie.close
-    (tie.spec
-    Inv-loop
-    μ-loop
-    first-requires
-    loop-holds
-    returns
-    next-requires
-    loop-less
-    loop-again
-    returns-2)
+is-logged-spec = tie.close (tie.spec Inv-loop μ-loop (λ c κs. c .before .pre) loop-holds returns next-requires loop-less loop-again returns-2)

@@ -26,13 +26,4 @@ returns-2 c =
     ∙ sym (ap (λ (b : Bool). not b || eqb (u64At (sectorAt l at) 20) (s .args .stamp)) (eq-eqb (s .args .page) 0 (c .before .before .if1 .left)))
 
 pub is-stamped-spec : {M : Type 1} → statement M
-is-stamped-spec =
-    tie.close
-    (tie.spec
-    returns
-    (λ c. search needs)
-    (λ c. search needs)
-    (λ c. search needs)
-    (λ c. search needs)
-    (λ c κs. search needs)
-    returns-2)
+is-stamped-spec = tie.close (tie.spec returns (λ c. search needs) (λ c. search needs) (λ c. search needs) (λ c. search needs) (λ c κs. search needs) returns-2)

@@ -24,12 +24,6 @@ add-count c =
     let k = c .before .before in
     omega (arith, c .window-count .ensures, k .loop .inv .1, below-le (s .args .log .now) (k .loop .base + 131072), c .before .loop-test .taken)
 
-add-base : tie.Need-add-base Inv-loop μ-loop
-add-base c = omega (arith, c .before .loop-test .taken)
-
-loop-less : tie.Need-loop-less Inv-loop μ-loop
-loop-less c = omega (arith, c .before .loop-test .taken)
-
 loop-again : tie.Need-loop-again Inv-loop μ-loop
 loop-again c =
     let k = c .before .before in
@@ -43,14 +37,5 @@ returns c =
 
 pub logged-count-spec : {M : Type 1} → statement M
 logged-count-spec =
-    tie.close
-    (tie.spec
-    Inv-loop
-    μ-loop
-    loop-holds
-    (λ c κs. search needs)
-    add-count
-    add-base
-    loop-less
-    loop-again
-    returns)
+    tie.close (tie.spec Inv-loop μ-loop loop-holds (λ c κs. search needs) add-count (λ c. omega (arith, c .before .loop-test .taken))
+    (λ c. omega (arith, c .before .loop-test .taken)) loop-again returns)

@@ -15,9 +15,6 @@ Inv-loop log page place₀ c₀ place c = (lastPlace place page (rest log c) ≡
 abbrev μ-loop : tie.MeasureT-loop
 μ-loop log page place₀ c₀ place c = length (rest log c)
 
-first-requires : tie.Need-first-requires Inv-loop μ-loop
-first-requires c κs = c .before .pre
-
 loop-holds : tie.Need-loop-holds Inv-loop μ-loop
 loop-holds c = (ap (lastPlace 0 (c .before .before .args .page)) (c .first .ensures .all), c .first .ensures .stands)
 
@@ -36,8 +33,10 @@ loop-again c =
     let l = s .args .log .now in
     let p = s .args .page in (
       ⊎-elim
-          (λ w. ap (λ (n : ℕ). lastPlace n p (rest l (c .next .result))) (w .1) ∙ sym (place-here l p (k .loop .c) (c .next .result) (c .next .ensures) (k .loop .place) (w .0 .taken)))
-          (λ w. ap (λ (n : ℕ). lastPlace n p (rest l (c .next .result))) (w .1) ∙ sym (place-beside l p (k .loop .c) (c .next .result) (c .next .ensures) (k .loop .place) (w .0 .left)))
+          (λ w. ap (λ (n : ℕ). lastPlace n p (rest l (c .next .result))) (w .1)
+          ∙ sym (place-here l p (k .loop .c) (c .next .result) (c .next .ensures) (k .loop .place) (w .0 .taken)))
+          (λ w. ap (λ (n : ℕ). lastPlace n p (rest l (c .next .result))) (w .1)
+          ∙ sym (place-beside l p (k .loop .c) (c .next .result) (c .next .ensures) (k .loop .place) (w .0 .left)))
           (c .before .if2 .came)
           ∙ k .loop .inv .0,
       c .next .ensures .stands,
@@ -51,6 +50,4 @@ returns c =
     sym (ap (lastPlace (k .loop .place) (s .args .page)) (k .loop .inv .1 .over (omega (arith, c .if1 .left)))) ∙ k .loop .inv .0
 
 pub logged-place-spec : {M : Type 1} → statement M
-logged-place-spec =
-    tie.close
-    (tie.spec Inv-loop μ-loop first-requires loop-holds next-requires loop-less loop-again returns)
+logged-place-spec = tie.close (tie.spec Inv-loop μ-loop (λ c κs. c .before .pre) loop-holds next-requires loop-less loop-again returns)

@@ -11,10 +11,13 @@ use Rattle.new_log.proofs.mark.Tie as tie
 
 returns : tie.Need-returns
 returns c =
-    let s = c .before .before .before .before .before .before .before .before .before in
+    let at-write-marks = c .before .before .before .before .before in
+    let s = at-write-marks .before .before .before .before in
     let l = s .args .log .now in
-    let written = c .before .before .before .before .before .write-marks .ensures in (
-      c .bits-before .ensures ∙ ap₂ bitsBefore written (ap (λ (k : Chain). k .largest / 512) (s .pre .1 .0)) ∙ marks-counted l (s .pre .0) (drop (pageCount l / 8) (s .args .map .now)),
+    let written = at-write-marks .write-marks .ensures in (
+      c .bits-before .ensures
+          ∙ ap₂ bitsBefore written (ap (λ (k : Chain). k .largest / 512) (s .pre .1 .0))
+          ∙ marks-counted l (s .pre .0) (drop (pageCount l / 8) (s .args .map .now)),
       written,
     )
 

@@ -24,39 +24,28 @@ window-next-requires c κs = (c .before .before .before .before .pre, omega (ari
 
 returns : tie.Need-returns Inv-loop μ-loop
 returns c =
-    let k = c .before .before .before .before .before .loop in
-    found (c .before .before .before .before .before .before .before .before .args .log .now) (c .before .before .before .before .before .before .before .before .args .from) (k .base) (k .inv .1) (k .inv .2) 131072 _ (sym (c .before .before .before .window-next .ensures) ∙ c .before .p .given .1)
-
-add-base : tie.Need-add-base Inv-loop μ-loop
-add-base c = omega (arith, c .before .before .before .loop-test .taken)
-
-loop-less : tie.Need-loop-less Inv-loop μ-loop
-loop-less c = omega (arith, c .before .before .before .loop-test .taken)
+    let at-loop = c .before .before .before .before .before in
+    let at-entry = at-loop .before .before .before in
+    let k = at-loop .loop in
+    found (at-entry .args .log .now) (at-entry .args .from) (k .base) (k .inv .1) (k .inv .2) 131072 _
+    (sym (c .before .before .before .window-next .ensures) ∙ c .before .p .given .1)
 
 loop-again : tie.Need-loop-again Inv-loop μ-loop
 loop-again c =
     let k = c .before .before .before .before .loop in
     let s = c .before .before .before .before .before .before .before in
-    let rest = further (s .args .log .now) (s .args .from) (k .base) (k .inv .1) (k .inv .2) 131072 (sym (c .before .before .window-next .ensures) ∙ c .enum-told .given .1) in
+    let rest =
+    further (s .args .log .now) (s .args .from) (k .base) (k .inv .1) (k .inv .2) 131072
+    (sym (c .before .before .window-next .ensures) ∙ c .enum-told .given .1) in
     (k .inv .0, omega (arith, k .inv .1), rest)
 
 returns-2 : tie.Need-returns-2 Inv-loop μ-loop
 returns-2 c =
     let k = c .before .loop in
-    ended (c .before .before .before .before .args .log .now) (c .before .before .before .before .args .from) (k .base) (k .inv .1) (k .inv .2) (omega (arith, k .inv .0, c .loop-test .left))
+    ended (c .before .before .before .before .args .log .now) (c .before .before .before .before .args .from) (k .base) (k .inv .1) (k .inv .2)
+    (omega (arith, k .inv .0, c .loop-test .left))
 
 pub next-logged-spec : {M : Type 1} → statement M
 next-logged-spec =
-    tie.close
-    (tie.spec
-    Inv-loop
-    μ-loop
-    loop-holds
-    window-next-requires
-    (λ c. search needs)
-    returns
-    (λ c. search needs)
-    add-base
-    loop-less
-    loop-again
-    returns-2)
+    tie.close (tie.spec Inv-loop μ-loop loop-holds window-next-requires (λ c. search needs) returns (λ c. search needs)
+    (λ c. omega (arith, c .before .before .before .loop-test .taken)) (λ c. omega (arith, c .before .before .before .loop-test .taken)) loop-again returns-2)

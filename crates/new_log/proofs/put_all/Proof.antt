@@ -20,9 +20,6 @@ Inv-loop hive₀ log c₀ hive c = (length hive ≡ length hive₀) × (putEach 
 abbrev μ-loop : tie.MeasureT-loop
 μ-loop hive₀ log c₀ hive c = length (rest log c)
 
-first-requires : tie.Need-first-requires Inv-loop μ-loop
-first-requires c κs = c .before .before .pre .0
-
 loop-holds : tie.Need-loop-holds Inv-loop μ-loop
 loop-holds c =
     let s = c .before .before .before in
@@ -42,12 +39,14 @@ store-requires c κs =
 
 next-requires : tie.Need-next-requires Inv-loop μ-loop
 next-requires c κs =
-    let k = c .before .before .before .before .before .before .before in
-    (c .before .before .before .before .before .if1 .taken, k .loop .inv .2)
+    let at-if1 = c .before .before .before .before .before in
+    let k = at-if1 .before .before in
+    (at-if1 .if1 .taken, k .loop .inv .2)
 
 loop-less : tie.Need-loop-less Inv-loop μ-loop
 loop-less c =
-    let k = c .before .before .before .before .before .before .before .before in
+    let earlier = c .before .before .before .before .before in
+    let k = earlier .before .before .before in
     fewer (k .before .before .before .before .args .log .now) (k .loop .c) (c .next .result) (c .next .ensures)
 
 loop-again : tie.Need-loop-again Inv-loop μ-loop
@@ -60,14 +59,14 @@ loop-again c =
     let stands = k .loop .inv .2 in
     let room : pagePlace (v .page) + 512 ≤ length (k .loop .hive) = omega (arith, k .loop .inv .0, stands .below some, s .pre .1) in
     let put : c .before .before .before .store .last .0 ≡ stored (k .loop .hive) (pagePlace (v .page)) (sectorAt l (v .place)) =
-    c .before .before .before .store .ensures ∙ ap (λ (n : ℕ). stored (k .loop .hive) n (sectorAt l (v .place))) (c .before .before .before .before .before .page-place .ensures) in (
-      ap length put ∙ stored-length (k .loop .hive) (pagePlace (v .page)) (sectorAt l (v .place)) (sector-length l (v .place) (stands .fits some)) room ∙ k .loop .inv .0,
+    c .before .before .before .store .ensures
+    ∙ ap (λ (n : ℕ). stored (k .loop .hive) n (sectorAt l (v .place))) (c .before .before .before .before .before .page-place .ensures) in (
+      ap length put
+          ∙ stored-length (k .loop .hive) (pagePlace (v .page)) (sectorAt l (v .place)) (sector-length l (v .place) (stands .fits some)) room
+          ∙ k .loop .inv .0,
       ap (putEach l (rest l (c .next .result))) put ∙ sym (each-on l v (c .next .result) (c .next .ensures) (k .loop .hive)) ∙ k .loop .inv .1,
       c .next .ensures .stands,
     )
-
-same-length : tie.Need-same-length Inv-loop μ-loop
-same-length c = c .before .before .loop .inv .0
 
 returns : tie.Need-returns Inv-loop μ-loop
 unfolding putEach
@@ -80,16 +79,5 @@ returns c =
 
 pub put-all-spec : {M : Type 1} → statement M
 put-all-spec =
-    tie.close
-    (tie.spec
-    Inv-loop
-    μ-loop
-    first-requires
-    loop-holds
-    page-place-requires
-    store-requires
-    next-requires
-    loop-less
-    loop-again
-    same-length
-    returns)
+    tie.close (tie.spec Inv-loop μ-loop (λ c κs. c .before .before .pre .0) loop-holds page-place-requires store-requires next-requires loop-less loop-again
+    (λ c. c .before .before .loop .inv .0) returns)

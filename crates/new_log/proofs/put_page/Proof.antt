@@ -27,7 +27,10 @@ returns-2 : tie.Need-returns-2
 returns-2 c = sym (case (c .before .before .before) (le-leb _ _ (c .before .if1 .left)) (le-ltb _ _ (c .if2 .taken)))
 
 returns-3 : tie.Need-returns-3
-returns-3 c = c .before .before .put-bit .ensures ∙ sym (case (c .before .before .before .before .before .before .before) (le-leb _ _ (c .before .before .before .before .before .if1 .left)) (lt-ltb _ _ (c .before .before .before .before .if2 .left)))
+returns-3 c =
+    let at-if1 = c .before .before .before .before .before in
+    c .before .before .put-bit .ensures
+    ∙ sym (case (at-if1 .before .before) (le-leb _ _ (at-if1 .if1 .left)) (lt-ltb _ _ (c .before .before .before .before .if2 .left)))
 
 pub put-page-spec : {M : Type 1} → statement M
 put-page-spec = tie.close (tie.spec returns returns-2 (λ c κs. search needs) (λ c. search needs) returns-3)

@@ -16,31 +16,28 @@ returns c = let l = c .before .before .args .log .now in sym (ap (λ (v : Verdic
 returns-2 : tie.Need-returns-2
 returns-2 c =
     let l = c .before .before .before .before .before .args .log .now in
-    sym (ap (λ (v : Verdict). headed v (chainOf l)) (bad-base l (c .before .before .before .if1 .left) (sym (c .before .is-log-base .ensures) ∙ not-true _ (c .if2 .taken))))
+    sym
+    (ap (λ (v : Verdict). headed v (chainOf l))
+    (bad-base l (c .before .before .before .if1 .left) (sym (c .before .is-log-base .ensures) ∙ not-true _ (c .if2 .taken))))
 
 returns-3 : tie.Need-returns-3
 returns-3 c =
-    let l = c .before .before .before .before .before .before .before .before .args .log .now in
+    let at-is-log-base = c .before .before .before .before in
+    let l = at-is-log-base .before .before .before .before .args .log .now in
     sym (ap (λ (v : Verdict). headed v (chainOf l))
-    (no-entry l (c .before .before .before .before .before .before .if1 .left) (sym (c .before .before .before .before .is-log-base .ensures) ∙ not-false _ (c .before .before .before .if2 .left)) (ap (λ (k : Chain). k .entries) (sym (c .before .before .chain-of .ensures)) ∙ c .if3 .taken)))
+    (no-entry l (at-is-log-base .before .before .if1 .left) (sym (at-is-log-base .is-log-base .ensures) ∙ not-false _ (c .before .before .before .if2 .left))
+    (ap (λ (k : Chain). k .entries) (sym (c .before .before .chain-of .ensures)) ∙ c .if3 .taken)))
 
 returns-4 : tie.Need-returns-4
 returns-4 c =
-    let l = c .before .before .before .before .before .before .before .before .args .log .now in
+    let at-is-log-base = c .before .before .before .before in
+    let l = at-is-log-base .before .before .before .before .args .log .now in
     ap Good (c .before .before .chain-of .ensures)
     ∙ sym (ap (λ (v : Verdict). headed v (chainOf l))
-    (passes l (c .before .before .before .before .before .before .if1 .left) (sym (c .before .before .before .before .is-log-base .ensures) ∙ not-false _ (c .before .before .before .if2 .left)) (λ z. c .if3 .left (ap (λ (k : Chain). k .entries) (c .before .before .chain-of .ensures) ∙ z))))
+    (passes l (at-is-log-base .before .before .if1 .left) (sym (at-is-log-base .is-log-base .ensures) ∙ not-false _ (c .before .before .before .if2 .left))
+    (λ z. c .if3 .left (ap (λ (k : Chain). k .entries) (c .before .before .chain-of .ensures) ∙ z))))
 
 pub read-spec : {M : Type 1} → statement M
 read-spec =
-    tie.close
-    (tie.spec
-    returns
-    (λ c. search needs)
-    (λ c. search needs)
-    (λ c. search needs)
-    (λ c κs. search needs)
-    returns-2
-    (λ c κs. search needs)
-    returns-3
+    tie.close (tie.spec returns (λ c. search needs) (λ c. search needs) (λ c. search needs) (λ c κs. search needs) returns-2 (λ c κs. search needs) returns-3
     returns-4)

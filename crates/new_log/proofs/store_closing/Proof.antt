@@ -42,13 +42,5 @@ returns c =
 
 pub store-closing-spec : {M : Type 1} → statement M
 store-closing-spec =
-    tie.close
-    (tie.spec
-    store-requires
-    (λ c. search needs)
-    (λ c. search needs)
-    (λ c. search needs)
-    cast-put-number-and-size
-    (λ c κs. search needs)
-    (λ c. search needs)
-    returns)
+    tie.close (tie.spec store-requires (λ c. search needs) (λ c. search needs) (λ c. search needs) cast-put-number-and-size (λ c κs. search needs)
+    (λ c. search needs) returns)

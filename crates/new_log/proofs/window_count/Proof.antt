@@ -9,17 +9,11 @@ use Rattle.new_log.proofs.window_count.Tie as tie
 
 returns : tie.Need-returns
 returns c =
-    let s = c .before .before .before .before .before .before in
+    let at-mark-window = c .before .before .before in
+    let s = at-mark-window .before .before .before in
     let l = s .args .log .now in
-    bits-counted l (s .args .base) 16384 (c .before .before .before .mark-window .ensures) (length-replicate {A = ℕ} 16384 0) (no-bits 16384)
+    bits-counted l (s .args .base) 16384 (at-mark-window .mark-window .ensures) (length-replicate {A = ℕ} 16384 0) (no-bits 16384)
     ∙ ap (λ (n : ℕ). loggedBelow l (s .args .base) + n) (sym (c .bits-before .ensures))
 
 pub window-count-spec : {M : Type 1} → statement M
-window-count-spec =
-    tie.close
-    (tie.spec
-    (λ c. search needs)
-    (λ c κs. search needs)
-    (λ c. search needs)
-    (λ c κs. search needs)
-    returns)
+window-count-spec = tie.close (tie.spec (λ c. search needs) (λ c κs. search needs) (λ c. search needs) (λ c κs. search needs) returns)

@@ -25,7 +25,9 @@ part-mark-window-end c =
     omega (arith, fits, ap length (c .before .before .clear .ensures), zeros-length n (now (s .args .map)) fits)
 
 mark-window-requires : tie.Need-mark-window-requires
-mark-window-requires c κs = c .before .before .before .before .before .before .before .before .pre .0
+mark-window-requires c κs =
+    let earlier = c .before .before .before .before .before in
+    earlier .before .before .before .pre .0
 
 returns : tie.Need-returns
 unfolding zeros
@@ -37,19 +39,21 @@ returns c =
     let e : n ≡ pageCount l / 8 = ap (λ (k : Chain). k .largest / 512 / 8) (s .pre .0) in
     let cleared = c .before .before .before .before .before .before .clear .ensures in
     let z : n - 0 ≡ n = omega arith in
-    let cut : take (n - 0) (c .before .before .before .before .before .before .clear .last .0) ≡ replicate n 0 = ap (λ (k : ℕ). take k (c .before .before .before .before .before .before .clear .last .0)) z ∙ ap (take n) cleared ∙ take-at (replicate n 0) (drop n m) n (length-replicate {A = ℕ} n 0) in
-    let rest : drop (n - 0) (c .before .before .before .before .before .before .clear .last .0) ≡ drop n m = ap (λ (k : ℕ). drop k (c .before .before .before .before .before .before .clear .last .0)) z ∙ ap (drop n) cleared ∙ drop-at (replicate n 0) (drop n m) n (length-replicate {A = ℕ} n 0) in
-    let made = bits-only l 0 n (c .before .before .mark-window .ensures) (ap length cut ∙ length-replicate {A = ℕ} n 0) (λ k. ap (λ (x : List ℕ). isMarked x k) cut ∙ no-bits n k) refl (front-bytes (c .before .before .mark-window .last .1 .1 .1 .0) (drop (n - 0) (c .before .before .before .before .before .before .clear .last .0)) (λ i. c .slice-known3 .given i .fits)) in
+    let cut : take (n - 0) (c .before .before .before .before .before .before .clear .last .0) ≡ replicate n 0 =
+    ap (λ (k : ℕ). take k (c .before .before .before .before .before .before .clear .last .0)) z
+    ∙ ap (take n) cleared
+    ∙ take-at (replicate n 0) (drop n m) n (length-replicate {A = ℕ} n 0) in
+    let rest : drop (n - 0) (c .before .before .before .before .before .before .clear .last .0) ≡ drop n m =
+    ap (λ (k : ℕ). drop k (c .before .before .before .before .before .before .clear .last .0)) z
+    ∙ ap (drop n) cleared
+    ∙ drop-at (replicate n 0) (drop n m) n (length-replicate {A = ℕ} n 0) in
+    let made =
+    bits-only l 0 n (c .before .before .mark-window .ensures) (ap length cut ∙ length-replicate {A = ℕ} n 0)
+    (λ k. ap (λ (x : List ℕ). isMarked x k) cut ∙ no-bits n k) refl
+    (front-bytes (c .before .before .mark-window .last .1 .1 .1 .0) (drop (n - 0) (c .before .before .before .before .before .before .clear .last .0))
+    (λ i. c .slice-known3 .given i .fits)) in
     ap₂ _++_ (made ∙ ap (mapOf (isLogged l)) e) (rest ∙ ap (λ (k : ℕ). drop k m) e)
 
 pub write-marks-spec : {M : Type 1} → statement M
 write-marks-spec =
-    tie.close
-    (tie.spec
-    clear-requires
-    (λ c. search needs)
-    (λ c. search needs)
-    part-mark-window-end
-    mark-window-requires
-    (λ c. search needs)
-    returns)
+    tie.close (tie.spec clear-requires (λ c. search needs) (λ c. search needs) part-mark-window-end mark-window-requires (λ c. search needs) returns)

@@ -46,57 +46,48 @@ unfolding inBelow bitsBefore
 loop-holds c = (omega arith, omega (arith, c .pages-at .ensures), refl)
 
 is-in-requires : tie.Need-is-in-requires Inv-loop μ-loop
-is-in-requires c κs = let s = c .before .before .before .before .before .before .before in (s .pre .0, (s .pre .1, c .before .loop .inv .1))
+is-in-requires c κs =
+    let at-loop = c .before in
+    let earlier = at-loop .before .before .before .before .before in
+    let s = earlier .before in (s .pre .0, (s .pre .1, at-loop .loop .inv .1))
 
 returns : tie.Need-returns Inv-loop μ-loop
 returns c =
     let s = c .before .before .before .before .before .before .before .before .before in
     let n = ap (λ (b : ℕ). b / 512) (c .before .before .before .before .before .bins-size .ensures .0) in
-    sym (in-false (isLogged (s .args .log .now)) (logged (s .args .log .now)) (s .args .hive .now) (c .before .before .before .loop .page) (pageCount (s .args .log .now)) (omega (arith, n, c .before .before .loop-test .taken)) (sym (c .before .is-in .ensures) ∙ not-true _ (c .if1 .taken)))
-
-mul-from : tie.Need-mul-from Inv-loop μ-loop
-mul-from c = omega arith
+    sym
+    (in-false (isLogged (s .args .log .now)) (logged (s .args .log .now)) (s .args .hive .now) (c .before .before .before .loop .page)
+    (pageCount (s .args .log .now)) (omega (arith, n, c .before .before .loop-test .taken))
+    (sym (c .before .is-in .ensures) ∙ not-true _ (c .if1 .taken)))
 
 add-from : tie.Need-add-from Inv-loop μ-loop
 add-from c =
     let s = c .before .before .before .before .before .before .before .before .before .before in
     let l = s .args .log .now in
     let n = ap (λ (b : ℕ). b / 512) (c .before .before .before .before .before .before .bins-size .ensures .0) in
-    let below = before-mono (bitmap l) (suc (c .before .before .before .before .loop .page)) (pageCount l) (omega (arith, n, c .before .before .before .loop-test .taken)) in
+    let below =
+    before-mono (bitmap l) (suc (c .before .before .before .before .loop .page)) (pageCount l)
+    (omega (arith, n, c .before .before .before .loop-test .taken)) in
     omega (arith, moved c, small l (head-of l (s .pre .0)))
-
-add-page : tie.Need-add-page Inv-loop μ-loop
-add-page c = omega arith
-
-loop-less : tie.Need-loop-less Inv-loop μ-loop
-loop-less c = omega arith
 
 loop-again : tie.Need-loop-again Inv-loop μ-loop
 unfolding inBelow
-loop-again c = (omega arith, rw add-one (moved c), rw add-one (and-both (c .before .before .before .before .loop .inv .2) (sym (c .before .before .is-in .ensures) ∙ not-false _ (c .before .if1 .left))))
+loop-again c = (
+  omega arith,
+  rw add-one (moved c),
+  rw add-one (and-both (c .before .before .before .before .loop .inv .2) (sym (c .before .before .is-in .ensures) ∙ not-false _ (c .before .if1 .left))),
+)
 
 returns-2 : tie.Need-returns-2 Inv-loop μ-loop
 returns-2 c =
-    let s = c .before .before .before .before .before .before .before in
-    let n = ap (λ (b : ℕ). b / 512) (c .before .before .before .bins-size .ensures .0) in
-    sym (c .before .loop .inv .2) ∙ ap (λ (k : ℕ). inBelow (isLogged (s .args .log .now)) (logged (s .args .log .now)) k (s .args .hive .now)) (le-antisymm (c .before .loop .inv .0) (c .loop-test .left) ∙ n)
+    let at-bins-size = c .before .before .before in
+    let s = at-bins-size .before .before .before .before in
+    let n = ap (λ (b : ℕ). b / 512) (at-bins-size .bins-size .ensures .0) in
+    sym (c .before .loop .inv .2)
+    ∙ ap (λ (k : ℕ). inBelow (isLogged (s .args .log .now)) (logged (s .args .log .now)) k (s .args .hive .now))
+    (le-antisymm (c .before .loop .inv .0) (c .loop-test .left) ∙ n)
 
 pub all-in-spec : {M : Type 1} → statement M
 all-in-spec =
-    tie.close
-    (tie.spec
-    Inv-loop
-    μ-loop
-    map-of-requires
-    bins-size-requires
-    pages-at-requires
-    loop-holds
-    is-in-requires
-    returns
-    (λ c κs. search needs)
-    mul-from
-    add-from
-    add-page
-    loop-less
-    loop-again
-    returns-2)
+    tie.close (tie.spec Inv-loop μ-loop map-of-requires bins-size-requires pages-at-requires loop-holds is-in-requires returns (λ c κs. search needs)
+    (λ c. omega arith) add-from (λ c. omega arith) (λ c. omega arith) loop-again returns-2)

@@ -20,7 +20,8 @@ marked c = sym (c .before .is-logged .ensures) ∙ not-false _ (c .if1 .left)
 inside : (c : tie.After-page-place) → c .page-place .result .0 + 512 ≤ length (c .before .before .before .before .before .args .hive .now)
 inside c =
     let s = c .before .before .before .before .before in
-    omega (arith, c .page-place .ensures, logged-inside (s .args .log .now) (s .pre .0) (s .args .hive .now) (s .pre .1 .0) (s .args .page) (marked (c .before)))
+    omega
+    (arith, c .page-place .ensures, logged-inside (s .args .log .now) (s .pre .0) (s .args .hive .now) (s .pre .1 .0) (s .args .page) (marked (c .before)))
 
 held : (c : tie.After-page-place) → c .before .before .before .before .before .args .from + 512 ≤ length (c .before .before .before .before .before .args .log .now)
 held c =
@@ -30,25 +31,15 @@ held c =
 returns : tie.Need-returns
 returns c =
     let s = c .before .before .before .before in
-    sym (not-logged (isLogged (s .args .log .now)) (logged (s .args .log .now)) (s .args .hive .now) (s .args .page) (sym (c .before .is-logged .ensures) ∙ not-true _ (c .if1 .taken)))
+    sym
+    (not-logged (isLogged (s .args .log .now)) (logged (s .args .log .now)) (s .args .hive .now) (s .args .page)
+    (sym (c .before .is-logged .ensures) ∙ not-true _ (c .if1 .taken)))
 
 page-place-requires : tie.Need-page-place-requires
 page-place-requires c κs =
     let s = c .before .before .before .before in
     let l = s .args .log .now in
     omega (arith, logged-below l (s .pre .0) (s .args .page) (marked c), head-facts l (head-of l (s .pre .0)) .size .limit)
-
-add-same : tie.Need-add-same
-add-same c = omega (arith, inside c)
-
-part-same-end : tie.Need-part-same-end
-part-same-end c = omega (arith, inside c)
-
-add-same-2 : tie.Need-add-same-2
-add-same-2 c = omega (arith, held (c .before))
-
-part-same-end-2 : tie.Need-part-same-end-2
-part-same-end-2 c = omega (arith, held (c .before))
 
 returns-2 : tie.Need-returns-2
 unfolding page logged
@@ -61,23 +52,12 @@ returns-2 c =
     let n₁ : to + 512 - to ≡ 512 = omega arith in
     let n₂ : from + 512 - from ≡ 512 = omega arith in
     c .same .ensures
-    ∙ ap₂ sameBytes (ap₂ (λ (k j : ℕ). take k (drop j h)) n₁ (c .before .before .before .page-place .ensures)) (ap₂ (λ (k j : ℕ). take k (drop j l)) n₂ (s .pre .1 .1))
+    ∙ ap₂ sameBytes (ap₂ (λ (k j : ℕ). take k (drop j h)) n₁ (c .before .before .before .page-place .ensures))
+    (ap₂ (λ (k j : ℕ). take k (drop j l)) n₂ (s .pre .1 .1))
     ∙ sym (by-bytes (isLogged l) (logged l) h (s .args .page) (marked (c .before .before .before .before)))
 
 pub is-in-spec : {M : Type 1} → statement M
 is-in-spec =
-    tie.close
-    (tie.spec
-    (λ c κs. search needs)
-    returns
-    page-place-requires
-    add-same
-    (λ c. search needs)
-    (λ c. search needs)
-    part-same-end
-    add-same-2
-    (λ c. search needs)
-    (λ c. search needs)
-    part-same-end-2
-    (λ c κs. search needs)
-    returns-2)
+    tie.close (tie.spec (λ c κs. search needs) returns page-place-requires (λ c. omega (arith, inside c)) (λ c. search needs) (λ c. search needs)
+    (λ c. omega (arith, inside c)) (λ c. omega (arith, held (c .before))) (λ c. search needs) (λ c. search needs) (λ c. omega (arith, held (c .before)))
+    (λ c κs. search needs) returns-2)

@@ -26,16 +26,9 @@ returns-4 c =
     let s = c .before .before .before .before .before .before .before .args .s .now in
     let t = c .before .before .before .before .before .u32-at .ensures in
     let u = sym (not-false _ (c .before .if3 .left)) ∙ c .before .before .usable .ensures ∙ ap (usable s) t in
-    c .sequences-equal .ensures ∙ ap (λ (b : Bool). b && isSettled s) u ∙ sym (by-usable s (λ z. c .before .before .before .before .if1 .left (t ∙ z)) (omega (arith, t)))
+    c .sequences-equal .ensures
+    ∙ ap (λ (b : Bool). b && isSettled s) u
+    ∙ sym (by-usable s (λ z. c .before .before .before .before .if1 .left (t ∙ z)) (omega (arith, t)))
 
 pub is-log-base-spec : {M : Type 1} → statement M
-is-log-base-spec =
-    tie.close
-    (tie.spec
-    (λ c κs. search needs)
-    returns
-    returns-2
-    (λ c κs. search needs)
-    returns-3
-    (λ c κs. search needs)
-    returns-4)
+is-log-base-spec = tie.close (tie.spec (λ c κs. search needs) returns returns-2 (λ c κs. search needs) returns-3 (λ c κs. search needs) returns-4)

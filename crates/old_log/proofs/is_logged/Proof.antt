@@ -7,11 +7,8 @@ use borrow.Author.Needs.{needs}
 use Rattle.old_log.proofs.is_logged.Statement.{statement}
 use Rattle.old_log.proofs.is_logged.Tie as tie
 
-map-of-requires : tie.Need-map-of-requires
-map-of-requires c κs = head-of (c .before .args .log .now) (c .before .pre)
-
 returns : tie.Need-returns
 returns c = c .is-marked .ensures ∙ ap (λ (m : List ℕ). isMarked m (c .before .before .before .args .page)) (c .before .map-of .ensures)
 
 pub is-logged-spec : {M : Type 1} → statement M
-is-logged-spec = tie.close (tie.spec map-of-requires (λ c κs. search needs) returns)
+is-logged-spec = tie.close (tie.spec (λ c κs. head-of (c .before .args .log .now) (c .before .pre)) (λ c κs. search needs) returns)

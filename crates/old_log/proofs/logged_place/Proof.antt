@@ -23,14 +23,8 @@ low c =
     let l = s .args .log .now in
     (before-le (bitmap l) (s .args .page), logged-below l (s .pre .0) (s .args .page) (s .pre .1), head-facts l (head-of l (s .pre .0)) .size .limit)
 
-map-of-requires : tie.Need-map-of-requires
-map-of-requires c κs = head-of (c .before .args .log .now) (c .before .pre .0)
-
 pages-at-requires : tie.Need-pages-at-requires
 pages-at-requires c κs = head-of (c .before .before .before .args .log .now) (c .before .before .before .pre .0)
-
-mul-t6 : tie.Need-mul-t6
-mul-t6 c = omega (arith, before (c .before), low (c .before))
 
 add-t7 : tie.Need-add-t7
 add-t7 c = omega (arith, before (c .before), c .pages-at .ensures, low (c .before))
@@ -40,5 +34,5 @@ returns c = ap₂ (λ (a n : ℕ). a + 512 * n) (c .pages-at .ensures) (before (
 
 pub logged-place-spec : {M : Type 1} → statement M
 logged-place-spec =
-    tie.close
-    (tie.spec map-of-requires (λ c κs. search needs) pages-at-requires mul-t6 add-t7 returns)
+    tie.close (tie.spec (λ c κs. head-of (c .before .args .log .now) (c .before .pre .0)) (λ c κs. search needs) pages-at-requires
+    (λ c. omega (arith, before (c .before), low (c .before))) add-t7 returns)

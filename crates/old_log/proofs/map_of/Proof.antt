@@ -4,9 +4,6 @@ use borrow.Author.Needs.{needs}
 use Rattle.old_log.proofs.map_of.Statement.{statement}
 use Rattle.old_log.proofs.map_of.Tie as tie
 
-bins-size-requires : tie.Need-bins-size-requires
-bins-size-requires c κs = head-facts (c .before .args .log .now) (c .before .pre) .long
-
 part-result-end : tie.Need-part-result-end
 part-result-end c = omega (arith, head-facts (c .before .before .args .log .now) (c .before .before .pre) .map-fits)
 
@@ -15,5 +12,5 @@ returns c = map-part (c .before .before .before .args .log .now) (c .before .bin
 
 pub map-of-spec : {M : Type 1} → statement M
 map-of-spec =
-    tie.close
-    (tie.spec bins-size-requires (λ c. search needs) (λ c. search needs) (λ c. search needs) part-result-end returns)
+    tie.close (tie.spec (λ c κs. head-facts (c .before .args .log .now) (c .before .pre) .long) (λ c. search needs) (λ c. search needs) (λ c. search needs)
+    part-result-end returns)

@@ -16,7 +16,8 @@ copy-all-requires : tie.Need-copy-all-requires
 copy-all-requires c κs =
     let s = c .before .before .before .before .before in
     let l = s .args .log .now in
-    simp (length-take, length-drop) (omega (arith, ap length (c .before .map-of .ensures), map-length l (s .pre .0), c .before .before .bins-size .ensures .0, s .pre .1))
+    simp (length-take, length-drop)
+    (omega (arith, ap length (c .before .map-of .ensures), map-length l (s .pre .0), c .before .before .bins-size .ensures .0, s .pre .1))
 
 returns : tie.Need-returns
 returns c =
@@ -28,13 +29,5 @@ returns c =
 
 pub mark-spec : {M : Type 1} → statement M
 mark-spec =
-    tie.close
-    (tie.spec
-    bins-size-requires
-    (λ c κs. search needs)
-    (λ c. search needs)
-    (λ c. search needs)
-    (λ c. search needs)
-    copy-all-requires
-    (λ c. search needs)
-    returns)
+    tie.close (tie.spec bins-size-requires (λ c κs. search needs) (λ c. search needs) (λ c. search needs) (λ c. search needs) copy-all-requires
+    (λ c. search needs) returns)

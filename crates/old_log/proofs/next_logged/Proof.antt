@@ -8,9 +8,6 @@ use mathlib.Core.Path.{ap, _∙_}
 use Rattle.old_log.proofs.next_logged.Statement.{statement}
 use Rattle.old_log.proofs.next_logged.Tie as tie
 
-map-of-requires : tie.Need-map-of-requires
-map-of-requires c κs = c .before .pre
-
 next-marked-requires : tie.Need-next-marked-requires
 next-marked-requires c κs =
     let s = c .before .before in
@@ -21,4 +18,4 @@ returns : tie.Need-returns
 returns c = c .next-marked .ensures ∙ ap (λ (m : List ℕ). nextMarked m (c .before .before .before .args .from)) (c .before .map-of .ensures)
 
 pub next-logged-spec : {M : Type 1} → statement M
-next-logged-spec = tie.close (tie.spec map-of-requires next-marked-requires returns)
+next-logged-spec = tie.close (tie.spec (λ c κs. c .before .pre) next-marked-requires returns)

@@ -3,8 +3,8 @@ use borrow.Author.Needs.{needs}
 use Rattle.old_log.proofs.pages_at.Statement.{statement}
 use Rattle.old_log.proofs.pages_at.Tie as tie
 
-bins-size-requires : tie.Need-bins-size-requires
-bins-size-requires c κs = head-facts (c .before .args .log .now) (c .before .pre) .long
-
 pub pages-at-spec : {M : Type 1} → statement M
-pages-at-spec = tie.close (tie.spec bins-size-requires (λ c. search needs) (λ c. search needs) (λ c. search needs) (λ c. search needs))
+pages-at-spec =
+    tie.close
+    (tie.spec (λ c κs. head-facts (c .before .args .log .now) (c .before .pre) .long) (λ c. search needs) (λ c. search needs) (λ c. search needs)
+    (λ c. search needs))

@@ -54,9 +54,6 @@ put-in-requires c κs =
     let s = c .before .before .before .before .before .before .before .before in
     (s .pre .0, (omega (arith, s .pre .1, c .before .before .loop .inv .2), c .before .before .loop .inv .1))
 
-mul-from : tie.Need-mul-from Inv-loop μ-loop
-mul-from c = omega arith
-
 add-from : tie.Need-add-from Inv-loop μ-loop
 add-from c =
     let k = c .before .before .before .before .before .before in
@@ -65,12 +62,6 @@ add-from c =
     let n = ap (λ (b : ℕ). b / 512) (k .before .before .bins-size .ensures .0) in
     let below = before-mono (bitmap l) (suc (k .loop .page)) (pageCount l) (omega (arith, n, c .before .before .before .before .before .loop-test .taken)) in
     omega (arith, moved c, small l (head-of l (s .pre .0)))
-
-add-page : tie.Need-add-page Inv-loop μ-loop
-add-page c = omega arith
-
-loop-less : tie.Need-loop-less Inv-loop μ-loop
-loop-less c = omega arith
 
 loop-again : tie.Need-loop-again Inv-loop μ-loop
 unfolding putBelow
@@ -83,32 +74,16 @@ loop-again c =
       rw add-one (c .before .before .before .put-in .ensures ∙ ap (putOne (isLogged l) (logged l) (k .loop .page)) (k .loop .inv .3)),
     )
 
-same-length : tie.Need-same-length Inv-loop μ-loop
-same-length c = c .before .loop .inv .2
-
 returns : tie.Need-returns Inv-loop μ-loop
 returns c =
-    let s = c .before .before .before .before .before .before .before in
-    let n = ap (λ (b : ℕ). b / 512) (c .before .before .before .bins-size .ensures .0) in
+    let at-bins-size = c .before .before .before in
+    let s = at-bins-size .before .before .before .before in
+    let n = ap (λ (b : ℕ). b / 512) (at-bins-size .bins-size .ensures .0) in
     c .before .loop .inv .3
-    ∙ ap (λ (k : ℕ). putBelow (isLogged (s .args .log .now)) (logged (s .args .log .now)) k (s .args .hive .now)) (le-antisymm (c .before .loop .inv .0) (c .loop-test .left) ∙ n)
+    ∙ ap (λ (k : ℕ). putBelow (isLogged (s .args .log .now)) (logged (s .args .log .now)) k (s .args .hive .now))
+    (le-antisymm (c .before .loop .inv .0) (c .loop-test .left) ∙ n)
 
 pub put-all-spec : {M : Type 1} → statement M
 put-all-spec =
-    tie.close
-    (tie.spec
-    Inv-loop
-    μ-loop
-    map-of-requires
-    bins-size-requires
-    pages-at-requires
-    loop-holds
-    put-in-requires
-    (λ c κs. search needs)
-    mul-from
-    add-from
-    add-page
-    loop-less
-    loop-again
-    same-length
-    returns)
+    tie.close (tie.spec Inv-loop μ-loop map-of-requires bins-size-requires pages-at-requires loop-holds put-in-requires (λ c κs. search needs)
+    (λ c. omega arith) add-from (λ c. omega arith) (λ c. omega arith) loop-again (λ c. c .before .loop .inv .2) returns)

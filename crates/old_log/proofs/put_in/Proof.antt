@@ -9,14 +9,15 @@ use borrow.Author.Needs.{needs}
 use Rattle.old_log.proofs.put_in.Statement.{statement}
 use Rattle.old_log.proofs.put_in.Tie as tie
 
-is-logged-requires : tie.Need-is-logged-requires
-is-logged-requires c κs = c .before .before .pre .0
-
 page-place-requires : tie.Need-page-place-requires
 page-place-requires c κs =
     let s = c .before .before .before .before in
     let l = s .args .log .now in
-    omega (arith, logged-below l (s .pre .0) (s .args .page) (sym (c .before .is-logged .ensures) ∙ c .if1 .taken), head-facts l (head-of l (s .pre .0)) .size .limit)
+    omega (
+      arith,
+      logged-below l (s .pre .0) (s .args .page) (sym (c .before .is-logged .ensures) ∙ c .if1 .taken),
+      head-facts l (head-of l (s .pre .0)) .size .limit,
+    )
 
 store-requires : tie.Need-store-requires
 store-requires c κs =
@@ -30,11 +31,12 @@ store-requires c κs =
 returns : tie.Need-returns
 unfolding logged
 returns c =
-    let s = c .before .before .before .before .before .before .before .before .before in
+    let at-if1 = c .before .before .before .before .before in
+    let s = at-if1 .before .before .before .before in
     let h = s .args .hive .now in
     let l = s .args .log .now in
     let p = s .args .page in
-    let m = sym (c .before .before .before .before .before .before .is-logged .ensures) ∙ c .before .before .before .before .before .if1 .taken in
+    let m = sym (at-if1 .before .is-logged .ensures) ∙ at-if1 .if1 .taken in
     c .before .before .store .ensures
     ∙ ap₂ (λ (a b : ℕ). stored h a (sectorAt l b)) (c .before .before .before .before .page-place .ensures) (s .pre .1 .1)
     ∙ sym (ap (λ (b : Bool). cond b (stored h (pagePlace p) (logged l p)) h) m)
@@ -47,12 +49,4 @@ returns-2 c =
     sym (ap (λ (b : Bool). cond b (stored h (pagePlace p) (logged (s .args .log .now) p)) h) (sym (c .before .is-logged .ensures) ∙ c .if1 .left))
 
 pub put-in-spec : {M : Type 1} → statement M
-put-in-spec =
-    tie.close
-    (tie.spec
-    is-logged-requires
-    page-place-requires
-    store-requires
-    (λ c. search needs)
-    returns
-    returns-2)
+put-in-spec = tie.close (tie.spec (λ c κs. c .before .before .pre .0) page-place-requires store-requires (λ c. search needs) returns returns-2)

@@ -30,17 +30,9 @@ returns c =
     let l = c .before .before .before .args .log .now in
     sym (ap (λ (b : Bool). not b || eqb (binStamp (logged l first)) (stampOf (sector l))) (sym (c .before .is-logged .ensures) ∙ not-true _ (c .if1 .taken)))
 
-logged-place-requires : tie.Need-logged-place-requires
-logged-place-requires c κs = (c .before .before .before .pre, marked c)
-
-add-u64-at : tie.Need-add-u64-at
-add-u64-at c = omega (arith, inside c)
-
-part-u64-at-end : tie.Need-part-u64-at-end
-part-u64-at-end c = omega (arith, inside c)
-
 part-u64-at-end-2 : tie.Need-part-u64-at-end-2
-part-u64-at-end-2 c = let s = c .before .before .before .before .before .before in omega (arith, head-facts (s .args .log .now) (head-of (s .args .log .now) (s .pre)) .long)
+part-u64-at-end-2 c =
+    let s = c .before .before .before .before .before .before in omega (arith, head-facts (s .args .log .now) (head-of (s .args .log .now) (s .pre)) .long)
 
 returns-2 : tie.Need-returns-2
 unfolding logged
@@ -55,18 +47,6 @@ returns-2 c =
 
 pub zero-agrees-spec : {M : Type 1} → statement M
 zero-agrees-spec =
-    tie.close
-    (tie.spec
-    (λ c κs. search needs)
-    returns
-    logged-place-requires
-    add-u64-at
-    (λ c. search needs)
-    (λ c. search needs)
-    part-u64-at-end
-    (λ c κs. search needs)
-    (λ c. search needs)
-    (λ c. search needs)
-    part-u64-at-end-2
-    (λ c κs. search needs)
+    tie.close (tie.spec (λ c κs. search needs) returns (λ c κs. (c .before .before .before .pre, marked c)) (λ c. omega (arith, inside c)) (λ c. search needs)
+    (λ c. search needs) (λ c. omega (arith, inside c)) (λ c κs. search needs) (λ c. search needs) (λ c. search needs) part-u64-at-end-2 (λ c κs. search needs)
     returns-2)

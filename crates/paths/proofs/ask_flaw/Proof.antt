@@ -15,13 +15,4 @@ returns-3 c = c .flawed .ensures ∙ sym (ask-bad _ _ (sym (c .before .before .b
     (c .before .if1 .left))
 
 pub ask-flaw-spec : {M : Type 1} → statement M
-ask-flaw-spec =
-    tie.close
-    (tie.spec
-    (λ c κs. search needs)
-    (λ c. search needs)
-    (λ c. search needs)
-    (λ c κs. search needs)
-    returns
-    returns-2
-    returns-3)
+ask-flaw-spec = tie.close (tie.spec (λ c κs. search needs) (λ c. search needs) (λ c. search needs) (λ c κs. search needs) returns returns-2 returns-3)

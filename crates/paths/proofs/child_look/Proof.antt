@@ -19,12 +19,6 @@ passed : (c : tie.After-enum-told)
     → let k = c .before .before in let a = k .before .before .before .before .args in askFault (now (a .hive)) (isStep (now (a .name))) ≡ Sound
 passed c = sym (asked (c .before .before)) ∙ c .enum-told .given .1
 
-bins-of-requires : tie.Need-bins-of-requires
-bins-of-requires c κs = ask-facts _ _ (passed c) .0
-
-lookup-key-requires : tie.Need-lookup-key-requires
-lookup-key-requires c κs = step-path _ (ask-facts _ _ (passed (c .before)) .1)
-
 returns : tie.Need-returns
 returns c = ap Refused (c .refused .ensures) ∙ sym (child-stop _ _ _ _ (sym (asked (c .before .before .before .before)) ∙ c .before .before .f .given .1))
 
@@ -35,14 +29,5 @@ returns-2 c =
 
 pub child-look-spec : {M : Type 1} → statement M
 child-look-spec =
-    tie.close
-    (tie.spec
-    (λ c κs. search needs)
-    (λ c κs. search needs)
-    (λ c. search needs)
-    (λ c κs. search needs)
-    (λ c. search needs)
-    bins-of-requires
-    lookup-key-requires
-    returns
-    returns-2)
+    tie.close (tie.spec (λ c κs. search needs) (λ c κs. search needs) (λ c. search needs) (λ c κs. search needs) (λ c. search needs)
+    (λ c κs. ask-facts _ _ (passed c) .0) (λ c κs. step-path _ (ask-facts _ _ (passed (c .before)) .1)) returns returns-2)

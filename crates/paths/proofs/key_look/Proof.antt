@@ -16,15 +16,6 @@ passed : (c : tie.After-enum-told)
     → let k = c .before .before in let a = k .before .before .before .before .args in openFault (now (a .hive)) (now (a .path)) ≡ Sound
 passed c = sym (asked (c .before .before)) ∙ c .enum-told .given .1
 
-bins-of-requires : tie.Need-bins-of-requires
-bins-of-requires c κs = open-facts _ _ (passed c) .0
-
-root-of-requires : tie.Need-root-of-requires
-root-of-requires c κs = open-facts _ _ (passed (c .before)) .0
-
-lookup-key-requires : tie.Need-lookup-key-requires
-lookup-key-requires c κs = open-facts _ _ (passed (c .before .before)) .1
-
 returns : tie.Need-returns
 returns c = ap Refused (c .refused .ensures) ∙ sym (look-stop _ _ _ (sym (asked (c .before .before .before .before)) ∙ c .before .before .f .given .1))
 
@@ -34,15 +25,6 @@ returns-2 c =
 
 pub key-look-spec : {M : Type 1} → statement M
 key-look-spec =
-    tie.close
-    (tie.spec
-    (λ c κs. search needs)
-    (λ c κs. search needs)
-    (λ c. search needs)
-    (λ c κs. search needs)
-    (λ c. search needs)
-    bins-of-requires
-    root-of-requires
-    lookup-key-requires
-    returns
+    tie.close (tie.spec (λ c κs. search needs) (λ c κs. search needs) (λ c. search needs) (λ c κs. search needs) (λ c. search needs)
+    (λ c κs. open-facts _ _ (passed c) .0) (λ c κs. open-facts _ _ (passed (c .before)) .0) (λ c κs. open-facts _ _ (passed (c .before .before)) .1) returns
     returns-2)

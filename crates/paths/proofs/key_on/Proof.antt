@@ -5,23 +5,10 @@ use borrow.Author.Needs.{needs}
 use Rattle.paths.proofs.key_on.Statement.{statement}
 use Rattle.paths.proofs.key_on.Tie as tie
 
-returns : tie.Need-returns
-returns c = sym (ap keyFound (c .before .w .given .1))
-
 returns-2 : tie.Need-returns-2
 returns-2 c = ap Refused (c .refused .ensures) ∙ sym (ap keyFound (c .before .before .w2 .given .1))
 
-returns-3 : tie.Need-returns-3
-returns-3 c = sym (ap keyFound (c .before .w3 .given .1))
-
 pub key-on-spec : {M : Type 1} → statement M
 key-on-spec =
-    tie.close
-    (tie.spec
-    (λ c. search needs)
-    (λ c. search needs)
-    (λ c κs. search needs)
-    (λ c. search needs)
-    returns
-    returns-2
-    returns-3)
+    tie.close (tie.spec (λ c. search needs) (λ c. search needs) (λ c κs. search needs) (λ c. search needs) (λ c. sym (ap keyFound (c .before .w .given .1)))
+    returns-2 (λ c. sym (ap keyFound (c .before .w3 .given .1))))

@@ -14,29 +14,13 @@ Inv-loop path start i₀ i = (i ≤ length path) × (start + length (firstPart (
 abbrev μ-loop : tie.MeasureT-loop
 μ-loop path start i₀ i = length path - i
 
-loop-holds : tie.Need-loop-holds Inv-loop μ-loop
-loop-holds c = (c .pre, refl)
-
 returns : tie.Need-returns Inv-loop μ-loop
 returns c = part-cut _ _ _ (c .before .before .before .loop .inv .1) (c .before .before .loop-test .taken) (c .if1 .taken)
 
 loop-again : tie.Need-loop-again Inv-loop μ-loop
 loop-again c = (omega arith, part-on _ _ _ (c .before .before .before .loop .inv .1) (c .before .before .loop-test .taken) (c .if1 .left))
 
-returns-2 : tie.Need-returns-2 Inv-loop μ-loop
-returns-2 c = part-over _ _ _ (c .before .loop .inv .1) (c .loop-test .left)
-
 pub part-end-spec : {M : Type 1} → statement M
 part-end-spec =
-    tie.close
-    (tie.spec
-    Inv-loop
-    μ-loop
-    loop-holds
-    (λ c. search needs)
-    (λ c. search needs)
-    returns
-    (λ c. search needs)
-    (λ c. search needs)
-    loop-again
-    returns-2)
+    tie.close (tie.spec Inv-loop μ-loop (λ c. (c .pre, refl)) (λ c. search needs) (λ c. search needs) returns (λ c. search needs) (λ c. search needs)
+    loop-again (λ c. part-over _ _ _ (c .before .loop .inv .1) (c .loop-test .left)))

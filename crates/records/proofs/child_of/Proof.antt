@@ -60,6 +60,4 @@ returns-2 c =
     rw (ne-eqb _ _ (c .before .if1 .left), c .before .before .before .word-in .ensures, c .word-in2 .ensures, e)
 
 pub child-of-spec : {M : Type 1} → statement M
-child-of-spec =
-    tie.close
-    (tie.spec mul-p add-p word-in-requires returns add-word-in word-in-requires-2 returns-2)
+child-of-spec = tie.close (tie.spec mul-p add-p word-in-requires returns add-word-in word-in-requires-2 returns-2)

@@ -8,5 +8,4 @@ unfolding codesOf
 returns c = rw (← c .before .before .name-part .ensures, ← c .before .name-part2 .ensures) (c .compare-stored .ensures)
 
 pub compare-names-spec : {M : Type 1} → statement M
-compare-names-spec =
-    tie.close (tie.spec (λ c κs. search needs) (λ c κs. search needs) (λ c κs. search needs) returns)
+compare-names-spec = tie.close (tie.spec (λ c κs. search needs) (λ c κs. search needs) (λ c κs. search needs) returns)

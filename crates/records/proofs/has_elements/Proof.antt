@@ -5,12 +5,6 @@ use borrow.Author.Needs.{needs}
 use Rattle.records.proofs.has_elements.Statement.{statement}
 use Rattle.records.proofs.has_elements.Tie as tie
 
-returns : tie.Need-returns
-returns c = sym (short-elements _ _ (omega arith))
-
-returns-2 : tie.Need-returns-2
-returns-2 c = sym (no-elements _ _ (omega arith) (omega arith))
-
 mul-result : tie.Need-mul-result
 mul-result c = let p = product-fits (c .before .u16-at .result) (c .before .before .before .before .args .width) (omega arith) (omega arith) in omega arith
 
@@ -22,4 +16,6 @@ returns-3 c = rw (c .before .u16-at .ensures) (sym (by-room _ _ (omega arith) (o
 
 pub has-elements-spec : {M : Type 1} → statement M
 has-elements-spec =
-    tie.close (tie.spec returns (λ c κs. search needs) (λ c. search needs) returns-2 mul-result add-result returns-3)
+    tie.close
+    (tie.spec (λ c. sym (short-elements _ _ (omega arith))) (λ c κs. search needs) (λ c. search needs)
+    (λ c. sym (no-elements _ _ (omega arith) (omega arith))) mul-result add-result returns-3)

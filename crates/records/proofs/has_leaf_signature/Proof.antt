@@ -18,23 +18,16 @@ returns-2 c = rw (
 
 returns-3 : tie.Need-returns-3
 unfolding hasLeafSignature
-returns-3 c = rw (
-  ← c .before .before .before .before .before .before .stands-at .ensures,
-  c .before .before .before .before .before .if1 .left,
-  ← c .before .before .before .stands-at2 .ensures,
-  c .before .before .if2 .left,
-) (c .stands-at3 .ensures)
+returns-3 c =
+    let at-if1 = c .before .before .before .before .before in
+    rw (
+      ← at-if1 .before .stands-at .ensures,
+      at-if1 .if1 .left,
+      ← c .before .before .before .stands-at2 .ensures,
+      c .before .before .if2 .left,
+    ) (c .stands-at3 .ensures)
 
 pub has-leaf-signature-spec : {M : Type 1} → statement M
 has-leaf-signature-spec =
-    tie.close
-    (tie.spec
-    (λ c. search needs)
-    (λ c κs. search needs)
-    returns
-    (λ c. search needs)
-    (λ c κs. search needs)
-    returns-2
-    (λ c. search needs)
-    (λ c κs. search needs)
-    returns-3)
+    tie.close (tie.spec (λ c. search needs) (λ c κs. search needs) returns (λ c. search needs) (λ c κs. search needs) returns-2 (λ c. search needs)
+    (λ c κs. search needs) returns-3)

@@ -7,9 +7,6 @@ use borrow.Author.Needs.{needs}
 use Rattle.records.proofs.is_key.Statement.{statement}
 use Rattle.records.proofs.is_key.Tie as tie
 
-returns : tie.Need-returns
-returns c = sym (short-key _ (omega arith))
-
 returns-2 : tie.Need-returns-2
 returns-2 c = sym (no-key _ (omega arith) (sym (c .before .stands-at .ensures) ∙ not-true _ (c .if2 .taken)))
 
@@ -28,20 +25,6 @@ returns-4 c = (rw (
 
 pub is-key-spec : {M : Type 1} → statement M
 is-key-spec =
-    tie.close
-    (tie.spec
-    returns
-    (λ c. search needs)
-    (λ c κs. search needs)
-    returns-2
-    (λ c κs. search needs)
-    (λ c. search needs)
-    (λ c. search needs)
-    returns-3
-    (λ c. search needs)
-    (λ c. search needs)
-    (λ c. search needs)
-    (λ c κs. search needs)
-    (λ c κs. search needs)
-    (λ c κs. search needs)
-    returns-4)
+    tie.close (tie.spec (λ c. sym (short-key _ (omega arith))) (λ c. search needs) (λ c κs. search needs) returns-2 (λ c κs. search needs) (λ c. search needs)
+    (λ c. search needs) returns-3 (λ c. search needs) (λ c. search needs) (λ c. search needs) (λ c κs. search needs) (λ c κs. search needs)
+    (λ c κs. search needs) returns-4)

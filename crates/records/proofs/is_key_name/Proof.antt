@@ -22,13 +22,4 @@ returns-4 c = ap not (c .has-backslash .ensures) ∙ sym (by-backslash _ _ (sym 
     ∙ not-false _ (c .before .before .before .before .if1 .left)) (omega arith) (omega arith))
 
 pub is-key-name-spec : {M : Type 1} → statement M
-is-key-name-spec =
-    tie.close
-    (tie.spec
-    (λ c κs. search needs)
-    returns
-    (λ c κs. search needs)
-    returns-2
-    returns-3
-    (λ c κs. search needs)
-    returns-4)
+is-key-name-spec = tie.close (tie.spec (λ c κs. search needs) returns (λ c κs. search needs) returns-2 returns-3 (λ c κs. search needs) returns-4)

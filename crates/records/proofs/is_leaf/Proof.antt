@@ -6,14 +6,8 @@ use borrow.Author.Needs.{needs}
 use Rattle.records.proofs.is_leaf.Statement.{statement}
 use Rattle.records.proofs.is_leaf.Tie as tie
 
-returns : tie.Need-returns
-returns c = sym (short-leaf _ (omega arith))
-
 returns-2 : tie.Need-returns-2
 returns-2 c = sym (no-leaf _ (sym (c .before .has-leaf-signature .ensures) ∙ not-true _ (c .if2 .taken)))
-
-has-elements-requires : tie.Need-has-elements-requires
-has-elements-requires c κs = rw (c .width-of .ensures) (width-small _)
 
 returns-3 : tie.Need-returns-3
 returns-3 c = (rw (c .before .width-of .ensures) at (c .has-elements .ensures))
@@ -21,11 +15,5 @@ returns-3 c = (rw (c .before .width-of .ensures) at (c .has-elements .ensures))
 
 pub is-leaf-spec : {M : Type 1} → statement M
 is-leaf-spec =
-    tie.close
-    (tie.spec
-    returns
-    (λ c κs. search needs)
-    returns-2
-    (λ c κs. search needs)
-    has-elements-requires
-    returns-3)
+    tie.close (tie.spec (λ c. sym (short-leaf _ (omega arith))) (λ c κs. search needs) returns-2 (λ c κs. search needs)
+    (λ c κs. rw (c .width-of .ensures) (width-small _)) returns-3)

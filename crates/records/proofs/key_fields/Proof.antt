@@ -5,11 +5,8 @@ use borrow.Author.Needs.{needs}
 use Rattle.records.proofs.key_fields.Statement.{statement}
 use Rattle.records.proofs.key_fields.Tie as tie
 
-key-in-requires : tie.Need-key-in-requires
-key-in-requires c κs = rw (c .part-in .ensures) (front-room _ _ 76 (c .before .before .pre))
-
 returns : tie.Need-returns
 returns c = (rw (c .before .part-in .ensures) at (c .key-in .ensures)) ∙ key-front _ _
 
 pub key-fields-spec : {M : Type 1} → statement M
-key-fields-spec = tie.close (tie.spec (λ c κs. search needs) key-in-requires returns)
+key-fields-spec = tie.close (tie.spec (λ c κs. search needs) (λ c κs. rw (c .part-in .ensures) (front-room _ _ 76 (c .before .before .pre))) returns)

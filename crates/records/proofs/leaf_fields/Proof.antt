@@ -5,11 +5,8 @@ use borrow.Author.Needs.{needs}
 use Rattle.records.proofs.leaf_fields.Statement.{statement}
 use Rattle.records.proofs.leaf_fields.Tie as tie
 
-leaf-in-requires : tie.Need-leaf-in-requires
-leaf-in-requires c κs = rw (c .part-in .ensures) (front-room _ _ 4 (c .before .before .pre))
-
 returns : tie.Need-returns
 returns c = (rw (c .before .part-in .ensures) at (c .leaf-in .ensures)) ∙ leaf-front _ _
 
 pub leaf-fields-spec : {M : Type 1} → statement M
-leaf-fields-spec = tie.close (tie.spec (λ c κs. search needs) leaf-in-requires returns)
+leaf-fields-spec = tie.close (tie.spec (λ c κs. search needs) (λ c κs. rw (c .part-in .ensures) (front-room _ _ 4 (c .before .before .pre))) returns)

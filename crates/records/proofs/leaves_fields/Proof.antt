@@ -5,11 +5,8 @@ use borrow.Author.Needs.{needs}
 use Rattle.records.proofs.leaves_fields.Statement.{statement}
 use Rattle.records.proofs.leaves_fields.Tie as tie
 
-leaves-in-requires : tie.Need-leaves-in-requires
-leaves-in-requires c κs = rw (c .part-in .ensures) (front-room _ _ 4 (c .before .before .pre))
-
 returns : tie.Need-returns
 returns c = (rw (c .before .part-in .ensures) at (c .leaves-in .ensures)) ∙ leaves-front _ _
 
 pub leaves-fields-spec : {M : Type 1} → statement M
-leaves-fields-spec = tie.close (tie.spec (λ c κs. search needs) leaves-in-requires returns)
+leaves-fields-spec = tie.close (tie.spec (λ c κs. search needs) (λ c κs. rw (c .part-in .ensures) (front-room _ _ 4 (c .before .before .pre))) returns)

@@ -12,12 +12,4 @@ unfolding leavesIn
 returns-2 c = rw (← c .before .stands-at .ensures, c .if1 .left)
 
 pub leaves-in-spec : {M : Type 1} → statement M
-leaves-in-spec =
-    tie.close
-    (tie.spec
-    (λ c. search needs)
-    (λ c κs. search needs)
-    (λ c κs. search needs)
-    (λ c. search needs)
-    returns
-    returns-2)
+leaves-in-spec = tie.close (tie.spec (λ c. search needs) (λ c κs. search needs) (λ c κs. search needs) (λ c. search needs) returns returns-2)

@@ -19,9 +19,6 @@ found : (c : tie.After-known-told2) → let a = c .before .before .before .befor
     cellOf Header (now (a .bins)) [] (a .o) ≡ Named (c .before .c .given .0 .0)
 found c = sym (c .before .before .before .find-cell .ensures) ∙ c .before .c .given .1
 
-cell-data-requires : tie.Need-cell-data-requires
-cell-data-requires c κs = inside _ _ _ _ (found c)
-
 returns : tie.Need-returns
 unfolding keyFault
 returns c = rw (record-bad isKey _ _ _ _ (found (c .before .before .before)) (ap isKey (sym (c .before .before .cell-data .ensures))
@@ -46,15 +43,5 @@ returns-3 c = rw (
 
 pub name-at-spec : {M : Type 1} → statement M
 name-at-spec =
-    tie.close
-    (tie.spec
-    (λ c. search needs)
-    (λ c κs. search needs)
-    (λ c. search needs)
-    (λ c. search needs)
-    cell-data-requires
-    (λ c κs. search needs)
-    returns
-    name-in-requires
-    returns-2
-    returns-3)
+    tie.close (tie.spec (λ c. search needs) (λ c κs. search needs) (λ c. search needs) (λ c. search needs) (λ c κs. inside _ _ _ _ (found c))
+    (λ c κs. search needs) returns name-in-requires returns-2 returns-3)

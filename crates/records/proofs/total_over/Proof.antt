@@ -12,12 +12,6 @@ Inv-loop bins map rule ls sum₀ j₀ sum j = Counted rule bins map ls sum j
 abbrev μ-loop : tie.MeasureT-loop
 μ-loop bins map rule ls sum₀ j₀ sum j = ls .count - j
 
-loop-holds : tie.Need-loop-holds Inv-loop μ-loop
-loop-holds c = counted-start _ _ _ _ (c .before .before .pre .1)
-
-leaf-offset-requires : tie.Need-leaf-offset-requires Inv-loop μ-loop
-leaf-offset-requires c κs = (omega arith, c .before .before .before .before .before .pre .1)
-
 returns : tie.Need-returns Inv-loop μ-loop
 returns c = let l = c .before .before .before .before .before .before .before .loop in
     counted-bad _ _ _ _ (c .before .before .before .before .before .before .before .before .before .before .pre .1) (l .sum) (l .j)
@@ -41,18 +35,6 @@ returns-2 c = let l = c .before .before .loop in counted-end _ _ _ _ (c .before 
 
 pub total-over-spec : {M : Type 1} → statement M
 total-over-spec =
-    tie.close
-    (tie.spec
-    Inv-loop
-    μ-loop
-    loop-holds
-    leaf-offset-requires
-    (λ c κs. search needs)
-    (λ c. search needs)
-    returns
-    (λ c. search needs)
-    add-sum
-    (λ c. search needs)
-    (λ c. search needs)
-    loop-again
-    returns-2)
+    tie.close (tie.spec Inv-loop μ-loop (λ c. counted-start _ _ _ _ (c .before .before .pre .1))
+    (λ c κs. (omega arith, c .before .before .before .before .before .pre .1)) (λ c κs. search needs) (λ c. search needs) returns (λ c. search needs) add-sum
+    (λ c. search needs) (λ c. search needs) loop-again returns-2)

@@ -33,16 +33,5 @@ returns-3 c =
 
 pub all-pages-spec : {M : Type 1} → statement M
 all-pages-spec =
-    tie.close
-    (tie.spec
-    (λ c κs. search needs)
-    (λ c. search needs)
-    (λ c. search needs)
-    (λ c. search needs)
-    put-all-requires
-    (λ c. search needs)
-    returns
-    (λ c. search needs)
-    returns-2
-    (λ c. search needs)
-    returns-3)
+    tie.close (tie.spec (λ c κs. search needs) (λ c. search needs) (λ c. search needs) (λ c. search needs) put-all-requires (λ c. search needs) returns
+    (λ c. search needs) returns-2 (λ c. search needs) returns-3)

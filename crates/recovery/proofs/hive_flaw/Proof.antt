@@ -7,9 +7,6 @@ use borrow.Author.Needs.{needs}
 use Rattle.recovery.proofs.hive_flaw.Statement.{statement}
 use Rattle.recovery.proofs.hive_flaw.Tie as tie
 
-bins-size-requires : tie.Need-bins-size-requires
-bins-size-requires c κs = c .before .before .pre
-
 returns : tie.Need-returns
 returns c =
     let s = c .before .before .before .before .before in
@@ -22,22 +19,18 @@ returns-2 : tie.Need-returns-2
 returns-2 c =
     let s = c .before .before .before .before .before .before .before in
     c .flawed2 .ensures
-    ∙ sym (by-stamps (s .args .hive .now) (s .args .log .now) (omega (arith, c .before .before .before .before .bins-size .ensures .0)) ∙ fails _ (sym (c .before .before .applies .ensures) ∙ not-true _ (c .before .if2 .taken)))
+    ∙ sym
+    (by-stamps (s .args .hive .now) (s .args .log .now) (omega (arith, c .before .before .before .before .bins-size .ensures .0))
+    ∙ fails _ (sym (c .before .before .applies .ensures) ∙ not-true _ (c .before .if2 .taken)))
 
 returns-3 : tie.Need-returns-3
 returns-3 c =
     let s = c .before .before .before .before .before .before in
-    sym (by-stamps (s .args .hive .now) (s .args .log .now) (omega (arith, c .before .before .before .bins-size .ensures .0)) ∙ holds _ (sym (c .before .applies .ensures) ∙ not-false _ (c .if2 .left)))
+    sym
+    (by-stamps (s .args .hive .now) (s .args .log .now) (omega (arith, c .before .before .before .bins-size .ensures .0))
+    ∙ holds _ (sym (c .before .applies .ensures) ∙ not-false _ (c .if2 .left)))
 
 pub hive-flaw-spec : {M : Type 1} → statement M
 hive-flaw-spec =
-    tie.close
-    (tie.spec
-    bins-size-requires
-    (λ c. search needs)
-    (λ c κs. search needs)
-    returns
-    applies-requires
-    (λ c κs. search needs)
-    returns-2
+    tie.close (tie.spec (λ c κs. c .before .before .pre) (λ c. search needs) (λ c κs. search needs) returns applies-requires (λ c κs. search needs) returns-2
     returns-3)

@@ -23,7 +23,8 @@ is-logged-requires c κs = let s = c .before .before in (passed (s .args .hive .
 returns : tie.Need-returns
 returns c = (
   ap Refused (c .refuse .ensures)
-      ∙ sym (ap (λ (b : Bool). cond b Done (Refused (refusalOf noKey (flaw NotDirty nowhere)))) (sym (c .before .before .is-logged .ensures) ∙ not-true _ (c .before .if1 .taken))),
+      ∙ sym
+      (ap (λ (b : Bool). cond b Done (Refused (refusalOf noKey (flaw NotDirty nowhere)))) (sym (c .before .before .is-logged .ensures) ∙ not-true _ (c .before .if1 .taken))),
   refl,
 )
 
@@ -35,7 +36,8 @@ page-place-requires c κs =
     omega (arith, logged-below l g (s .args .n) (marked c), bins-sized l (head-of l g) .limit)
 
 logged-place-requires : tie.Need-logged-place-requires
-logged-place-requires c κs = let s = c .before .before .before .before .before in (passed (s .args .hive .now) (s .args .log .now) (s .pre .0) .log, (s .pre .1, marked (c .before)))
+logged-place-requires c κs =
+    let s = c .before .before .before .before .before in (passed (s .args .hive .now) (s .args .log .now) (s .pre .0) .log, (s .pre .1, marked (c .before)))
 
 store-requires : tie.Need-store-requires
 store-requires c κs =
@@ -49,23 +51,17 @@ store-requires c κs =
 
 returns-2 : tie.Need-returns-2
 returns-2 c =
-    let s = c .before .before .before .before .before .before .before .before .before .before in
+    let at-page-place = c .before .before .before .before .before in
+    let s = at-page-place .before .before .before .before .before in
     let h = s .args .hive .now in
     let l = s .args .log .now in (
-      sym (ap (λ (b : Bool). cond b Done (Refused (refusalOf noKey (flaw NotDirty nowhere)))) (marked (c .before .before .before .before .before .before))),
-      c .before .before .store .ensures ∙ ap₂ (λ (a b : ℕ). stored h a (sectorAt l b)) (c .before .before .before .before .before .page-place .ensures) (c .before .before .before .before .logged-place .ensures)
+      sym (ap (λ (b : Bool). cond b Done (Refused (refusalOf noKey (flaw NotDirty nowhere)))) (marked (at-page-place .before))),
+      c .before .before .store .ensures
+          ∙ ap₂ (λ (a b : ℕ). stored h a (sectorAt l b)) (at-page-place .page-place .ensures) (c .before .before .before .before .logged-place .ensures)
           ∙ ap (stored h (pagePlace (s .args .n))) (sym (logged-is l (s .args .n))),
     )
 
 pub install-spec : {M : Type 1} → statement M
 install-spec =
-    tie.close
-    (tie.spec
-    is-logged-requires
-    (λ c κs. search needs)
-    returns
-    page-place-requires
-    logged-place-requires
-    store-requires
-    (λ c. search needs)
+    tie.close (tie.spec is-logged-requires (λ c κs. search needs) returns page-place-requires logged-place-requires store-requires (λ c. search needs)
     returns-2)

@@ -18,17 +18,19 @@ facts-of-requires c κs =
 returns : tie.Need-returns
 unfolding factsAnswer
 returns c =
-    let l = c .before .before .before .before .before .before .args .log .now in
+    let at-log-test = c .before .before .before .before in
+    let l = at-log-test .before .before .args .log .now in
     let g = c .before .before .f .given in
-    let e = flawed-log (logFault l) (readOf l) (countedOf l) (g .0 .0) (sym (c .before .before .before .before .log-test .ensures) ∙ g .1) in
+    let e = flawed-log (logFault l) (readOf l) (countedOf l) (g .0 .0) (sym (at-log-test .log-test .ensures) ∙ g .1) in
     ap Refused (c .refused .ensures) ∙ sym (ap (λ (v : Verdict). factsTested v (Of (factsOf l))) e)
 
 returns-2 : tie.Need-returns-2
 unfolding factsAnswer
 returns-2 c =
-    let l = c .before .before .before .before .before .before .args .log .now in
+    let at-log-test = c .before .before .before .before in
+    let l = at-log-test .before .before .args .log .now in
     let g = c .before .before .read .given in
-    let e = logged-sound (logFault l) (readOf l) (g .0 .0) (countedOf l) (g .0 .1 .0) (sym (c .before .before .before .before .log-test .ensures) ∙ g .1) .0 in
+    let e = logged-sound (logFault l) (readOf l) (g .0 .0) (countedOf l) (g .0 .1 .0) (sym (at-log-test .log-test .ensures) ∙ g .1) .0 in
     ap Of (c .facts-of .ensures) ∙ sym (ap (λ (v : Verdict). factsTested v (Of (factsOf l))) e)
 
 pub log-facts-spec : {M : Type 1} → statement M

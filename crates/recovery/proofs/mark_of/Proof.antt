@@ -28,6 +28,4 @@ returns-2 c =
     ∙ sym (ap markOf (sym (c .before .before .before .before .next-logged .ensures) ∙ g .1))
 
 pub mark-of-spec : {M : Type 1} → statement M
-mark-of-spec =
-    tie.close
-    (tie.spec (λ c κs. search needs) (λ c. search needs) (λ c. search needs) page-place-requires returns returns-2)
+mark-of-spec = tie.close (tie.spec (λ c κs. search needs) (λ c. search needs) (λ c. search needs) page-place-requires returns returns-2)

@@ -18,19 +18,21 @@ mark-of-requires c κs =
 returns : tie.Need-returns
 unfolding markAnswer
 returns c =
-    let s = c .before .before .before .before .before .before in
+    let at-head-test = c .before .before .before .before in
+    let s = at-head-test .before .before in
     let l = s .args .log .now in
     let g = c .before .before .f .given in
-    let e = flawed-head (headFault l) (readOf l) (g .0 .0) (sym (c .before .before .before .before .head-test .ensures) ∙ g .1) in
+    let e = flawed-head (headFault l) (readOf l) (g .0 .0) (sym (at-head-test .head-test .ensures) ∙ g .1) in
     ap Refused (c .refused .ensures) ∙ sym (ap (λ (v : Verdict). markTested v (markOf (nextLogged l (s .args .from)))) e)
 
 returns-2 : tie.Need-returns-2
 unfolding markAnswer
 returns-2 c =
-    let s = c .before .before .before .before .before .before in
+    let at-head-test = c .before .before .before .before in
+    let s = at-head-test .before .before in
     let l = s .args .log .now in
     let g = c .before .before .read .given in
-    let e = good-head (headFault l) (readOf l) (g .0 .0) (sym (c .before .before .before .before .head-test .ensures) ∙ g .1) .0 in
+    let e = good-head (headFault l) (readOf l) (g .0 .0) (sym (at-head-test .head-test .ensures) ∙ g .1) .0 in
     c .mark-of .ensures ∙ sym (ap (λ (v : Verdict). markTested v (markOf (nextLogged l (s .args .from)))) e)
 
 pub next-mark-spec : {M : Type 1} → statement M

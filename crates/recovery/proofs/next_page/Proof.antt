@@ -18,19 +18,21 @@ next-of-requires c κs =
 returns : tie.Need-returns
 unfolding nextAnswer
 returns c =
-    let s = c .before .before .before .before .before .before in
+    let at-log-test = c .before .before .before .before in
+    let s = at-log-test .before .before in
     let l = s .args .log .now in
     let g = c .before .before .f .given in
-    let e = flawed-log (logFault l) (readOf l) (countedOf l) (g .0 .0) (sym (c .before .before .before .before .log-test .ensures) ∙ g .1) in
+    let e = flawed-log (logFault l) (readOf l) (countedOf l) (g .0 .0) (sym (at-log-test .log-test .ensures) ∙ g .1) in
     ap Refused (c .refused .ensures) ∙ sym (ap (λ (v : Verdict). nextTested v (nextOf l (nextLogged l (s .args .from)))) e)
 
 returns-2 : tie.Need-returns-2
 unfolding nextAnswer
 returns-2 c =
-    let s = c .before .before .before .before .before .before in
+    let at-log-test = c .before .before .before .before in
+    let s = at-log-test .before .before in
     let l = s .args .log .now in
     let g = c .before .before .read .given in
-    let e = logged-sound (logFault l) (readOf l) (g .0 .0) (countedOf l) (g .0 .1 .0) (sym (c .before .before .before .before .log-test .ensures) ∙ g .1) .0 in
+    let e = logged-sound (logFault l) (readOf l) (g .0 .0) (countedOf l) (g .0 .1 .0) (sym (at-log-test .log-test .ensures) ∙ g .1) .0 in
     c .next-of .ensures ∙ sym (ap (λ (v : Verdict). nextTested v (nextOf l (nextLogged l (s .args .from)))) e)
 
 pub next-page-spec : {M : Type 1} → statement M

@@ -24,16 +24,5 @@ returns-3 c = let b = c .before .before .before in call-refused _ _ (b .begin .e
 
 pub page-spec : {M : Type 1} → statement M
 page-spec =
-    tie.close
-    (tie.spec
-    (λ c κs. search needs)
-    (λ c. search needs)
-    (λ c. search needs)
-    install-requires
-    (λ c. search needs)
-    (λ c. search needs)
-    returns
-    (λ c. search needs)
-    returns-2
-    (λ c. search needs)
-    returns-3)
+    tie.close (tie.spec (λ c κs. search needs) (λ c. search needs) (λ c. search needs) install-requires (λ c. search needs) (λ c. search needs) returns
+    (λ c. search needs) returns-2 (λ c. search needs) returns-3)

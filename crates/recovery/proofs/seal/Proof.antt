@@ -19,7 +19,8 @@ all-in-requires c κs =
 returns : tie.Need-returns
 returns c = (
   ap Refused (c .refuse .ensures)
-      ∙ sym (ap (λ (b : Bool). cond b Done (Refused (refusalOf noKey (flaw NotIn nowhere)))) (sym (c .before .before .all-in .ensures) ∙ not-true _ (c .before .if1 .taken))),
+      ∙ sym
+      (ap (λ (b : Bool). cond b Done (Refused (refusalOf noKey (flaw NotIn nowhere)))) (sym (c .before .before .all-in .ensures) ∙ not-true _ (c .before .if1 .taken))),
   refl,
 )
 
@@ -31,18 +32,10 @@ store-closing-requires c κs =
 
 returns-2 : tie.Need-returns-2
 returns-2 c = (
-  sym (ap (λ (b : Bool). cond b Done (Refused (refusalOf noKey (flaw NotIn nowhere)))) (sym (c .before .before .before .before .before .all-in .ensures) ∙ not-false _ (c .before .before .before .before .if1 .left))),
+  sym
+      (ap (λ (b : Bool). cond b Done (Refused (refusalOf noKey (flaw NotIn nowhere)))) (sym (c .before .before .before .before .before .all-in .ensures) ∙ not-false _ (c .before .before .before .before .if1 .left))),
   c .before .before .store-closing .ensures,
 )
 
 pub seal-spec : {M : Type 1} → statement M
-seal-spec =
-    tie.close
-    (tie.spec
-    all-in-requires
-    (λ c κs. search needs)
-    (λ c. search needs)
-    returns
-    store-closing-requires
-    (λ c. search needs)
-    returns-2)
+seal-spec = tie.close (tie.spec all-in-requires (λ c κs. search needs) (λ c. search needs) returns store-closing-requires (λ c. search needs) returns-2)

@@ -18,17 +18,10 @@ returns c = ap Refused (c .refused .ensures) ∙ rw (← c .before .before .befo
 
 returns-2 : tie.Need-returns-2
 unfolding remnantAnswer
-returns-2 c = c .next-in .ensures ∙ rw (← c .before .before .before .before .tiles-flaw .ensures, c .before .before .enum-told .given .1, c .before .bins-of .ensures)
+returns-2 c =
+    c .next-in .ensures ∙ rw (← c .before .before .before .before .tiles-flaw .ensures, c .before .before .enum-told .given .1, c .before .bins-of .ensures)
 
 pub next-spec : {M : Type 1} → statement M
 next-spec =
-    tie.close
-    (tie.spec
-    (λ c κs. search needs)
-    (λ c. search needs)
-    (λ c κs. search needs)
-    (λ c. search needs)
-    bins-of-requires
-    next-in-requires
-    returns
+    tie.close (tie.spec (λ c κs. search needs) (λ c. search needs) (λ c κs. search needs) (λ c. search needs) bins-of-requires next-in-requires returns
     returns-2)

@@ -10,12 +10,16 @@ use Rattle.remnants.proofs.remain_at.Statement.{statement}
 use Rattle.remnants.proofs.remain_at.Tie as tie
 
 key-remain-requires : tie.Need-key-remain-requires
-key-remain-requires c κs =
-    (rw (c .before .before .data-to .ensures) (key-long _ (sym (c .before .before .before .before .pre .is ∙ kind-of-rest _ _ _) ∙ c .enum-told .given .1)), omega arith)
+key-remain-requires c κs = (
+  rw (c .before .before .data-to .ensures) (key-long _ (sym (c .before .before .before .before .pre .is ∙ kind-of-rest _ _ _) ∙ c .enum-told .given .1)),
+  omega arith,
+)
 
 value-remain-requires : tie.Need-value-remain-requires
-value-remain-requires c κs =
-    (rw (c .before .before .data-to .ensures) (value-long _ (sym (c .before .before .before .before .pre .is ∙ kind-of-rest _ _ _) ∙ c .enum-told2 .given .1)), omega arith)
+value-remain-requires c κs = (
+  rw (c .before .before .data-to .ensures) (value-long _ (sym (c .before .before .before .before .pre .is ∙ kind-of-rest _ _ _) ∙ c .enum-told2 .given .1)),
+  omega arith,
+)
 
 returns : tie.Need-returns
 returns c = (
@@ -39,15 +43,5 @@ returns-3 c = (remain-of-rest _ _ _ (sym (c .enum-told3 .given .1) ∙ c .before
 
 pub remain-at-spec : {M : Type 1} → statement M
 remain-at-spec =
-    tie.close
-    (tie.spec
-    (λ c κs. search needs)
-    (λ c. search needs)
-    key-remain-requires
-    (λ c. search needs)
-    value-remain-requires
-    (λ c. search needs)
-    (λ c. search needs)
-    returns
-    returns-2
-    returns-3)
+    tie.close (tie.spec (λ c κs. search needs) (λ c. search needs) key-remain-requires (λ c. search needs) value-remain-requires (λ c. search needs)
+    (λ c. search needs) returns returns-2 returns-3)

@@ -10,33 +10,26 @@ use Rattle.remnants.proofs.rows_in.Tie as tie
 
 returns : tie.Need-returns
 returns c =
-    rows-none (now (c .before .before .before .before .before .args .rows)) (none-left (c .before .before .first .ensures) (sym (c .before .is-some .ensures) ∙ not-true _ (c .if1 .taken)))
+    rows-none (now (c .before .before .before .before .before .args .rows))
+    (none-left (c .before .before .first .ensures) (sym (c .before .is-some .ensures) ∙ not-true _ (c .if1 .taken)))
 
 returns-2 : tie.Need-returns-2
 returns-2 c =
+    let at-first = c .before .before .before .before in
     let short =
-    rows-short (now (c .before .before .before .before .before .before .before .args .rows)) (c .before .if2 .taken)
-    (one-left (c .before .before .before .before .first .ensures) (sym (c .before .before .before .is-some .ensures) ∙ not-false _ (c .before .before .if1 .left))) in
+    rows-short (now (at-first .before .before .before .args .rows)) (c .before .if2 .taken)
+    (one-left (at-first .first .ensures) (sym (c .before .before .before .is-some .ensures) ∙ not-false _ (c .before .before .if1 .left))) in
     (ap filled.Refused (c .refused .ensures) ∙ short .0, short .1)
-
-fill-requires : tie.Need-fill-requires
-fill-requires c κs = c .before .before .before .before .first .ensures .sought
 
 returns-3 : tie.Need-returns-3
 returns-3 c =
-    let v = c .before .before .before .before .before .before .before .first .ensures in
+    let at-if1 = c .before .before .before .before .before in
+    let v = at-if1 .before .before .first .ensures in
     let f = c .before .before .fill .ensures in
-    rows-some (now (c .before .before .before .before .before .before .before .before .before .before .args .rows)) (c .before .before .before .before .if2 .left) (one-left v (sym (c .before .before .before .before .before .before .is-some .ensures) ∙ not-false _ (c .before .before .before .before .before .if1 .left))) (from-start v) (f .0) (f .1)
+    rows-some (now (at-if1 .before .before .before .before .before .args .rows)) (c .before .before .before .before .if2 .left)
+    (one-left v (sym (at-if1 .before .is-some .ensures) ∙ not-false _ (at-if1 .if1 .left))) (from-start v) (f .0) (f .1)
 
 pub rows-in-spec : {M : Type 1} → statement M
 rows-in-spec =
-    tie.close
-    (tie.spec
-    (λ c κs. search needs)
-    (λ c κs. search needs)
-    returns
-    (λ c κs. search needs)
-    returns-2
-    fill-requires
-    (λ c. search needs)
-    returns-3)
+    tie.close (tie.spec (λ c κs. search needs) (λ c κs. search needs) returns (λ c κs. search needs) returns-2
+    (λ c κs. c .before .before .before .before .first .ensures .sought) (λ c. search needs) returns-3)

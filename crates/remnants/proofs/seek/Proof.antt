@@ -13,38 +13,18 @@ Inv-loop bins from at₀ cell₀ bin₀ at cell bin = Looked bins (soughtLeft bi
 abbrev μ-loop : tie.MeasureT-loop
 μ-loop bins from at₀ cell₀ bin₀ at cell bin = length bins - at + (length bins - cell)
 
-loop-holds : tie.Need-loop-holds Inv-loop μ-loop
-loop-holds c = looking (c .before .pre)
-
-find-requires : tie.Need-find-requires Inv-loop μ-loop
-find-requires c κs = looked-free (c .before .loop .inv)
-
 returns : tie.Need-returns Inv-loop μ-loop
 returns c = seen (c .before .before .before .before .loop .inv) refl (c .before .before .find .ensures) (sym (c .before .is-some .ensures) ∙ c .if1 .taken)
-
-next-free-requires : tie.Need-next-free-requires Inv-loop μ-loop
-next-free-requires c κs = c .before .before .before .before .loop .inv .here .stands
 
 loop-less : tie.Need-loop-less Inv-loop μ-loop
 loop-less c = closer (c .before .before .before .before .before .loop .inv) (c .before .before .before .before .loop-test .taken) (c .next-free .ensures)
 
 loop-again : tie.Need-loop-again Inv-loop μ-loop
-loop-again c = looked-on (c .before .before .before .before .before .loop .inv) (c .before .before .before .find .ensures) (sym (c .before .before .is-some .ensures) ∙ c .before .if1 .left) (c .next-free .ensures)
-
-returns-2 : tie.Need-returns-2 Inv-loop μ-loop
-returns-2 c = unseen (c .before .loop .inv) refl (c .loop-test .left)
+loop-again c =
+    looked-on (c .before .before .before .before .before .loop .inv) (c .before .before .before .find .ensures)
+    (sym (c .before .before .is-some .ensures) ∙ c .before .if1 .left) (c .next-free .ensures)
 
 pub seek-spec : {M : Type 1} → statement M
 seek-spec =
-    tie.close
-    (tie.spec
-    Inv-loop
-    μ-loop
-    loop-holds
-    find-requires
-    (λ c κs. search needs)
-    returns
-    next-free-requires
-    loop-less
-    loop-again
-    returns-2)
+    tie.close (tie.spec Inv-loop μ-loop (λ c. looking (c .before .pre)) (λ c κs. looked-free (c .before .loop .inv)) (λ c κs. search needs) returns
+    (λ c κs. c .before .before .before .before .loop .inv .here .stands) loop-less loop-again (λ c. unseen (c .before .loop .inv) refl (c .loop-test .left)))

@@ -15,5 +15,4 @@ returns-3 : tie.Need-returns-3
 returns-3 c = record { low = omega arith; high = omega arith; eights = omega arith; past = λ h. omega arith; near = inr (omega arith) }
 
 pub skip-spec : {M : Type 1} → statement M
-skip-spec =
-    tie.close (tie.spec returns returns-2 (λ c. search needs) (λ c. search needs) (λ c. search needs) (λ c. search needs) returns-3)
+skip-spec = tie.close (tie.spec returns returns-2 (λ c. search needs) (λ c. search needs) (λ c. search needs) (λ c. search needs) returns-3)

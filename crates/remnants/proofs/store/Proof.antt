@@ -8,35 +8,14 @@ use borrow.Author.Needs.{needs}
 use Rattle.remnants.proofs.store.Statement.{statement}
 use Rattle.remnants.proofs.store.Tie as tie
 
-slice-write-rows-2 : tie.Need-slice-write-rows-2
-slice-write-rows-2 c = simp length-set (omega arith)
-
-slice-write-rows-3 : tie.Need-slice-write-rows-3
-slice-write-rows-3 c = simp length-set (omega arith)
-
-slice-write-rows-4 : tie.Need-slice-write-rows-4
-slice-write-rows-4 c = simp length-set (omega arith)
-
 returns : tie.Need-returns
-returns c = rw (c .before .before .kind-word .ensures, c .narrow-word .ensures) (let a = c .before .before .before .before .args in stored (now (a .rows)) (a .i) (a .x .at .0) (kindWord (a .x .kind)) (a .x .len) (cond (a .x .narrow) 1 0))
+returns c =
+    rw (c .before .before .kind-word .ensures, c .narrow-word .ensures)
+    (let a = c .before .before .before .before .args in
+    stored (now (a .rows)) (a .i) (a .x .at .0) (kindWord (a .x .kind)) (a .x .len) (cond (a .x .narrow) 1 0))
 
 pub store-spec : {M : Type 1} → statement M
 store-spec =
-    tie.close
-    (tie.spec
-    (λ c. search needs)
-    (λ c. search needs)
-    (λ c κs. search needs)
-    (λ c. search needs)
-    (λ c. search needs)
-    slice-write-rows-2
-    (λ c. search needs)
-    (λ c. search needs)
-    (λ c. search needs)
-    slice-write-rows-3
-    (λ c κs. search needs)
-    (λ c. search needs)
-    (λ c. search needs)
-    slice-write-rows-4
-    (λ c. search needs)
-    returns)
+    tie.close (tie.spec (λ c. search needs) (λ c. search needs) (λ c κs. search needs) (λ c. search needs) (λ c. search needs)
+    (λ c. simp length-set (omega arith)) (λ c. search needs) (λ c. search needs) (λ c. search needs) (λ c. simp length-set (omega arith)) (λ c κs. search needs)
+    (λ c. search needs) (λ c. search needs) (λ c. simp length-set (omega arith)) (λ c. search needs) returns)

@@ -13,22 +13,7 @@ Inv-loop buf₀ i₀ buf i = (i ≤ length buf) × (length buf ≡ length buf₀
 abbrev μ-loop : tie.MeasureT-loop
 μ-loop buf₀ i₀ buf i = length buf - i
 
-loop-less : tie.Need-loop-less Inv-loop μ-loop
-loop-less c = simp length-set (omega arith)
-
-loop-again : tie.Need-loop-again Inv-loop μ-loop
-loop-again c = (simp length-set (omega arith), simp length-set (omega arith))
-
 pub clear-spec : {M : Type 1} → statement M
 clear-spec =
-    tie.close
-    (tie.spec
-    Inv-loop
-    μ-loop
-    (λ c. search needs)
-    (λ c. search needs)
-    (λ c. search needs)
-    loop-less
-    loop-again
-    (λ c. search needs)
-    (λ c. search needs))
+    tie.close (tie.spec Inv-loop μ-loop (λ c. search needs) (λ c. search needs) (λ c. search needs) (λ c. simp length-set (omega arith))
+    (λ c. (simp length-set (omega arith), simp length-set (omega arith))) (λ c. search needs) (λ c. search needs))

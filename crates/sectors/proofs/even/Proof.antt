@@ -21,12 +21,4 @@ returns c =
     p2 .put-u322 .ensures ∙ ap₂ (λ (l : List ℕ) (v : ℕ). sets l 508 (le32 v)) e (k .stored-checksum .ensures ∙ ap storedChecksum e)
 
 pub even-spec : {M : Type 1} → statement M
-even-spec =
-    tie.close
-    (tie.spec
-    (λ c κs. search needs)
-    (λ c κs. search needs)
-    (λ c κs. search needs)
-    (λ c κs. search needs)
-    (λ c. search needs)
-    returns)
+even-spec = tie.close (tie.spec (λ c κs. search needs) (λ c κs. search needs) (λ c κs. search needs) (λ c κs. search needs) (λ c. search needs) returns)

@@ -21,21 +21,6 @@ abbrev μ-loop : tie.MeasureT-loop
 loop-holds : tie.Need-loop-holds Inv-loop μ-loop
 loop-holds c = let p = c .before .before .before .before .before .pre in going-start _ _ _ _ _ _ _ (p .0) (p .1)
 
-item-at-requires : tie.Need-item-at-requires Inv-loop μ-loop
-item-at-requires c κs = item-facts _ _ _ (c .before .loop .inv .item) .fits
-
-is-joined-requires : tie.Need-is-joined-requires Inv-loop μ-loop
-is-joined-requires c κs = (c .before .before .loop .inv .item, c .item-at .ensures)
-
-same-length : tie.Need-same-length Inv-loop μ-loop
-same-length c = c .before .before .before .before .loop .inv .keys-same
-
-same-length-2 : tie.Need-same-length-2 Inv-loop μ-loop
-same-length-2 c = c .before .before .before .before .loop .inv .older-same
-
-same-length-3 : tie.Need-same-length-3 Inv-loop μ-loop
-same-length-3 c = c .before .before .before .before .loop .inv .heads-same
-
 returns : tie.Need-returns Inv-loop μ-loop
 returns c =
     let o = c .before .before .before .before .loop in
@@ -55,55 +40,74 @@ insert-requires c κs =
 -- after the insertion
 module _ (c : tie.After-struct-known2 Inv-loop μ-loop) where
   abbrev start : tie.Start Inv-loop μ-loop
-  start = c .before .before .before .before .before .before .before .before .before .before .before .before .before .before .before .before .before .before .before .before .before .before .before
+  start =
+      c .before .before .before .before .before .before .before .before .before .before .before .before .before .before .before .before .before .before .before .before .before .before .before
 
   abbrev turn : tie.At-loop Inv-loop μ-loop
   turn = c .before .before .before .before .before .before .before .before .before .before .before .before .before .before .before .before .before
 
   below : turn .loop .n < length (now (start .args .keys))
-  below = let g = turn .loop .inv in omega (arith, c .before .before .before .before .before .before .before .before .before .before .before .before .before .before .before .before .loop-test .taken, g .keys-same)
+  below =
+      let g = turn .loop .inv in
+      omega (
+        arith,
+        c .before .before .before .before .before .before .before .before .before .before .before .before .before .before .before .before .loop-test .taken,
+        g .keys-same,
+      )
 
   joined : isJoined (now (start .args .bins)) (now (start .args .map)) (turn .loop .at) ≡ true
-  joined = sym (c .before .before .before .before .before .before .before .before .before .before .before .before .before .before .is-joined .ensures) ∙ not-false _ (c .before .before .before .before .before .before .before .before .before .before .before .before .before .if1 .left)
+  joined =
+      sym (c .before .before .before .before .before .before .before .before .before .before .before .before .before .before .is-joined .ensures)
+      ∙ not-false _ (c .before .before .before .before .before .before .before .before .before .before .before .before .before .if1 .left)
 
 same-length-4 : tie.Need-same-length-4 Inv-loop μ-loop
-same-length-4 c = c .before .before .before .before .before .before .before .before .before .keys .given ∙ turn (c .before) .loop .inv .keys-same
+same-length-4 c =
+    let earlier = c .before in
+    let earlier2 = earlier .before .before .before .before .before in
+    earlier2 .before .before .before .keys .given ∙ turn (earlier) .loop .inv .keys-same
 
 same-length-5 : tie.Need-same-length-5 Inv-loop μ-loop
-same-length-5 c = c .before .before .before .before .before .before .before .older .given ∙ turn (c .before) .loop .inv .older-same
+same-length-5 c =
+    let earlier = c .before in
+    let earlier2 = earlier .before .before .before .before .before in
+    earlier2 .before .older .given ∙ turn (earlier) .loop .inv .older-same
 
 same-length-6 : tie.Need-same-length-6 Inv-loop μ-loop
 same-length-6 c = c .before .before .before .before .before .heads .given ∙ turn (c .before) .loop .inv .heads-same
 
 returns-2 : tie.Need-returns-2 Inv-loop μ-loop
 returns-2 c =
-    let o = turn (c .before) .loop in
-    let i = c .before .before .before .before .before .before .before .before .before .before .insert .ensures in
-    let e = closes-by _ _ _ (c .before .before .before .before .before .before .before .before .before .before .before .before .before .before .before .before .item-at .ensures) (c .if2 .taken) in (
-      going-closed _ _ _ _ _ _ _ _ _ _ _ _ (o .inv) (below (c .before)) (joined (c .before)) e,
-      (rw (i .0) (going-holds _ _ _ _ _ _ _ _ _ _ _ _ (o .inv) (below (c .before)) (joined (c .before))), i .1),
+    let earlier = c .before in
+    let earlier2 = earlier .before .before .before .before .before in
+    let at-insert = earlier2 .before .before .before .before in
+    let earlier3 = at-insert .before .before .before .before .before in
+    let o = turn (earlier) .loop in
+    let i = at-insert .insert .ensures in
+    let e = closes-by _ _ _ (earlier3 .before .item-at .ensures) (c .if2 .taken) in (
+      going-closed _ _ _ _ _ _ _ _ _ _ _ _ (o .inv) (below (earlier)) (joined (earlier)) e,
+      (rw (i .0) (going-holds _ _ _ _ _ _ _ _ _ _ _ _ (o .inv) (below (earlier)) (joined (earlier))), i .1),
     )
 
 loop-less : tie.Need-loop-less Inv-loop μ-loop
-loop-less c = omega (arith, c .before .before .before .before .before .before .before .before .before .keys .given, c .before .before .before .before .before .before .before .before .before .before .before .before .before .before .before .before .before .loop-test .taken)
+loop-less c =
+    omega (
+      arith,
+      c .before .before .before .before .before .before .before .before .before .keys .given,
+      c .before .before .before .before .before .before .before .before .before .before .before .before .before .before .before .before .before .loop-test .taken,
+    )
 
 loop-again : tie.Need-loop-again Inv-loop μ-loop
 loop-again c =
+    let at-heads = c .before .before .before .before .before in
+    let at-insert = at-heads .before .before .before .before .before in
+    let earlier = at-insert .before .before .before .before .before in
     let o = turn (c .before) .loop in
-    let i = c .before .before .before .before .before .before .before .before .before .before .insert .ensures in
-    let r = c .before .before .before .before .before .before .before .before .before .before .before .before .before .before .before .before .item-at .ensures in
+    let i = at-insert .insert .ensures in
+    let r = earlier .before .item-at .ensures in
     rw r
-    (going-on _ _ _ _ _ _ _ _ _ _ _ _ (o .inv) (below (c .before)) (joined (c .before)) _ _ _ (i .0) (i .1) (c .before .before .before .before .before .before .before .before .before .keys .given)
-    (c .before .before .before .before .before .before .before .older .given) (c .before .before .before .before .before .heads .given) (goes-by _ _ _ r (c .if2 .left)))
-
-same-length-7 : tie.Need-same-length-7 Inv-loop μ-loop
-same-length-7 c = c .before .loop .inv .keys-same
-
-same-length-8 : tie.Need-same-length-8 Inv-loop μ-loop
-same-length-8 c = c .before .loop .inv .older-same
-
-same-length-9 : tie.Need-same-length-9 Inv-loop μ-loop
-same-length-9 c = c .before .loop .inv .heads-same
+    (going-on _ _ _ _ _ _ _ _ _ _ _ _ (o .inv) (below (c .before)) (joined (c .before)) _ _ _ (i .0) (i .1)
+    (at-heads .before .before .before .before .keys .given)
+    (at-heads .before .before .older .given) (at-heads .heads .given) (goes-by _ _ _ r (c .if2 .left)))
 
 returns-3 : tie.Need-returns-3 Inv-loop μ-loop
 returns-3 c =
@@ -115,26 +119,8 @@ returns-3 c =
 
 pub gather-spec : {M : Type 1} → statement M
 gather-spec =
-    tie.close
-    (tie.spec
-    Inv-loop
-    μ-loop
-    loop-holds
-    item-at-requires
-    is-joined-requires
-    same-length
-    same-length-2
-    same-length-3
-    returns
-    insert-requires
-    (λ c. search needs)
-    same-length-4
-    same-length-5
-    same-length-6
-    returns-2
-    loop-less
-    loop-again
-    same-length-7
-    same-length-8
-    same-length-9
-    returns-3)
+    tie.close (tie.spec Inv-loop μ-loop loop-holds (λ c κs. item-facts _ _ _ (c .before .loop .inv .item) .fits)
+    (λ c κs. (c .before .before .loop .inv .item, c .item-at .ensures)) (λ c. c .before .before .before .before .loop .inv .keys-same)
+    (λ c. c .before .before .before .before .loop .inv .older-same) (λ c. c .before .before .before .before .loop .inv .heads-same) returns insert-requires
+    (λ c. search needs) same-length-4 same-length-5 same-length-6 returns-2 loop-less loop-again (λ c. c .before .loop .inv .keys-same)
+    (λ c. c .before .loop .inv .older-same) (λ c. c .before .loop .inv .heads-same) returns-3)

@@ -17,11 +17,11 @@ returns c =
 returns-2 : tie.Need-returns-2
 unfolding hasRoom itemOf
 returns-2 c =
-    let p = c .before .before .before .before .before .before .before .pre in
-    let e = sym (c .before .before .before .before .find-cell .ensures) ∙ c .before .before .c .given .1 in
+    let at-find-cell = c .before .before .before .before in
+    let p = at-find-cell .before .before .before .pre in
+    let e = sym (at-find-cell .find-cell .ensures) ∙ c .before .before .c .given .1 in
     let l = sym (ap length (cell-data-at _ _ _ _ e)) ∙ data-length _ _ (inside _ _ _ _ e) in
     rw (l, ← p .1)
 
 pub has-room-spec : {M : Type 1} → statement M
-has-room-spec =
-    tie.close (tie.spec (λ c κs. search needs) (λ c. search needs) (λ c. search needs) (λ c. search needs) returns returns-2)
+has-room-spec = tie.close (tie.spec (λ c κs. search needs) (λ c. search needs) (λ c. search needs) (λ c. search needs) returns returns-2)

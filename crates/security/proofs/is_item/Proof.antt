@@ -14,9 +14,6 @@ found : (c : tie.After-known-told) → let a = c .before .before .before .before
     cellOf Map (now (a .bins)) (now (a .map)) (a .o) ≡ Named (c .before .c .given .0 .0)
 found c = sym (c .before .before .before .find-cell .ensures) ∙ c .before .c .given .1
 
-cell-data-requires : tie.Need-cell-data-requires
-cell-data-requires c κs = inside _ _ _ _ (found c)
-
 returns : tie.Need-returns
 returns c = sym (item-missing _ _ _ (sym (c .before .before .find-cell .ensures) ∙ c .enum-told .given .1))
 
@@ -25,12 +22,5 @@ returns-2 c = (rw (c .before .cell-data .ensures) at (c .is-sk .ensures)) ∙ sy
 
 pub is-item-spec : {M : Type 1} → statement M
 is-item-spec =
-    tie.close
-    (tie.spec
-    (λ c κs. search needs)
-    (λ c. search needs)
-    (λ c. search needs)
-    cell-data-requires
-    (λ c κs. search needs)
-    returns
+    tie.close (tie.spec (λ c κs. search needs) (λ c. search needs) (λ c. search needs) (λ c κs. inside _ _ _ _ (found c)) (λ c κs. search needs) returns
     returns-2)

@@ -15,8 +15,9 @@ item-at-requires c κs = item-facts _ _ _ (sym (c .before .is-item .ensures) ∙
 
 returns-2 : tie.Need-returns-2
 returns-2 c =
-    let p = c .before .before .before .before .before .before .before .before .pre in
-    let i = sym (c .before .before .before .before .before .is-item .ensures) ∙ not-false _ (c .before .before .before .before .if1 .left) in
+    let at-is-item = c .before .before .before .before .before in
+    let p = at-is-item .before .before .before .pre in
+    let i = sym (at-is-item .is-item .ensures) ∙ not-false _ (c .before .before .before .before .if1 .left) in
     rw (c .before .before .before .item-at .ensures, p) (sym (linked-by _ _ _ (rw p at i)))
 
 pub is-linked-spec : {M : Type 1} → statement M

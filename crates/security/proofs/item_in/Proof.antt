@@ -9,6 +9,4 @@ returns c =
     rw (c .before .before .before .u32-at .ensures, c .before .before .u32-at2 .ensures, c .before .u32-at3 .ensures, c .u32-at4 .ensures)
 
 pub item-in-spec : {M : Type 1} → statement M
-item-in-spec =
-    tie.close
-    (tie.spec (λ c κs. search needs) (λ c κs. search needs) (λ c κs. search needs) (λ c κs. search needs) returns)
+item-in-spec = tie.close (tie.spec (λ c κs. search needs) (λ c κs. search needs) (λ c κs. search needs) (λ c κs. search needs) returns)

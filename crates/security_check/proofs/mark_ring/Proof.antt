@@ -17,17 +17,23 @@ abbrev μ-loop : tie.MeasureT-loop
 loop-holds : tie.Need-loop-holds Inv-loop μ-loop
 loop-holds c = marking-start _ _ _ (c .before .before .pre .0) (c .before .before .pre .1 .room)
 
-put-bit-requires : tie.Need-put-bit-requires Inv-loop μ-loop
-put-bit-requires c κs = marking-room _ _ _ (c .before .before .before .loop .inv)
-
 item-at-requires : tie.Need-item-at-requires Inv-loop μ-loop
-item-at-requires c κs = marking-fits _ _ _ (c .before .before .before .before .before .before .loop .inv)
+item-at-requires c κs =
+    let earlier = c .before .before .before .before .before in
+    marking-fits _ _ _ (earlier .before .loop .inv)
 
 same-length : tie.Need-same-length Inv-loop μ-loop
-same-length c = marking-same _ _ _ (c .before .before .before .before .before .before .before .before .before .before .before .loop .inv) (c .before .before .before .before .before .before .before .put-bit .ensures)
+same-length c =
+    let earlier = c .before .before .before .before .before in
+    let at-put-bit = earlier .before .before in
+    marking-same _ _ _ (at-put-bit .before .before .before .before .loop .inv) (at-put-bit .put-bit .ensures)
 
 returns : tie.Need-returns Inv-loop μ-loop
-returns c = marking-done _ _ _ (c .before .before .before .before .before .before .before .before .before .before .before .loop .inv) (c .before .before .before .before .before .before .before .put-bit .ensures) (closes-by _ _ _ (c .before .before .before .before .item-at .ensures) (c .if1 .taken))
+returns c =
+    let at-item-at = c .before .before .before .before in
+    let at-put-bit = at-item-at .before .before .before in
+    marking-done _ _ _ (at-put-bit .before .before .before .before .loop .inv) (at-put-bit .put-bit .ensures)
+    (closes-by _ _ _ (at-item-at .item-at .ensures) (c .if1 .taken))
 
 add-met : tie.Need-add-met Inv-loop μ-loop
 add-met c = omega (arith, marking-few _ _ _ (c .before .before .before .before .before .before .before .before .before .before .before .loop .inv))
@@ -37,29 +43,15 @@ loop-less c = omega (arith, marking-few _ _ _ (c .before .before .before .before
 
 loop-again : tie.Need-loop-again Inv-loop μ-loop
 loop-again c =
-    let r = c .before .before .before .before .item-at .ensures in
-    rw r (marking-on _ _ _ (c .before .before .before .before .before .before .before .before .before .before .before .loop .inv) (c .before .before .before .before .before .before .before .put-bit .ensures) (goes-by _ _ _ r (c .if1 .left)))
-
-same-length-2 : tie.Need-same-length-2 Inv-loop μ-loop
-same-length-2 c = c .before .loop .inv .size
+    let at-item-at = c .before .before .before .before in
+    let at-put-bit = at-item-at .before .before .before in
+    let r = at-item-at .item-at .ensures in
+    rw r (marking-on _ _ _ (at-put-bit .before .before .before .before .loop .inv) (at-put-bit .put-bit .ensures) (goes-by _ _ _ r (c .if1 .left)))
 
 returns-2 : tie.Need-returns-2 Inv-loop μ-loop
 returns-2 c = marking-over _ _ _ (c .before .loop .inv) (omega (arith, c .loop-test .left))
 
 pub mark-ring-spec : {M : Type 1} → statement M
 mark-ring-spec =
-    tie.close
-    (tie.spec
-    Inv-loop
-    μ-loop
-    loop-holds
-    (λ c. search needs)
-    put-bit-requires
-    item-at-requires
-    same-length
-    returns
-    add-met
-    loop-less
-    loop-again
-    same-length-2
-    returns-2)
+    tie.close (tie.spec Inv-loop μ-loop loop-holds (λ c. search needs) (λ c κs. marking-room _ _ _ (c .before .before .before .loop .inv)) item-at-requires
+    same-length returns add-met loop-less loop-again (λ c. c .before .loop .inv .size) returns-2)

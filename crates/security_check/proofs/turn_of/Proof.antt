@@ -4,9 +4,6 @@ use Rattle.security_check.proofs.Answers.{turn-flawed, turn-closed, tur
 use Rattle.security_check.proofs.turn_of.Statement.{statement}
 use Rattle.security_check.proofs.turn_of.Tie as tie
 
-returns : tie.Need-returns
-returns c = sym (turn-flawed _ _ (c .before .a .given .1))
-
 returns-2 : tie.Need-returns-2
 returns-2 c = sym (turn-closed _ _ (c .before .before .before .a2 .given .1) (c .enum-told .given .1))
 
@@ -18,14 +15,5 @@ returns-4 c = sym (turn-more _ _ (c .before .before .before .before .a2 .given .
 
 pub turn-of-spec : {M : Type 1} → statement M
 turn-of-spec =
-    tie.close
-    (tie.spec
-    (λ c. search needs)
-    (λ c. search needs)
-    (λ c. search needs)
-    (λ c. search needs)
-    (λ c. search needs)
-    returns
-    returns-2
-    returns-3
-    returns-4)
+    tie.close (tie.spec (λ c. search needs) (λ c. search needs) (λ c. search needs) (λ c. search needs) (λ c. search needs)
+    (λ c. sym (turn-flawed _ _ (c .before .a .given .1))) returns-2 returns-3 returns-4)

@@ -6,11 +6,8 @@ use Rattle.security_pass.proofs.Laws.{off-past, off-inside}
 use Rattle.security_pass.proofs.is_off.Statement.{statement}
 use Rattle.security_pass.proofs.is_off.Tie as tie
 
-returns : tie.Need-returns
-returns c = sym (off-past _ _ _ (c .if1 .taken))
-
 returns-2 : tie.Need-returns-2
 returns-2 c = ap not (c .is-marked .ensures) ∙ sym (off-inside _ _ _ (c .before .if1 .left))
 
 pub is-off-spec : {M : Type 1} → statement M
-is-off-spec = tie.close (tie.spec (λ c. search needs) returns (λ c κs. search needs) returns-2)
+is-off-spec = tie.close (tie.spec (λ c. search needs) (λ c. sym (off-past _ _ _ (c .if1 .taken))) (λ c κs. search needs) returns-2)

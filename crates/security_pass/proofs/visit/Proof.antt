@@ -16,12 +16,4 @@ returns-2 c =
     (sym (ends-count _ _ _ _ e), c .before .before .count-item .ensures ∙ sym (visit-count _ _ _ _ _ o e))
 
 pub visit-spec : {M : Type 1} → statement M
-visit-spec =
-    tie.close
-    (tie.spec
-    (λ c κs. search needs)
-    (λ c κs. search needs)
-    returns
-    (λ c κs. search needs)
-    (λ c. search needs)
-    returns-2)
+visit-spec = tie.close (tie.spec (λ c κs. search needs) (λ c κs. search needs) returns (λ c κs. search needs) (λ c. search needs) returns-2)

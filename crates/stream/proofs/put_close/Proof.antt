@@ -3,8 +3,5 @@ use borrow.Author.Needs.{needs}
 use Rattle.stream.proofs.put_close.Statement.{statement}
 use Rattle.stream.proofs.put_close.Tie as tie
 
-returns : tie.Need-returns
-returns c = rw (c .before .before .put-head .ensures) (put-closing _ _)
-
 pub put-close-spec : {M : Type 1} → statement M
-put-close-spec = tie.close (tie.spec (λ c κs. search needs) (λ c. search needs) returns)
+put-close-spec = tie.close (tie.spec (λ c κs. search needs) (λ c. search needs) (λ c. rw (c .before .before .put-head .ensures) (put-closing _ _)))

@@ -19,17 +19,10 @@ returns c =
     let b = bytesOf (a .bins .now) (a .x) in
     let l = bytes-length (a .bins .now) (a .x) (c .before .before .before .before .before .before .pre .0) in
     let s : length (take (a .at + a .len - a .at) (drop (a .at) out)) ≡ lengthOf (a .x) = simp (length-take, length-drop) (omega arith) in
-    ap₂ (λ (ys zs : List ℕ). take (a .at) out ++ (ys ++ zs)) (c .before .before .copy-data .ensures ∙ all-copied b _ (lengthOf (a .x)) s) (post-is (a .at) (a .at + a .len) out (omega arith))
+    ap₂ (λ (ys zs : List ℕ). take (a .at) out ++ (ys ++ zs)) (c .before .before .copy-data .ensures ∙ all-copied b _ (lengthOf (a .x)) s)
+    (post-is (a .at) (a .at + a .len) out (omega arith))
     ∙ part-put out b (a .at) (a .at + a .len) (omega arith) (omega arith)
 
 pub put-data-spec : {M : Type 1} → statement M
 put-data-spec =
-    tie.close
-    (tie.spec
-    (λ c. search needs)
-    (λ c. search needs)
-    (λ c. search needs)
-    (λ c. search needs)
-    (λ c κs. search needs)
-    (λ c. search needs)
-    returns)
+    tie.close (tie.spec (λ c. search needs) (λ c. search needs) (λ c. search needs) (λ c. search needs) (λ c κs. search needs) (λ c. search needs) returns)

@@ -16,9 +16,12 @@ returns : tie.Need-returns
 returns c = rw (c .before .before .before .before .if1 .taken) (c .before .before .widen .ensures)
 
 returns-2 : tie.Need-returns-2
-returns-2 c = rw (c .before .before .before .before .if1 .left) (c .before .before .copy-all .ensures ∙ sym (stored-wide _ (λ i. omega (arith, c .before .before .before .before .before .before .shared-slice-known .given i)) (wide-even _ _ (c .before .before .before .before .if1 .left) (c .before .before .before .before .before .before .before .pre .1))))
+returns-2 c =
+    rw (c .before .before .before .before .if1 .left)
+    (c .before .before .copy-all .ensures
+    ∙ sym
+    (stored-wide _ (λ i. omega (arith, c .before .before .before .before .before .before .shared-slice-known .given i))
+    (wide-even _ _ (c .before .before .before .before .if1 .left) (c .before .before .before .before .before .before .before .pre .1))))
 
 pub put-wide-spec : {M : Type 1} → statement M
-put-wide-spec =
-    tie.close
-    (tie.spec widen-requires copy-all-requires (λ c. search needs) returns (λ c. search needs) returns-2)
+put-wide-spec = tie.close (tie.spec widen-requires copy-all-requires (λ c. search needs) returns (λ c. search needs) returns-2)

@@ -15,35 +15,26 @@ Inv-loop s out₀ i₀ out i = (i ≤ length s) × (length out ≡ length out₀
 abbrev μ-loop : tie.MeasureT-loop
 μ-loop s out₀ i₀ out i = length s - i
 
-loop-holds : tie.Need-loop-holds Inv-loop μ-loop
-loop-holds c = (omega arith, refl, widen-start (c .args .s .now) (c .args .out .now))
-
 slice-write-out-2 : tie.Need-slice-write-out-2 Inv-loop μ-loop
 slice-write-out-2 c = simp length-set (omega (arith, c .before .before .loop .inv .1, c .before .before .before .pre))
 
 loop-again : tie.Need-loop-again Inv-loop μ-loop
 loop-again c =
-    let a = c .before .before .before .args in
-    (omega arith, simp length-set (c .before .before .loop .inv .1), rw (c .before .before .loop .inv .2) (widen-turn (a .s .now) (a .out .now) (c .before .before .loop .i) (omega arith) (omega (arith, c .shared-slice-known .given (c .before .before .loop .i)))))
+    let a = c .before .before .before .args in (
+      omega arith,
+      simp length-set (c .before .before .loop .inv .1),
+      rw (c .before .before .loop .inv .2)
+          (widen-turn (a .s .now) (a .out .now) (c .before .before .loop .i) (omega arith)
+          (omega (arith, c .shared-slice-known .given (c .before .before .loop .i)))),
+    )
 
 returns : tie.Need-returns Inv-loop μ-loop
-returns c = let a = c .before .before .args in rw (c .before .loop .inv .2) (widen-end (a .s .now) (a .out .now) (c .before .loop .i) (c .before .before .pre) (omega arith))
+returns c =
+    let a = c .before .before .args in
+    rw (c .before .loop .inv .2) (widen-end (a .s .now) (a .out .now) (c .before .loop .i) (c .before .before .pre) (omega arith))
 
 pub widen-spec : {M : Type 1} → statement M
 widen-spec =
-    tie.close
-    (tie.spec
-    Inv-loop
-    μ-loop
-    loop-holds
-    (λ c. search needs)
-    (λ c. search needs)
-    (λ c. search needs)
-    (λ c. search needs)
-    (λ c. search needs)
-    slice-write-out-2
-    (λ c. search needs)
-    (λ c. search needs)
-    loop-again
-    (λ c. search needs)
+    tie.close (tie.spec Inv-loop μ-loop (λ c. (omega arith, refl, widen-start (c .args .s .now) (c .args .out .now))) (λ c. search needs) (λ c. search needs)
+    (λ c. search needs) (λ c. search needs) (λ c. search needs) slice-write-out-2 (λ c. search needs) (λ c. search needs) loop-again (λ c. search needs)
     returns)

@@ -13,6 +13,4 @@ unfolding frameOf
 returns-2 c = rw (← c .before .before .before .u32-at .ensures, le-ltb _ _ (c .before .before .if1 .left), ← c .before .u16-at .ensures) (c .framed .ensures)
 
 pub frame-of-spec : {M : Type 1} → statement M
-frame-of-spec =
-    tie.close
-    (tie.spec (λ c κs. search needs) returns (λ c κs. search needs) (λ c. search needs) (λ c κs. search needs) returns-2)
+frame-of-spec = tie.close (tie.spec (λ c κs. search needs) returns (λ c κs. search needs) (λ c. search needs) (λ c κs. search needs) returns-2)

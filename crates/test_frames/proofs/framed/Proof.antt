@@ -17,11 +17,23 @@ returns-3 c = simp (ne-eqb _ 1 (c .before .before .if1 .left), ne-eqb _ 2 (c .be
 
 returns-4 : tie.Need-returns-4
 unfolding framed
-returns-4 c = simp (ne-eqb _ 1 (c .before .before .before .if1 .left), ne-eqb _ 2 (c .before .before .if2 .left), eq-eqb _ 3 (c .before .if3 .left), eq-eqb _ 0 (c .if4 .taken))
+returns-4 c =
+    simp (
+      ne-eqb _ 1 (c .before .before .before .if1 .left),
+      ne-eqb _ 2 (c .before .before .if2 .left),
+      eq-eqb _ 3 (c .before .if3 .left),
+      eq-eqb _ 0 (c .if4 .taken),
+    )
 
 returns-5 : tie.Need-returns-5
 unfolding framed
-returns-5 c = simp (ne-eqb _ 1 (c .before .before .before .if1 .left), ne-eqb _ 2 (c .before .before .if2 .left), eq-eqb _ 3 (c .before .if3 .left), ne-eqb _ 0 (c .if4 .left))
+returns-5 c =
+    simp (
+      ne-eqb _ 1 (c .before .before .before .if1 .left),
+      ne-eqb _ 2 (c .before .before .if2 .left),
+      eq-eqb _ 3 (c .before .if3 .left),
+      ne-eqb _ 0 (c .if4 .left),
+    )
 
 pub framed-spec : {M : Type 1} → statement M
 framed-spec = tie.close (tie.spec returns returns-2 returns-3 returns-4 returns-5)

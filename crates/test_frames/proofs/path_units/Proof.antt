@@ -23,8 +23,12 @@ loop-again : tie.Need-loop-again Inv-loop μ-loop
 loop-again c = let p = c .before .before .before .before .before .args .path .now in
     let m = wide-length p in
     let i = c .before .before .loop .i in
-    let below : i < length p / 2 = omega arith in
-    (omega arith, simp length-set (c .before .before .loop .inv .1), one-more p _ _ _ (omega (arith, c .before .before .loop .inv .1)) (omega (arith, m)) (c .u16-at .ensures) (c .before .before .loop .inv .2), drop-set-lt (length p / 2) (c .before .before .loop .units) i _ below ∙ c .before .before .loop .inv .3)
+    let below : i < length p / 2 = omega arith in (
+      omega arith,
+      simp length-set (c .before .before .loop .inv .1),
+      one-more p _ _ _ (omega (arith, c .before .before .loop .inv .1)) (omega (arith, m)) (c .u16-at .ensures) (c .before .before .loop .inv .2),
+      drop-set-lt (length p / 2) (c .before .before .loop .units) i _ below ∙ c .before .before .loop .inv .3,
+    )
 
 returns : tie.Need-returns Inv-loop μ-loop
 returns c = let p = c .before .before .before .before .args .path .now in
@@ -35,17 +39,5 @@ returns c = let p = c .before .before .before .before .args .path .now in
 
 pub path-units-spec : {M : Type 1} → statement M
 path-units-spec =
-    tie.close
-    (tie.spec
-    Inv-loop
-    μ-loop
-    (λ c. search needs)
-    (λ c. search needs)
-    (λ c κs. search needs)
-    (λ c. search needs)
-    (λ c. search needs)
-    (λ c. search needs)
-    (λ c. search needs)
-    loop-again
-    (λ c. search needs)
-    returns)
+    tie.close (tie.spec Inv-loop μ-loop (λ c. search needs) (λ c. search needs) (λ c κs. search needs) (λ c. search needs) (λ c. search needs)
+    (λ c. search needs) (λ c. search needs) loop-again (λ c. search needs) returns)

@@ -106,7 +106,20 @@ module _ (t : ℕ) where
   list-below = and 2 list-kinds.ps (falls 2 list-kinds.ps _<_ μ-list t) list.Pre
 
   abbrev K : key-lts.Claims
-  K = (key-at.Asked, key-at.Learnt, holder.Asked, holder.Learnt, refused.Asked, refused.Learnt, key-tests.Asked, key-tests.Learnt, tally.Asked, tally.Learnt, list-below, list.Post)
+  K = (
+    key-at.Asked,
+    key-at.Learnt,
+    holder.Asked,
+    holder.Learnt,
+    refused.Asked,
+    refused.Learnt,
+    key-tests.Asked,
+    key-tests.Learnt,
+    tally.Asked,
+    tally.Learnt,
+    list-below,
+    list.Post,
+  )
 
   abbrev F : leaf-lts.Claims
   F = (leaf-fields.Asked, leaf-fields.Learnt, row-below, row.Post)
@@ -135,9 +148,13 @@ module _ (t : ℕ) where
 
   k-own : key-lts.Need-key-tests-requires K key-asks key.Post
   k-own c κs =
-      let a = c .before .before .before .before .before .before .before .args in
-      let w = keyed-whole (keyFault Map (now (a .bins)) (now (a .map)) (a .c .at)) (keyOf (now (a .bins)) (a .c .at)) (sym (c .before .before .before .key-at .ensures) ∙ c .before .k .given .1) in
-      (rw (w .1) (name-room Map _ _ _ (w .0)), c .before .before .before .before .before .before .before .pre .1)
+      let at-key-at = c .before .before .before in
+      let at-entry = at-key-at .before .before .before .before in
+      let a = at-entry .args in
+      let w =
+      keyed-whole (keyFault Map (now (a .bins)) (now (a .map)) (a .c .at)) (keyOf (now (a .bins)) (a .c .at))
+      (sym (at-key-at .key-at .ensures) ∙ c .before .k .given .1) in
+      (rw (w .1) (name-room Map _ _ _ (w .0)), at-entry .pre .1)
 
   k-flawed-2 : key-lts.Need-enum-known-f-2 K key-asks key.Post
   k-flawed-2 c = search needs
@@ -162,21 +179,35 @@ module _ (t : ℕ) where
 
   k-returns : key-lts.Need-returns K key-asks key.Post
   k-returns c =
-      let a = c .before .before .before .before .before .before .before .before .before .args in
-      sym (key-record _ _ _ _ _ _ _ (keyed-flawed (keyFault Map (now (a .bins)) (now (a .map)) (a .c .at)) (keyOf (now (a .bins)) (a .c .at)) (sym (c .before .before .before .before .before .key-at .ensures) ∙ c .before .before .before .f .given .1)) (c .before .holder .ensures) (c .refused .ensures))
+      let at-key-at = c .before .before .before .before .before in
+      let a = at-key-at .before .before .before .before .args in
+      sym
+      (key-record _ _ _ _ _ _ _
+      (keyed-flawed (keyFault Map (now (a .bins)) (now (a .map)) (a .c .at)) (keyOf (now (a .bins)) (a .c .at))
+      (sym (at-key-at .key-at .ensures) ∙ c .before .before .before .f .given .1))
+      (c .before .holder .ensures) (c .refused .ensures))
 
   k-returns-2 : key-lts.Need-returns-2 K key-asks key.Post
   k-returns-2 c =
-      let a = c .before .before .before .before .before .before .before .before .before .before .before .before .args in
-      let w = keyed-whole (keyFault Map (now (a .bins)) (now (a .map)) (a .c .at)) (keyOf (now (a .bins)) (a .c .at)) (sym (c .before .before .before .before .before .before .before .before .key-at .ensures) ∙ c .before .before .before .before .before .before .k .given .1) in
-      sym (key-own _ _ _ _ _ _ _ _ (w .1) (w .0) (sym (c .before .before .before .before .key-tests .ensures) ∙ c .before .before .f2 .given .1) (c .refused2 .ensures))
+      let at-key-tests = c .before .before .before .before in
+      let at-key-at = at-key-tests .before .before .before .before in
+      let a = at-key-at .before .before .before .before .args in
+      let w =
+      keyed-whole (keyFault Map (now (a .bins)) (now (a .map)) (a .c .at)) (keyOf (now (a .bins)) (a .c .at))
+      (sym (at-key-at .key-at .ensures) ∙ at-key-tests .before .before .k .given .1) in
+      sym (key-own _ _ _ _ _ _ _ _ (w .1) (w .0) (sym (at-key-tests .key-tests .ensures) ∙ c .before .before .f2 .given .1) (c .refused2 .ensures))
 
   k-returns-3 : key-lts.Need-returns-3 K key-asks key.Post
   k-returns-3 c =
-      let a = c .before .before .before .before .before .before .before .before .before .before .before .before .args in
-      let w = keyed-whole (keyFault Map (now (a .bins)) (now (a .map)) (a .c .at)) (keyOf (now (a .bins)) (a .c .at)) (sym (c .before .before .before .before .before .before .before .before .key-at .ensures) ∙ c .before .before .before .before .before .before .k .given .1) in
+      let at-key-tests = c .before .before .before .before in
+      let at-key-at = at-key-tests .before .before .before .before in
+      let a = at-key-at .before .before .before .before .args in
+      let w =
+      keyed-whole (keyFault Map (now (a .bins)) (now (a .map)) (a .c .at)) (keyOf (now (a .bins)) (a .c .at))
+      (sym (at-key-at .key-at .ensures) ∙ at-key-tests .before .before .k .given .1) in
       c .check-list .ensures
-      ∙ sym (key-on _ _ _ _ _ _ _ _ _ (w .1) (w .0) (sym (c .before .before .before .before .key-tests .ensures) ∙ c .before .before .enum-told .given .1) (c .before .tally .ensures))
+      ∙ sym
+      (key-on _ _ _ _ _ _ _ _ _ (w .1) (w .0) (sym (at-key-tests .key-tests .ensures) ∙ c .before .before .enum-told .given .1) (c .before .tally .ensures))
 
   -- check_leaf
   f-fields : leaf-lts.Need-leaf-fields-requires F leaf-asks leaf.Post
@@ -212,7 +243,9 @@ module _ (t : ℕ) where
       let a = c .before .before .before .before .before .before .before .before .before .before .args in
       let o = c .before .before .before .before .before .before .before .loop in
       let n = row-length (now (a .bins)) (a .row) (o .inv .1) in
-      sym (leaf-stop _ _ _ _ _ _ _ (rowChildren (now (a .bins)) (a .row)) (o .i) _ _ (o .inv .3) _ (omega arith) (c .before .before .before .before .row-child .ensures) (sym (c .before .before .before .check-key .ensures) ∙ c .before .w .given .1))
+      sym
+      (leaf-stop _ _ _ _ _ _ _ (rowChildren (now (a .bins)) (a .row)) (o .i) _ _ (o .inv .3) _ (omega arith)
+      (c .before .before .before .before .row-child .ensures) (sym (c .before .before .before .check-key .ensures) ∙ c .before .w .given .1))
 
   r-counted : row-lts.Need-enum-known-w-2 R row-asks row.Post Inv-row μ-row-loop
   r-counted c = search needs
@@ -232,7 +265,8 @@ module _ (t : ℕ) where
         omega arith,
         o .inv .1,
         key-fits _ _ _ _ (a .key) _ _ _ w,
-        leaf-on _ _ _ _ _ _ _ (rowChildren (now (a .bins)) (a .row)) (o .i) _ _ (o .inv .3) _ (omega arith) (c .before .before .before .before .before .row-child .ensures) w,
+        leaf-on _ _ _ _ _ _ _ (rowChildren (now (a .bins)) (a .row)) (o .i) _ _ (o .inv .3) _ (omega arith)
+            (c .before .before .before .before .before .row-child .ensures) w,
       )
 
   r-returns-2 : row-lts.Need-returns-2 R row-asks row.Post Inv-row μ-row-loop
@@ -278,15 +312,23 @@ module _ (t : ℕ) where
       let a = c .before .before .before .before .before .before .before .before .before .before .before .before .before .args in
       let o = c .before .before .before .before .before .before .before .loop in
       let n = named-length (now (a .bins)) (c .before .before .before .before .before .before .before .before .leaves-fields .result) (o .inv .1) in
-      rw (as-list _ _ _ (c .before .before .before .before .before .before .before .before .before .before .before .before .before .pre .1) (c .before .before .before .before .before .before .before .before .before .if1 .left) (c .before .before .before .before .before .before .before .before .leaves-fields .ensures))
-      (sym (leaves-stop _ _ _ _ _ _ _ (leavesNamed (now (a .bins)) (c .before .before .before .before .before .before .before .before .leaves-fields .result)) (o .j) _ _ (o .inv .4) _ (omega arith)
-      (leaf-there _ _ (o .inv .1) (o .j) (c .before .before .before .before .before .if2 .taken) (c .before .before .before .before .leaf-offset .ensures)) (sym (c .before .before .before .check-leaf .ensures) ∙ c .before .w .given .1)))
+      rw
+      (as-list _ _ _ (c .before .before .before .before .before .before .before .before .before .before .before .before .before .pre .1)
+      (c .before .before .before .before .before .before .before .before .before .if1 .left)
+      (c .before .before .before .before .before .before .before .before .leaves-fields .ensures))
+      (sym
+      (leaves-stop _ _ _ _ _ _ _ (leavesNamed (now (a .bins)) (c .before .before .before .before .before .before .before .before .leaves-fields .result)) (o .j) _ _ (o .inv .4) _ (omega arith)
+      (leaf-there _ _ (o .inv .1) (o .j) (c .before .before .before .before .before .if2 .taken) (c .before .before .before .before .leaf-offset .ensures))
+      (sym (c .before .before .before .check-leaf .ensures) ∙ c .before .w .given .1)))
 
   l-counted : list-lts.Need-enum-known-w-2 L list-asks list.Post Inv-list μ-list-loop
   l-counted c = search needs
 
   l-last : list-lts.Need-last-of-requires L list-asks list.Post Inv-list μ-list-loop
-  l-last c κs = let o = c .before .before .before .before .before .before .before .loop in o .inv .2 _ (leaf-in _ _ (o .inv .1) (o .j) (c .before .before .before .before .before .if2 .taken) (c .before .before .before .before .leaf-offset .ensures))
+  l-last c κs =
+      let at-if2 = c .before .before .before .before .before in
+      let o = at-if2 .before .before .loop in
+      o .inv .2 _ (leaf-in _ _ (o .inv .1) (o .j) (at-if2 .if2 .taken) (c .before .before .before .before .leaf-offset .ensures))
 
   l-add : list-lts.Need-add-j L list-asks list.Post Inv-list μ-list-loop
   l-add c = omega arith
@@ -299,13 +341,20 @@ module _ (t : ℕ) where
       let a = c .before .before .before .before .before .before .before .before .before .before .before .before .before .before .args in
       let o = c .before .before .before .before .before .before .before .before .loop in
       let n = named-length (now (a .bins)) (c .before .before .before .before .before .before .before .before .before .leaves-fields .result) (o .inv .1) in
-      let s = o .inv .2 _ (leaf-in _ _ (o .inv .1) (o .j) (c .before .before .before .before .before .before .if2 .taken) (c .before .before .before .before .before .leaf-offset .ensures)) in
+      let s =
+      o .inv .2 _
+      (leaf-in _ _ (o .inv .1) (o .j) (c .before .before .before .before .before .before .if2 .taken)
+      (c .before .before .before .before .before .leaf-offset .ensures)) in
       let w = sym (c .before .before .before .before .check-leaf .ensures) ∙ c .before .before .w2 .given .1 in (
         omega arith,
         o .inv .1,
         o .inv .2,
         rw (c .last-of .ensures) (leaf-fits _ _ _ _ (a .key) _ _ _ (leaf-some Map _ _ _ s) w),
-        leaves-on _ _ _ _ _ _ _ (leavesNamed (now (a .bins)) (c .before .before .before .before .before .before .before .before .before .leaves-fields .result)) (o .j) _ _ (o .inv .4) _ _ (omega arith) (leaf-there _ _ (o .inv .1) (o .j) (c .before .before .before .before .before .before .if2 .taken) (c .before .before .before .before .before .leaf-offset .ensures)) (leaf-some Map _ _ _ s) (c .last-of .ensures) w,
+        leaves-on _ _ _ _ _ _ _ (leavesNamed (now (a .bins)) (c .before .before .before .before .before .before .before .before .before .leaves-fields .result))
+            (o .j) _ _ (o .inv .4) _ _ (omega arith)
+            (leaf-there _ _ (o .inv .1) (o .j) (c .before .before .before .before .before .before .if2 .taken)
+            (c .before .before .before .before .before .leaf-offset .ensures))
+            (leaf-some Map _ _ _ s) (c .last-of .ensures) w,
       )
 
   l-returns-3 : list-lts.Need-returns-3 L list-asks list.Post Inv-list μ-list-loop
@@ -313,13 +362,18 @@ module _ (t : ℕ) where
       let a = c .before .before .before .before .before .before .before .before .args in
       let o = c .before .before .loop in
       let n = named-length (now (a .bins)) (c .before .before .before .leaves-fields .result) (o .inv .1) in
-      rw (as-list _ _ _ (c .before .before .before .before .before .before .before .before .pre .1) (c .before .before .before .before .if1 .left) (c .before .before .before .leaves-fields .ensures))
+      rw
+      (as-list _ _ _ (c .before .before .before .before .before .before .before .before .pre .1) (c .before .before .before .before .if1 .left)
+      (c .before .before .before .leaves-fields .ensures))
       (sym (leaves-end _ _ _ _ _ _ _ (leavesNamed (now (a .bins)) (c .before .before .before .leaves-fields .result)) (o .j) _ _ (o .inv .4) (omega arith)))
 
 pub +check-key+check-leaf+check-list+check-siblings-spec : {M : Type 1} → statement M
 +check-key+check-leaf+check-list+check-siblings-spec =
     close μ-key μ-leaf μ-list μ-row
-    (λ t. key-lts.spec (K t) (key-asks t) key.Post (k-key-at t) (k-flawed t) (k-holder t) (k-refused t) (k-whole t) (k-own t) (k-flawed-2 t) (k-refused-2 t) (k-sound t) (k-tally t) (k-sub t) (k-list t) (k-returns t) (k-returns-2 t) (k-returns-3 t))
+    (λ t. key-lts.spec (K t) (key-asks t) key.Post (k-key-at t) (k-flawed t) (k-holder t) (k-refused t) (k-whole t) (k-own t) (k-flawed-2 t) (k-refused-2 t)
+    (k-sound t) (k-tally t) (k-sub t) (k-list t) (k-returns t) (k-returns-2 t) (k-returns-3 t))
     (λ t. leaf-lts.spec (F t) (leaf-asks t) leaf.Post (f-fields t) (f-row t) (f-returns t))
-    (λ t. list-lts.spec (L t) (list-asks t) list.Post Inv-list μ-list-loop (l-returns t) (l-fields t) (l-holds t) (l-offset t) (l-leaf t) (l-refused t) (l-returns-2 t) (l-counted t) (l-last t) (l-add t) (l-less t) (l-again t) (l-returns-3 t))
-    (λ t. row-lts.spec (R t) (row-asks t) row.Post Inv-row μ-row-loop (r-holds t) (r-child t) (r-key t) (r-refused t) (r-returns t) (r-counted t) (r-add t) (r-less t) (r-again t) (r-returns-2 t))
+    (λ t. list-lts.spec (L t) (list-asks t) list.Post Inv-list μ-list-loop (l-returns t) (l-fields t) (l-holds t) (l-offset t) (l-leaf t) (l-refused t)
+    (l-returns-2 t) (l-counted t) (l-last t) (l-add t) (l-less t) (l-again t) (l-returns-3 t))
+    (λ t. row-lts.spec (R t) (row-asks t) row.Post Inv-row μ-row-loop (r-holds t) (r-child t) (r-key t) (r-refused t) (r-returns t) (r-counted t) (r-add t)
+    (r-less t) (r-again t) (r-returns-2 t))

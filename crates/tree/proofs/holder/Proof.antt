@@ -4,9 +4,8 @@ use borrow.Author.Needs.{needs}
 use Rattle.tree.proofs.holder.Statement.{statement}
 use Rattle.tree.proofs.holder.Tie as tie
 
-returns : tie.Need-returns
-returns c = sym (holder-start _ (c .enum-told .given .1))
-
 pub holder-spec : {M : Type 1} → statement M
 holder-spec =
-    tie.close (tie.spec (λ c. search needs) (λ c. search needs) (λ c. search needs) returns (λ c. search needs) (λ c. search needs))
+    tie.close
+    (tie.spec (λ c. search needs) (λ c. search needs) (λ c. search needs) (λ c. sym (holder-start _ (c .enum-told .given .1))) (λ c. search needs)
+    (λ c. search needs))

@@ -14,5 +14,4 @@ returns-3 : tie.Need-returns-3
 returns-3 c = sym (parent-good _ _ _ _ (c .before .before .before .if1 .left) (c .if2 .left))
 
 pub parent-flaw-spec : {M : Type 1} → statement M
-parent-flaw-spec =
-    tie.close (tie.spec (λ c κs. search needs) returns (λ c κs. search needs) returns-2 returns-3)
+parent-flaw-spec = tie.close (tie.spec (λ c κs. search needs) returns (λ c κs. search needs) returns-2 returns-3)

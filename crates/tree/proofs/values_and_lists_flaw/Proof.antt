@@ -13,20 +13,18 @@ names-and-lists-flaw-requires : tie.Need-names-and-lists-flaw-requires
 names-and-lists-flaw-requires c κs = passed-lie Map _ _ _ _ (sym (c .before .before .values-flaw .ensures) ∙ c .enum-told .given .1)
 
 returns-2 : tie.Need-returns-2
-returns-2 c = sym (rest-values _ _ _ _ _ _ (c .before .before .before .before .if1 .left) (sym (c .before .before .before .values-flaw .ensures) ∙ c .before .f .given .1))
+returns-2 c =
+    sym
+    (rest-values _ _ _ _ _ _ (c .before .before .before .before .if1 .left) (sym (c .before .before .before .values-flaw .ensures) ∙ c .before .f .given .1))
 
 returns-3 : tie.Need-returns-3
-returns-3 c = c .names-and-lists-flaw .ensures ∙ sym (rest-lists _ _ _ _ _ _ (c .before .before .before .before .if1 .left) (sym (c .before .before .before .values-flaw .ensures) ∙ c .before .enum-told .given .1))
+returns-3 c =
+    c .names-and-lists-flaw .ensures
+    ∙ sym
+    (rest-lists _ _ _ _ _ _ (c .before .before .before .before .if1 .left)
+    (sym (c .before .before .before .values-flaw .ensures) ∙ c .before .enum-told .given .1))
 
 pub values-and-lists-flaw-spec : {M : Type 1} → statement M
 values-and-lists-flaw-spec =
-    tie.close
-    (tie.spec
-    (λ c κs. search needs)
-    returns
-    (λ c κs. search needs)
-    (λ c. search needs)
-    (λ c. search needs)
-    names-and-lists-flaw-requires
-    returns-2
+    tie.close (tie.spec (λ c κs. search needs) returns (λ c κs. search needs) (λ c. search needs) (λ c. search needs) names-and-lists-flaw-requires returns-2
     returns-3)

@@ -16,13 +16,12 @@ returns c =
     let a = c .before .before .before .args in
     rw (c .if1 .taken) (paste-zero (a .out .now) (a .to) (drop (a .p .at) (dataAt (a .bins .now) (a .p .cell))))
 
-part-in-requires : tie.Need-part-in-requires
-part-in-requires c κs = record { some = omega arith; ends = search needs }
-
 copy-all-requires : tie.Need-copy-all-requires
 copy-all-requires c κs =
     let a = c .before .before .before .before .before .args in
-    let l = ap length (c .before .part-in .ensures) ∙ part-length (dataAt (a .bins .now) (a .p .cell)) (a .p .at) (a .p .len) (c .before .before .before .before .before .pre .0) in
+    let l =
+    ap length (c .before .part-in .ensures)
+    ∙ part-length (dataAt (a .bins .now) (a .p .cell)) (a .p .at) (a .p .len) (c .before .before .before .before .before .pre .0) in
     simp (l, length-take, length-drop) (omega arith)
 
 returns-2 : tie.Need-returns-2
@@ -38,14 +37,5 @@ returns-2 c =
 
 pub copy-part-spec : {M : Type 1} → statement M
 copy-part-spec =
-    tie.close
-    (tie.spec
-    returns
-    (λ c. search needs)
-    part-in-requires
-    (λ c. search needs)
-    (λ c. search needs)
-    (λ c. search needs)
-    copy-all-requires
-    (λ c. search needs)
-    returns-2)
+    tie.close (tie.spec returns (λ c. search needs) (λ c κs. record { some = omega arith; ends = search needs }) (λ c. search needs) (λ c. search needs)
+    (λ c. search needs) copy-all-requires (λ c. search needs) returns-2)

@@ -13,50 +13,26 @@ Inv-loop bins e size out₀ count left₀ i₀ out left i = (count ≡ e .count)
 abbrev μ-loop : tie.MeasureT-loop
 μ-loop bins e size out₀ count left₀ i₀ out left i = count - i
 
-loop-holds : tie.Need-loop-holds Inv-loop μ-loop
-loop-holds c = (refl, copied-start _ _ _ _ (c .before .before .pre .0))
-
-entry-requires : tie.Need-entry-requires Inv-loop μ-loop
-entry-requires c κs = (c .before .before .before .before .before .pre .0 .room, omega arith)
-
-sub-copy-part : tie.Need-sub-copy-part Inv-loop μ-loop
-sub-copy-part c = omega (arith, c .before .before .before .before .loop .inv .1 .within)
-
 copy-part-requires : tie.Need-copy-part-requires Inv-loop μ-loop
-copy-part-requires c κs = turn-room _ _ _ _ (c .before .before .before .before .loop .inv .1) (c .before .before .before .before .before .before .before .pre .1) (omega arith) _ _ (c .before .entry .ensures) (c .before .before .segment-length .ensures)
+copy-part-requires c κs =
+    turn-room _ _ _ _ (c .before .before .before .before .loop .inv .1) (c .before .before .before .before .before .before .before .pre .1) (omega arith) _ _
+    (c .before .entry .ensures) (c .before .before .segment-length .ensures)
 
 sub-left : tie.Need-sub-left Inv-loop μ-loop
 sub-left c = let t = takes (c .before .before .before .before .before .before .before .loop .left) in omega arith
 
-add-i : tie.Need-add-i Inv-loop μ-loop
-add-i c = omega arith
-
-loop-less : tie.Need-loop-less Inv-loop μ-loop
-loop-less c = omega arith
-
 loop-again : tie.Need-loop-again Inv-loop μ-loop
-loop-again c = (c .before .before .before .before .before .before .before .loop .inv .0, rw (c .before .before .copy-part .ensures) (turn _ _ _ _ (c .before .before .before .before .before .before .before .loop .inv .1) (c .before .before .before .before .before .before .before .before .before .before .pre .1) (omega arith) _ _ (c .before .before .before .before .entry .ensures) (c .before .before .before .before .before .segment-length .ensures)))
-
-same-length : tie.Need-same-length Inv-loop μ-loop
-same-length c = c .before .loop .inv .1 .kept
-
-returns : tie.Need-returns Inv-loop μ-loop
-returns c = copied-end _ _ _ _ (c .before .loop .inv .1) (omega arith)
+loop-again c = (
+  c .before .before .before .before .before .before .before .loop .inv .0,
+  rw (c .before .before .copy-part .ensures)
+      (turn _ _ _ _ (c .before .before .before .before .before .before .before .loop .inv .1)
+      (c .before .before .before .before .before .before .before .before .before .before .pre .1) (omega arith) _ _
+      (c .before .before .before .before .entry .ensures) (c .before .before .before .before .before .segment-length .ensures)),
+)
 
 pub copy-segments-spec : {M : Type 1} → statement M
 copy-segments-spec =
-    tie.close
-    (tie.spec
-    Inv-loop
-    μ-loop
-    loop-holds
-    (λ c κs. search needs)
-    entry-requires
-    sub-copy-part
-    copy-part-requires
-    sub-left
-    add-i
-    loop-less
-    loop-again
-    same-length
-    returns)
+    tie.close (tie.spec Inv-loop μ-loop (λ c. (refl, copied-start _ _ _ _ (c .before .before .pre .0))) (λ c κs. search needs)
+    (λ c κs. (c .before .before .before .before .before .pre .0 .room, omega arith))
+    (λ c. omega (arith, c .before .before .before .before .loop .inv .1 .within)) copy-part-requires sub-left (λ c. omega arith) (λ c. omega arith) loop-again
+    (λ c. c .before .loop .inv .1 .kept) (λ c. copied-end _ _ _ _ (c .before .loop .inv .1) (omega arith)))

@@ -23,15 +23,5 @@ returns-4 c = c .segments-flaw .ensures ∙ rw (c .before .before .x2 .given .1)
 
 pub data-flaw-spec : {M : Type 1} → statement M
 data-flaw-spec =
-    tie.close
-    (tie.spec
-    (λ c. search needs)
-    (λ c. search needs)
-    returns
-    (λ c. search needs)
-    (λ c κs. search needs)
-    (λ c. search needs)
-    (λ c κs. search needs)
-    returns-2
-    returns-3
-    returns-4)
+    tie.close (tie.spec (λ c. search needs) (λ c. search needs) returns (λ c. search needs) (λ c κs. search needs) (λ c. search needs) (λ c κs. search needs)
+    returns-2 returns-3 returns-4)

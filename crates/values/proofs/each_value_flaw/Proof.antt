@@ -19,40 +19,30 @@ Inv-loop bins map rule minor e count seen₀ seen =
 abbrev μ-loop : tie.MeasureT-loop
 μ-loop bins map rule minor e count seen₀ seen = count - seen
 
-loop-holds : tie.Need-loop-holds Inv-loop μ-loop
-loop-holds c = (omega arith, refl, refl)
-
-entry-requires : tie.Need-entry-requires Inv-loop μ-loop
-entry-requires c κs = (search needs, omega arith)
-
 returns : tie.Need-returns Inv-loop μ-loop
-returns c = let l = c .before .before .before .before .before .before .loop in let a = c .before .before .before .before .before .before .before .before .before .args in sym (loop-stop _ _ (l .seen) _ (l .inv .2) _ (omega (arith, entries-length (a .bins .now) (a .e))) (c .before .before .before .before .entry .ensures) (sym (c .before .before .before .whole-value-flaw .ensures) ∙ c .before .f .given .1))
-
-add-seen : tie.Need-add-seen Inv-loop μ-loop
-add-seen c = omega arith
-
-loop-less : tie.Need-loop-less Inv-loop μ-loop
-loop-less c = omega arith
+returns c =
+    let l = c .before .before .before .before .before .before .loop in
+    let a = c .before .before .before .before .before .before .before .before .before .args in
+    sym
+    (loop-stop _ _ (l .seen) _ (l .inv .2) _ (omega (arith, entries-length (a .bins .now) (a .e))) (c .before .before .before .before .entry .ensures)
+    (sym (c .before .before .before .whole-value-flaw .ensures) ∙ c .before .f .given .1))
 
 loop-again : tie.Need-loop-again Inv-loop μ-loop
-loop-again c = let l = c .before .before .before .before .before .loop in let a = c .before .before .before .before .before .before .before .before .args in (omega arith, l .inv .1, loop-on _ _ (l .seen) _ (l .inv .2) _ (omega (arith, entries-length (a .bins .now) (a .e))) (c .before .before .before .entry .ensures) (sym (c .before .before .whole-value-flaw .ensures) ∙ c .enum-told .given .1))
+loop-again c =
+    let l = c .before .before .before .before .before .loop in
+    let a = c .before .before .before .before .before .before .before .before .args in (
+      omega arith,
+      l .inv .1,
+      loop-on _ _ (l .seen) _ (l .inv .2) _ (omega (arith, entries-length (a .bins .now) (a .e))) (c .before .before .before .entry .ensures)
+          (sym (c .before .before .whole-value-flaw .ensures) ∙ c .enum-told .given .1),
+    )
 
 returns-2 : tie.Need-returns-2 Inv-loop μ-loop
-returns-2 c = let l = c .before .loop in let a = c .before .before .before .before .args in sym (loop-end _ _ (l .seen) nowhere (l .inv .2) (omega (arith, entries-length (a .bins .now) (a .e))))
+returns-2 c =
+    let l = c .before .loop in
+    let a = c .before .before .before .before .args in sym (loop-end _ _ (l .seen) nowhere (l .inv .2) (omega (arith, entries-length (a .bins .now) (a .e))))
 
 pub each-value-flaw-spec : {M : Type 1} → statement M
 each-value-flaw-spec =
-    tie.close
-    (tie.spec
-    Inv-loop
-    μ-loop
-    loop-holds
-    entry-requires
-    (λ c κs. search needs)
-    (λ c. search needs)
-    returns
-    (λ c. search needs)
-    add-seen
-    loop-less
-    loop-again
-    returns-2)
+    tie.close (tie.spec Inv-loop μ-loop (λ c. (omega arith, refl, refl)) (λ c κs. (search needs, omega arith)) (λ c κs. search needs) (λ c. search needs)
+    returns (λ c. search needs) (λ c. omega arith) (λ c. omega arith) loop-again returns-2)

@@ -8,12 +8,4 @@ unfolding fieldsOf
 returns c = rw (← c .u32-at .ensures, ← c .before .before .before .content-of .ensures, ← c .before .before .u16-at .ensures, ← c .before .is-narrow .ensures)
 
 pub fields-of-spec : {M : Type 1} → statement M
-fields-of-spec =
-    tie.close
-    (tie.spec
-    (λ c κs. search needs)
-    (λ c κs. search needs)
-    (λ c. search needs)
-    (λ c κs. search needs)
-    (λ c κs. search needs)
-    returns)
+fields-of-spec = tie.close (tie.spec (λ c κs. search needs) (λ c κs. search needs) (λ c. search needs) (λ c κs. search needs) (λ c κs. search needs) returns)

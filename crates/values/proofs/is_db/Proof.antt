@@ -14,17 +14,16 @@ returns-2 c = rw (le-leb 8 _ (c .before .before .before .if1 .left), ← c .befo
 
 returns-3 : tie.Need-returns-3
 unfolding isDb
-returns-3 c = rw (le-leb 8 _ (c .before .before .before .before .before .if1 .left), ← c .before .before .before .stands-at .ensures, not-false (c .before .before .before .stands-at .result) (c .before .before .if2 .left), ← c .before .u16-at .ensures, ← c .segments-for .ensures)
+returns-3 c =
+    rw (
+      le-leb 8 _ (c .before .before .before .before .before .if1 .left),
+      ← c .before .before .before .stands-at .ensures,
+      not-false (c .before .before .before .stands-at .result) (c .before .before .if2 .left),
+      ← c .before .u16-at .ensures,
+      ← c .segments-for .ensures,
+    )
 
 pub is-db-spec : {M : Type 1} → statement M
 is-db-spec =
-    tie.close
-    (tie.spec
-    returns
-    (λ c. search needs)
-    (λ c κs. search needs)
-    returns-2
-    (λ c κs. search needs)
-    (λ c. search needs)
-    (λ c κs. search needs)
+    tie.close (tie.spec returns (λ c. search needs) (λ c κs. search needs) returns-2 (λ c κs. search needs) (λ c. search needs) (λ c κs. search needs)
     returns-3)

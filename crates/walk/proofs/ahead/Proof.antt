@@ -6,9 +6,6 @@ use borrow.Author.Needs.{needs}
 use Rattle.walk.proofs.ahead.Statement.{statement}
 use Rattle.walk.proofs.ahead.Tie as tie
 
-returns : tie.Need-returns
-returns c = sym (in-over _ _ _ (c .if1 .taken))
-
 returns-2 : tie.Need-returns-2
 returns-2 c = ap ahead.Refused (c .short .ensures) ∙ sym (in-short _ _ _ (c .before .before .if1 .left) (omega arith))
 
@@ -16,4 +13,4 @@ returns-3 : tie.Need-returns-3
 returns-3 c = c .ahead-at .ensures ∙ sym (in-on _ _ _ (c .before .before .if1 .left) (omega arith))
 
 pub ahead-spec : {M : Type 1} → statement M
-ahead-spec = tie.close (tie.spec returns (λ c κs. search needs) returns-2 (λ c κs. search needs) returns-3)
+ahead-spec = tie.close (tie.spec (λ c. sym (in-over _ _ _ (c .if1 .taken))) (λ c κs. search needs) returns-2 (λ c κs. search needs) returns-3)

@@ -14,45 +14,41 @@ key-fields-requires c κs = key-room Header _ [] _ (c .before .before .before .b
 
 returns : tie.Need-returns
 returns c =
-    let a = c .before .before .before .before .before .before .before .before .before .before .before .args in
+    let at-key-fields = c .before .before .before .before .before in
+    let earlier = at-key-fields .before .before .before .before .before in
+    let at-entry = earlier .before in
+    let a = at-entry .args in
     let k = keyAt (a .levels .now) (a .depth) in
     ap ahead.Refused (c .refused .ensures)
-    ∙ sym (at-faulty (a .bins .now) (a .levels .now) (a .depth) k refl (c .before .before .before .before .before .before .before .before .before .before .before .pre .1) (c .before .before .before .before .before .key-fields .ensures) (sym (c .before .before .before .before .next-below .ensures) ∙ c .before .before .f .given .1))
+    ∙ sym
+    (at-faulty (a .bins .now) (a .levels .now) (a .depth) k refl (at-entry .pre .1) (at-key-fields .key-fields .ensures)
+    (sym (c .before .before .before .before .next-below .ensures) ∙ c .before .before .f .given .1))
 
 returns-2 : tie.Need-returns-2
 returns-2 c =
-    let a = c .before .before .before .before .before .before .before .before .before .args in
+    let at-key-fields = c .before .before .before in
+    let earlier = at-key-fields .before .before .before .before .before in
+    let at-entry = earlier .before in
+    let a = at-entry .args in
     let k = keyAt (a .levels .now) (a .depth) in
-    sym (at-end (a .bins .now) (a .levels .now) (a .depth) k refl (c .before .before .before .before .before .before .before .before .before .pre .1) (c .before .before .before .key-fields .ensures) (sym (c .before .before .next-below .ensures) ∙ c .enum-told .given .1))
+    sym
+    (at-end (a .bins .now) (a .levels .now) (a .depth) k refl (at-entry .pre .1) (at-key-fields .key-fields .ensures)
+    (sym (c .before .before .next-below .ensures) ∙ c .enum-told .given .1))
 
 returns-3 : tie.Need-returns-3
 returns-3 c =
-    let a = c .before .before .before .before .before .before .before .before .before .before .before .args in
+    let at-key-fields = c .before .before .before .before .before in
+    let earlier = at-key-fields .before .before .before .before .before in
+    let at-entry = earlier .before in
+    let a = at-entry .args in
     let k = keyAt (a .levels .now) (a .depth) in
     c .«open» .ensures
-    ∙ sym (at-on (a .bins .now) (a .levels .now) (a .depth) k refl (c .before .before .before .before .before .before .before .before .before .before .before .pre .1) (c .before .before .before .before .before .key-fields .ensures) (sym (c .before .before .before .before .next-below .ensures) ∙ c .before .before .c .given .1))
+    ∙ sym
+    (at-on (a .bins .now) (a .levels .now) (a .depth) k refl (at-entry .pre .1) (at-key-fields .key-fields .ensures)
+    (sym (c .before .before .before .before .next-below .ensures) ∙ c .before .before .c .given .1))
 
 pub ahead-of-spec : {M : Type 1} → statement M
 ahead-of-spec =
-    tie.close
-    (tie.spec
-    (λ c. search needs)
-    (λ c. search needs)
-    (λ c. search needs)
-    (λ c. search needs)
-    (λ c. search needs)
-    (λ c. search needs)
-    (λ c. search needs)
-    (λ c. search needs)
-    (λ c. search needs)
-    (λ c. search needs)
-    key-fields-requires
-    (λ c κs. search needs)
-    (λ c. search needs)
-    (λ c κs. search needs)
-    (λ c. search needs)
-    (λ c. search needs)
-    (λ c κs. search needs)
-    returns
-    returns-2
-    returns-3)
+    tie.close (tie.spec (λ c. search needs) (λ c. search needs) (λ c. search needs) (λ c. search needs) (λ c. search needs) (λ c. search needs)
+    (λ c. search needs) (λ c. search needs) (λ c. search needs) (λ c. search needs) key-fields-requires (λ c κs. search needs) (λ c. search needs)
+    (λ c κs. search needs) (λ c. search needs) (λ c. search needs) (λ c κs. search needs) returns returns-2 returns-3)

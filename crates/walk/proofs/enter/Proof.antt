@@ -12,9 +12,8 @@ returns c = ap ahead.Refused (c .refused .ensures) ∙ sym (enter-deep _ _ _ _ _
 returns-2 : tie.Need-returns-2
 returns-2 c = ap ahead.Refused (c .short .ensures) ∙ sym (enter-short _ _ _ _ _ (omega arith) (omega arith))
 
-returns-3 : tie.Need-returns-3
-returns-3 c = sym (enter-on _ _ _ _ _ (omega arith) (omega arith))
-
 pub enter-spec : {M : Type 1} → statement M
 enter-spec =
-    tie.close (tie.spec (λ c κs. search needs) returns (λ c. search needs) (λ c κs. search needs) returns-2 returns-3)
+    tie.close
+    (tie.spec (λ c κs. search needs) returns (λ c. search needs) (λ c κs. search needs) returns-2
+    (λ c. sym (enter-on _ _ _ _ _ (omega arith) (omega arith))))

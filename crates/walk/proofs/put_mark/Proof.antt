@@ -6,20 +6,10 @@ use borrow.Author.Needs.{needs}
 use Rattle.walk.proofs.put_mark.Statement.{statement}
 use Rattle.walk.proofs.put_mark.Tie as tie
 
-slice-write-levels-2 : tie.Need-slice-write-levels-2
-slice-write-levels-2 c = simp length-set (omega arith)
-
 returns : tie.Need-returns
 returns c = let a = c .args in put-two (now (a .levels)) (a .i) (a .m .leaf) (a .m .element)
 
 pub put-mark-spec : {M : Type 1} → statement M
 put-mark-spec =
-    tie.close
-    (tie.spec
-    (λ c. search needs)
-    (λ c. search needs)
-    (λ c. search needs)
-    (λ c. search needs)
-    slice-write-levels-2
-    (λ c. search needs)
-    returns)
+    tie.close (tie.spec (λ c. search needs) (λ c. search needs) (λ c. search needs) (λ c. search needs) (λ c. simp length-set (omega arith))
+    (λ c. search needs) returns)
