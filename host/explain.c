@@ -79,6 +79,8 @@ static void put_words(FILE *to, const Hive *h, HiveAnswer a, const Path *path)
     fputs(reason_of(a.number)->what, to);
     if (a.number == HIVE_FAULT_HIVE_CUT && h->wanted > 0)
         fprintf(to, ": it has %zu bytes and needs %llu; --grow lengthens it with zeros", h->bytes.length, (unsigned long long)h->wanted);
+    if (a.number == HIVE_FAULT_HIVE_CUT && h->wanted == 0)
+        fputs(", and would not fit it if it were longer: this is another log", to);
     if (reason_of(a.number)->placed) {
         unsigned long long at = 4096ull + a.place;
         fprintf(to, ", at offset %u (0x%x), which is byte %llu (0x%llx) of the file", a.place, a.place, at, at);
@@ -117,7 +119,7 @@ int refusal(const Hive *h, HiveAnswer a, const Path *path)
         say_number("at", a.place);
     say_end();
     if (!say_json())
-        note(reason_of(a.number)->of_log ? h->log : h->file, words);
+        note(reason_of(a.number)->of_log && h->log != NULL ? h->log : h->file, words);
     return REFUSED;
 }
 

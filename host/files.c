@@ -4,6 +4,7 @@
 #include <fcntl.h>
 #include <stdlib.h>
 #include <string.h>
+#include <sys/stat.h>
 #include <unistd.h>
 
 #include "host.h"
@@ -142,6 +143,21 @@ int read_kept(const char *path, Bytes *out)
     return fd < 0 ? TROUBLE : read_close(fd, path, out);
 }
 
+/* What nobody has named: only where it is a regular file, or a link to one. A pipe is not waited for. `lax`: one that may not be read is none. */
+int read_regular(const char *path, Bytes *out, bool lax, bool *there)
+{
+    struct stat facts;
+    int fd = open(path, O_RDONLY | O_NONBLOCK | O_CLOEXEC);
+    *there = false;
+    if (fd < 0)
+        return lax || errno == ENOENT ? GOOD : trouble(path, "%s", reason(errno));
+    *there = fstat(fd, &facts) == 0 && S_ISREG(facts.st_mode);
+    if (*there)
+        return read_close(fd, path, out);
+    close(fd);
+    return GOOD;
+}
+
 static int from_input(const Order *o, const char *file)
 {
     int n = is_standard(file);
@@ -156,12 +172,15 @@ int read_hive(const Order *o, const char *file, Hive *out)
     *out = (Hive){.file = file};
     if (from_input(o, file) > 1)
         return misused("FILE and LOG cannot both be standard input");
-    if (o->grow && o->log_count == 0)
-        return misused("--grow goes with --log");
+    bool with_log = o->beside || o->log_count > 0;
+    if ((o->grow || o->only_this_log) && !with_log)
+        return misused("%s goes with --log", o->grow ? "--grow" : "--only-this-log");
+    if (o->beside && o->log_count > 0)
+        return misused("--log names a log, and --logs takes those beside FILE: give one of the two");
     int status = read_file(file, &out->bytes);
-    if (status == GOOD && o->log_count > 0)
-        status = take_logs(out, o->logs, o->log_count, o->grow, read_file);
-    return status == GOOD && o->log_count > 0 ? recover(out) : status;
+    if (status == GOOD && with_log)
+        status = take_logs(out, o->logs, o->log_count, o, read_file);
+    return status == GOOD && with_log && out->log != NULL ? recover(out) : status;
 }
 
 void drop_hive(Hive *h)

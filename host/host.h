@@ -35,10 +35,10 @@ enum Style { VALUE_NAME, KEY_NAME };
 typedef struct {
     char **words;
     int count;
-    const char *logs[2], *backup, *prefix, *descriptor;
+    const char *verb, *logs[2], *backup, *prefix, *descriptor;
     int log_count;
     size_t nth; /* 0: none was given */
-    bool json, wide, dry, anyway, grow, utf8, any_length;
+    bool json, wide, dry, anyway, grow, utf8, any_length, beside, only_this_log, no_backup;
 } Order;
 
 /* A hive in memory, and the log that it is read or repaired with; log is its name, NULL where none was given, and started what hive_recover_start says of the two.
@@ -56,6 +56,26 @@ typedef struct {
     const char *text;
     Units units;
 } Path;
+
+/* A log, with memory of its own for both. */
+typedef struct {
+    char *name;
+    Bytes bytes;
+} Log;
+
+/* choose.c: which of two logs, either of which may be empty, and an empty one is none. CHOSE_NONE: refused, with the answer; wanted: how long the hive has to be,
+ * where that is all that is missing (24), else 0. GOOD, or TROUBLE where there is no memory, after a message about `file`. */
+enum Chosen { CHOSE_CLEAN, CHOSE_FIRST, CHOSE_SECOND, CHOSE_FIRST_SECOND, CHOSE_SECOND_FIRST, CHOSE_NONE };
+typedef struct {
+    enum Chosen chosen;
+    HiveAnswer answer;
+    uint64_t wanted;
+} Choice;
+int choose(const char *file, Bytes hive, Bytes a, Bytes b, Choice *out);
+bool does_fit(const Choice *c);
+/* The first up to the end of its entries, and the entries of the second, which follows it. A copy of the hive that is so long, with zeros at its end. */
+int join_logs(const char *file, Bytes first, Bytes second, Bytes *out);
+int grown(const char *file, Bytes hive, uint64_t length, Bytes *out);
 
 /* order.c */
 typedef int Verb(const Order *);
@@ -123,6 +143,18 @@ enum { LEVELS = 512 };
 int climb(const Hive *h, uint32_t key, Name *names);
 void put_key(FILE *to, const Hive *h, uint32_t key);
 
+/* next.c: what to type next, quoted for the shell. left_out: a log that is not named holds what the named one alone would lose; answers REFUSED, after its words.
+ * order_is: the command that was given, which the lines repeat. */
+typedef struct {
+    bool repair, grow, only, beside, no_backup;
+    const char *logs[2];
+    int count;
+} Line;
+void order_is(const Order *o);
+const char *line_to_type(const char *file, const Line *l);
+void say_next(const char *what, const char *line);
+int left_out(const Hive *h, const char *named, const char *other, const Choice *c);
+
 /* hints.c */
 void put_hints(FILE *to, const Hive *h, const Path *path, HiveAnswer a);
 
@@ -149,13 +181,23 @@ int put_output(FILE *to, Bytes bytes);
 /* files.c. Those that answer an int answer GOOD or TROUBLE, after a message. */
 typedef int Reader(const char *path, Bytes *out);
 Reader read_file, read_kept;
+int read_regular(const char *path, Bytes *out, bool lax, bool *there);
 bool is_standard(const char *path);
 int read_open(int fd, const char *path, Bytes *out);
 int read_hive(const Order *o, const char *file, Hive *out);
 void drop_hive(Hive *h);
 
-/* logs.c. GOOD, TROUBLE or REFUSED, after a message: one log, or two that are one or of which one fits. */
-int take_logs(Hive *h, const char *const *names, int count, bool grow, Reader *reader);
+/* beside.c: the logs in the folder of a path that are called as the first `length` characters of `stem`, at most two, with bytes. They are looked for to be taken
+ * (empty ones are told), lest one is left out, or for a hint alone (then one that may not be read is none). */
+enum Look { LOOK_TAKE, LOOK_LEFT_OUT, LOOK_HINT };
+int logs_beside(const char *path, const char *stem, size_t length, enum Look look, Log *logs, int *count);
+const char *base_name(const char *path);
+size_t stem_length(const char *name);
+void drop_log(Log *log);
+
+/* logs.c. GOOD, TROUBLE or REFUSED, after a message: those that are named, or where none is those beside the hive. One log, or two that are one or of which one
+ * fits. h->log stays NULL where there is none and none is needed. */
+int take_logs(Hive *h, const char *const *names, int count, const Order *o, Reader *reader);
 
 /* store.c. The same. */
 int open_kept(const char *path, int flags);

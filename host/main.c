@@ -112,6 +112,7 @@ static int answer(int count, char **words)
     if (status != GOOD)
         return status;
     say_as(o.json, o.count > 1 && verb == check_verb);
+    order_is(&o);
     return verb(&o);
 }
 

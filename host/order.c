@@ -5,7 +5,8 @@
 
 #include "host.h"
 
-enum { LOG = 1, JSON = 2, WIDE = 4, NTH = 8, DRY_RUN = 16, BACKUP = 32, ANYWAY = 64, GROW = 128, PREFIX = 256, UTF8 = 512, DESCRIPTOR = 1024, ANY_LENGTH = 2048, NO_END = 1 << 30 };
+enum { LOG = 1, JSON = 2, WIDE = 4, NTH = 8, DRY_RUN = 16, BACKUP = 32, ANYWAY = 64, GROW = 128, PREFIX = 256, UTF8 = 512, DESCRIPTOR = 1024, ANY_LENGTH = 2048, BESIDE = 4096, ONLY = 8192, NO_BACKUP = 16384,
+       LOGGED = LOG | BESIDE | ONLY | GROW, NO_END = 1 << 30 };
 
 static const struct {
     const char *name, *wants;
@@ -13,16 +14,16 @@ static const struct {
     unsigned options;
     Verb *go;
 } VERBS[] = {
-    {"check", "FILE..", 1, NO_END, LOG | GROW | JSON, check_verb},
-    {"key", "FILE PATH", 2, 2, LOG | GROW | JSON | WIDE, key_verb},
-    {"ls", "FILE [PATH]", 1, 2, LOG | GROW | JSON | WIDE, list_verb},
-    {"keys", "FILE [PATH]", 1, 2, LOG | GROW | JSON | ANY_LENGTH, keys_verb},
-    {"value", "FILE PATH NAME [OUT]", 3, 4, LOG | GROW | JSON | NTH, value_verb},
-    {"export", "FILE [OUT]", 1, 2, LOG | GROW | JSON | ANY_LENGTH, export_verb},
+    {"check", "FILE..", 1, NO_END, LOGGED | JSON, check_verb},
+    {"key", "FILE PATH", 2, 2, LOGGED | JSON | WIDE, key_verb},
+    {"ls", "FILE [PATH]", 1, 2, LOGGED | JSON | WIDE, list_verb},
+    {"keys", "FILE [PATH]", 1, 2, LOGGED | JSON | ANY_LENGTH, keys_verb},
+    {"value", "FILE PATH NAME [OUT]", 3, 4, LOGGED | JSON | NTH, value_verb},
+    {"export", "FILE [OUT]", 1, 2, LOGGED | JSON | ANY_LENGTH, export_verb},
     {"build", "FRAMES OUT", 2, 2, DESCRIPTOR | JSON, build_verb},
-    {"reg", "FILE [PATH]", 1, 2, LOG | GROW | PREFIX | UTF8 | ANY_LENGTH, reg_verb},
-    {"deleted", "FILE", 1, 1, LOG | GROW | JSON, deleted_verb},
-    {"repair", "FILE LOG [LOG2]", 2, 3, GROW | JSON | DRY_RUN | BACKUP | ANYWAY, repair_verb},
+    {"reg", "FILE [PATH]", 1, 2, LOGGED | PREFIX | UTF8 | ANY_LENGTH, reg_verb},
+    {"deleted", "FILE", 1, 1, LOGGED | JSON, deleted_verb},
+    {"repair", "FILE [LOG [LOG2]]", 1, NO_END, ONLY | GROW | JSON | DRY_RUN | BACKUP | NO_BACKUP | ANYWAY, repair_verb},
     {"explain", "N", 1, 1, 0, explain_verb},
 };
 enum { VERB_COUNT = sizeof VERBS / sizeof VERBS[0] };
@@ -35,6 +36,7 @@ static const struct {
     {"--log", "a LOG", LOG}, {"--json", NULL, JSON}, {"-l", NULL, WIDE}, {"--nth", "a number", NTH},
     {"--dry-run", NULL, DRY_RUN}, {"--backup", "a COPY", BACKUP}, {"--anyway", NULL, ANYWAY}, {"--grow", NULL, GROW},
     {"--prefix", "a KEY", PREFIX}, {"--utf8", NULL, UTF8}, {"--descriptor", "a FILE", DESCRIPTOR}, {"--any-length", NULL, ANY_LENGTH},
+    {"--logs", NULL, BESIDE}, {"--only-this-log", NULL, ONLY}, {"--no-backup", NULL, NO_BACKUP},
 };
 enum { OPTION_COUNT = sizeof OPTIONS / sizeof OPTIONS[0] };
 
@@ -66,6 +68,9 @@ static int take(Order *o, unsigned bit, const char *word)
     o->grow |= bit == GROW;
     o->utf8 |= bit == UTF8;
     o->any_length |= bit == ANY_LENGTH;
+    o->beside |= bit == BESIDE;
+    o->only_this_log |= bit == ONLY;
+    o->no_backup |= bit == NO_BACKUP;
     if (bit == BACKUP)
         o->backup = word;
     if (bit == PREFIX)
@@ -100,7 +105,7 @@ int read_order(int count, char **words, Order *o, Verb **verb)
         v++;
     if (v == VERB_COUNT)
         return misused("\"%s\" is none of check, key, ls, keys, value, export, build, reg, deleted, repair and explain", words[0]);
-    *o = (Order){.words = words};
+    *o = (Order){.words = words, .verb = VERBS[v].name};
     for (int i = 1; i < count && status == GOOD; i++) {
         if (options && strcmp(words[i], "--") == 0)
             options = false;

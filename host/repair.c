@@ -161,6 +161,6 @@ int repair_verb(const Order *o)
         return TROUBLE;
     int status = read_open(fd, h.file, &h.bytes);
     if (status == GOOD)
-        status = take_logs(&h, (const char *const *)o->words + 1, o->count - 1, o->grow, read_kept);
+        status = take_logs(&h, (const char *const *)o->words + 1, o->count - 1, o, read_kept);
     return status == GOOD ? run(o->dry ? -1 : fd, o, &h) : status;
 }

@@ -4,6 +4,8 @@ int *__errno_location(void);
 #define errno (*__errno_location())
 #define EINTR 4
 #define ENXIO 6
+#define ENOENT 2
+#define ENOMEM 12
 #define EEXIST 17
 #define EISDIR 21
 #define EWOULDBLOCK 11

@@ -236,6 +236,25 @@ static void write_new_logs(const Made *good, const uint32_t *pages)
     write_file("new-log-bad", bad.at, bad.length);
 }
 
+/* Two logs that follow each other, of two stamps, and a hive whose base block is torn and whose first page has the later stamp already: both as one log do not fit
+ * it, and the later alone would leave out the page of the earlier. */
+static void write_torn(const Made *good)
+{
+    static const uint32_t one[] = {17}, two[] = {0, 3};
+    Log first = new_log(good, 7), second = new_log(good, 8);
+    add_entry(&first, 7, good, one, 1, LAST);
+    second.at[12] ^= 5;
+    reseal(second.at);
+    good->file[4096 + 20] ^= 5;
+    add_entry(&second, 8, good, two, 2, LAST);
+    uint8_t *file = spoilt(good, one, 1);
+    good->file[4096 + 20] ^= 5;
+    file[508] ^= 1;
+    write_file("torn-base", file, made_length(good));
+    write_file("torn-log1", first.at, first.length);
+    write_file("torn-log2", second.at, second.length);
+}
+
 /* The sample as a log leaves it that ends with that number, and the spoilt one with that second number. */
 static void write_numbered(const char *name, const uint8_t *file, size_t length, uint32_t first, uint32_t second)
 {
@@ -564,6 +583,7 @@ int main(int count, char **words)
     write_file("spoilt", spoilt(&good, pages, 8), n);
     write_logs(&good, pages, 8);
     write_new_logs(&good, pages);
+    write_torn(&good);
     write_numbered("sample-8", good.file, n, 8, 8);
     write_numbered("sample-10", good.file, n, 10, 10);
     write_numbered("spoilt-8", spoilt(&good, pages, 8), n, 9, 8);

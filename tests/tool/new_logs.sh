@@ -27,16 +27,16 @@ cp spoilt file
 unsound_first=$(hive repair --dry-run file new-log1 2>/dev/null || true)
 try 'new logs: a gap between them' 3 "$unsound_first" 'new-log1: this log alone fits the hive, and the other is not used' hive repair --dry-run file new-log-gap new-log1
 same 'new logs: a gap, nothing written' file spoilt
-try 'new logs: one is empty' 0 "$done_line" 'new-log: this log alone' hive repair file empty new-log
+try 'new logs: one is empty' 0 "$done_line" 'empty: it is empty, and passed over' hive repair file empty new-log
 same 'new logs: one is empty, the finished file' file sample-10
 cp spoilt file
 try 'new logs: one of each format' 0 "$done_line" 'this log alone fits the hive' hive repair file log new-log-gap
 same 'new logs: one of each format, the finished file' file sample
 cp spoilt-8 file
 try 'new logs: none fits' 1 'refused 25 at 0' 'new-log-gap: the time stamps or the numbers' hive repair file new-log1 new-log-gap
-try 'new logs: both are none' 1 'refused 21 at 0' 'empty: the start of the log' hive repair file empty minimal
+try 'new logs: both are none' 1 'refused 21 at 0' 'minimal: the start of the log' hive repair file empty minimal
 try 'new logs: clean' 0 "$(printf 'clean\n%s' "$(hive check sample-8)")" '' hive repair sample-8 new-log1 new-log2
-try 'new logs: three' 2 '' 'repair wants FILE LOG [LOG2], and "log" is a word too many' hive repair file new-log1 new-log2 log
+try 'new logs: three' 2 '' 'there are two logs at most, and "log" is the third that has bytes' hive repair file new-log1 new-log2 log
 try 'new logs: no pipe' 2 '' 'not standard input' hive repair file new-log1 -
 
 # A tree that is not sound.
@@ -54,8 +54,9 @@ try 'grow: check, lengthened in memory' 0 "$(hive check sample)" '' hive check -
 grown_line=$(printf 'repaired 15 lengthened 69632\n%s' "$sound")
 try 'grow: dry run' 0 "$(printf 'would repair 15 lengthened 69632\n%s' "$sound")" '' hive repair --dry-run --grow file new-log-grown
 same 'grow: nothing is written for that' file spoilt-short
-try 'grow: a log of another state' 1 'refused 25 at 0' 'new-log-gap: the time stamps or the numbers' hive repair --grow file new-log-gap
-try 'grow: another state, not asked for' 1 'refused 24 at 0' 'it has 65536 bytes and needs 69632' hive repair file new-log-gap
+for grow in '' --grow; do
+    try "grow: a log of another state $grow" 1 'refused 24 at 0' 'file: the hive is shorter than the log says, and would not fit it if it were longer: this is another log' hive repair $grow file new-log-gap
+done
 same 'grow: nothing is written for a refusal' file spoilt-short
 try 'grow: without a log' 2 '' '--grow goes with --log' hive check --grow sample
 rm -f trace
