@@ -146,14 +146,16 @@ void put_key(FILE *to, const Hive *h, uint32_t key);
 /* next.c: what to type next, quoted for the shell. left_out: a log that is not named holds what the named one alone would lose; answers REFUSED, after its words.
  * order_is: the command that was given, which the lines repeat. */
 typedef struct {
-    bool repair, grow, only, beside, no_backup;
+    bool repair, grow, only, beside, no_backup, again;
     const char *logs[2];
     int count;
 } Line;
 void order_is(const Order *o);
 const char *line_to_type(const char *file, const Line *l);
+const char *line_again(const char *file, Line *l);
 void say_next(const char *what, const char *line);
 int left_out(const Hive *h, const char *named, const char *other, const Choice *c);
+void after_repair(const Hive *h, const char *kept);
 
 /* hints.c */
 void put_hints(FILE *to, const Hive *h, const Path *path, HiveAnswer a);
@@ -209,6 +211,11 @@ int write_new(const char *path, Bytes bytes);
 typedef int Pieces(void *of, Bytes *next);
 int pieces_new(const char *path, Pieces *next, void *of);
 int copy_new(const char *path, int from, const char *from_path);
+bool is_there(const char *path);
+int settle_beside(const char *path);
+
+/* copy.c: the copy of FILE before its repair, as the order asks for it: where it is, or NULL for none. map: the pages of the log. */
+int keep_copy(int fd, const Order *o, const Hive *h, Bytes map, const char **kept);
 
 /* repair.c */
 int recover(const Hive *h);

@@ -126,7 +126,31 @@ const char *line_to_type(const char *file, const Line *l)
     add_if(l->beside, "--logs");
     for (int i = 0; !l->repair && i < l->count; i++)
         add_with("--log", l->logs[i]);
-    add_words(file, same && !l->repair && strcmp(given->verb, "check") != 0, l);
+    add_words(file, same && (!l->repair || l->again) && strcmp(given->verb, "check") != 0, l);
+    return whole ? room : NULL;
+}
+
+/* The command as it was given, with the same logs, but for what the line says. */
+const char *line_again(const char *file, Line *l)
+{
+    if (given == NULL)
+        return NULL;
+    l->again = true;
+    for (int i = 0; i < given->log_count; i++)
+        l->logs[l->count++] = given->logs[i];
+    l->only = given->only_this_log;
+    l->beside = given->beside;
+    return line_to_type(file, l);
+}
+
+/* The copy in the place of the file. */
+static const char *line_back(const char *copy, const char *file)
+{
+    used = 0;
+    whole = true;
+    add("cp --");
+    add_word(copy);
+    add_word(file);
     return whole ? room : NULL;
 }
 
@@ -194,4 +218,24 @@ void say_next(const char *what, const char *line)
     work_ends();
     fflush(stdout);
     fprintf(stderr, "hive: %s: %s\n", what, line);
+}
+
+/* Which copy is kept, and what comes next. */
+void after_repair(const Hive *h, const char *kept)
+{
+    if (kept == NULL)
+        note(h->file, "no copy was kept of what it was");
+    else {
+        work_ends();
+        fputs("hive: ", stderr);
+        put_argument(stderr, h->file);
+        fputs(": what it was is kept in ", stderr);
+        put_argument(stderr, kept);
+        fputs("\n", stderr);
+    }
+    const char *line = kept == NULL ? NULL : line_back(kept, h->file);
+    if (line == NULL)
+        note(h->file, "next: put it where it belongs, and keep its logs until Windows has started with it");
+    else
+        say_next("next: put it where it belongs, and keep its logs and the copy until Windows has started with it; to undo the repair, type", line);
 }

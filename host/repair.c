@@ -87,12 +87,8 @@ static int cut_off(const Hive *h)
 }
 
 /* The closing sector goes out only when all pages are on the disk: before that "the file looks clean and is half old". */
-static int write_out(int fd, const Hive *h)
+static int write_out(int fd, const Hive *h, Bytes map)
 {
-    Bytes map;
-    int status = mark_pages(h, &map);
-    if (status != GOOD)
-        return status;
     if (h->grown && lengthen(fd, h->file, h->bytes.length) != GOOD)
         return cut_off(h);
     if (store_pages(fd, h, map) != GOOD)
@@ -117,12 +113,28 @@ static int clean(int fd, const Hive *h)
     return report(h, r);
 }
 
-static int back_up(int fd, const Order *o, const Hive *h)
+/* The copy first, and then the repair. kept: where the copy is. */
+static int keep_and_write(int fd, const Order *o, const Hive *h, const char **kept)
 {
-    int status = o->backup == NULL ? GOOD : copy_new(o->backup, fd, h->file);
-    if (status != GOOD)
-        note(h->file, "nothing was changed. If the backup is there from an earlier run, give the same command without --backup");
+    Bytes map;
+    int status = mark_pages(h, &map);
+    if (status == GOOD)
+        status = keep_copy(fd, o, h, map, kept);
+    if (status == GOOD)
+        status = write_out(fd, h, map);
     return status;
+}
+
+/* What was done, as an answer; which copy is kept, and what comes next. */
+static void tell(const Hive *h, bool written, const char *kept)
+{
+    say(h->file, written ? "repaired" : "would repair");
+    say_bare("pages", h->started.pages);
+    if (h->grown)
+        say_number("lengthened", h->bytes.length);
+    if (kept != NULL && say_json())
+        say_word("copy", kept);
+    say_end();
 }
 
 /* fd: the file to repair, or -1 for a dry run. */
@@ -131,20 +143,19 @@ static int run(int fd, const Order *o, const Hive *h)
     if (h->started.state == HIVE_CLEAN)
         return clean(fd, h);
     HiveReport r;
+    const char *kept = NULL;
     int status = rehearse(h, &r);
     if (status != GOOD)
         return status;
     bool sound = r.answer.number == 0, write = fd >= 0 && (sound || o->anyway);
-    if (write && ((status = back_up(fd, o, h)) != GOOD || (status = write_out(fd, h)) != GOOD))
+    if (write && (status = keep_and_write(fd, o, h, &kept)) != GOOD)
         return status;
-    say(h->file, write ? "repaired" : "would repair");
-    say_bare("pages", h->started.pages);
-    if (h->grown)
-        say_number("lengthened", h->bytes.length);
-    say_end();
+    tell(h, write, kept);
     report(h, r);
     if (!sound)
         note(h->file, write ? "it was repaired all the same (--anyway)" : "nothing was written: the repaired hive would be refused so; --anyway writes it all the same");
+    if (write && !say_json())
+        after_repair(h, kept);
     return sound ? GOOD : UNSOUND;
 }
 
@@ -154,8 +165,8 @@ int repair_verb(const Order *o)
     for (int i = 0; i < o->count; i++)
         if (is_standard(o->words[i]))
             return misused("repair wants a FILE and a LOG that stay, not standard input");
-    if (o->backup != NULL && is_standard(o->backup))
-        return misused("--backup wants the name of a new file, and - is none");
+    if (o->backup != NULL && (is_standard(o->backup) || o->no_backup))
+        return misused(o->no_backup ? "--backup names a copy, and --no-backup makes none: give one of the two" : "--backup wants the name of a new file, and - is none");
     int fd = o->dry ? open_kept(h.file, O_RDONLY) : open_locked(h.file);
     if (fd < 0)
         return TROUBLE;

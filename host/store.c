@@ -89,6 +89,15 @@ static int settle_folder(const char *path, char *folder)
     return status;
 }
 
+/* The same of a file that is there already. */
+int settle_beside(const char *path)
+{
+    char *folder = malloc(strlen(path) + 2);
+    int status = folder == NULL ? trouble(path, "no memory") : settle_folder(path, folder);
+    free(folder);
+    return status;
+}
+
 /* A new file has another name beside its own until it is whole and on the disk. A run that is cut leaves only that. */
 typedef struct {
     const char *path;
@@ -96,7 +105,7 @@ typedef struct {
     int fd;
 } New;
 
-static bool is_there(const char *path)
+bool is_there(const char *path)
 {
     int fd = open(path, O_PATH | O_NOFOLLOW | O_CLOEXEC);
     if (fd >= 0)
@@ -178,20 +187,36 @@ int pieces_new(const char *path, Pieces *next, void *of)
     return new_end(&n, status);
 }
 
-/* All that an open file holds. */
+/* The next piece of an open file that is no hole, from *at on; its length is 0 at the end, which is then *at. */
+static int next_piece(int from, const char *path, uint8_t *buffer, size_t room, off_t *at, ssize_t *length)
+{
+    off_t data = lseek(from, *at, SEEK_DATA);
+    if (data > *at)
+        *at = data;
+    if (data < 0 && errno == ENXIO)
+        *at = lseek(from, 0, SEEK_END);
+    do
+        *length = pread(from, buffer, room, *at);
+    while (*length < 0 && errno == EINTR);
+    return *length < 0 ? trouble(path, "%s", strerror(errno)) : GOOD;
+}
+
+/* All that an open file holds. Holes stay holes. */
 int copy_new(const char *path, int from, const char *from_path)
 {
     static uint8_t buffer[1 << 20];
     New to;
+    off_t at = 0, end = 0;
+    ssize_t n = 1;
     int status = new_start(path, &to);
-    for (off_t at = 0; status == GOOD;) {
-        ssize_t n = pread(from, buffer, sizeof buffer, at);
-        if (n < 0 && errno == EINTR)
-            continue;
-        if (n == 0)
+    while (status == GOOD && n > 0) {
+        status = next_piece(from, from_path, buffer, sizeof buffer, &at, &n);
+        if (status != GOOD || n == 0)
             break;
-        status = n < 0 ? trouble(from_path, "%s", strerror(errno)) : store(to.fd, to.part, buffer, (size_t)n, (uint64_t)at);
-        at += n;
+        status = store(to.fd, to.part, buffer, (size_t)n, (uint64_t)at);
+        end = at += n;
     }
+    if (status == GOOD && end < at)
+        status = lengthen(to.fd, to.part, (uint64_t)at);
     return new_end(&to, status);
 }

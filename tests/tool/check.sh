@@ -55,7 +55,7 @@ try 'json: no number' 2 "$(wrong '--nth wants a number from 1 on, not \"0\"')" '
 try 'json: a path that is none' 2 "$(wrong "this is not UTF-8: $replaced" | sed 's/}$/,"replaced":true}/')" 'this is not UTF-8' hive key --json sample "$(printf '\377')"
 try 'json: standard input twice' 2 "$(wrong 'FILE and LOG cannot both be standard input')" 'cannot both' hive check --json --log - -
 try 'json: not behind --' 2 '' 'key wants FILE PATH, and "x" is a word too many' hive key -- sample --json x
-try "json: not an option's word" 0 "$(hive check sample)" '' eval 'cp spoilt file && hive repair --backup --json file log | tail -n 1'
+try "json: not an option's word" 0 "$(hive check sample)" 'is kept in --json' eval 'cp spoilt file && hive repair --backup --json file log | tail -n 1'
 rm -f ./--json
 try 'json: a name that is no UTF-8' 0 '{"file":"odd\u001b[2J'"$replaced"'","answer":"accepted","bins":1,"keys":1,"values":0,"used":112,"free":3952,"replaced":true}' '' hive check --json odd*
 rm odd*

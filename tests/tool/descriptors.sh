@@ -82,13 +82,13 @@ else
     closed 'reg, not all of it' 4 '*1*' spoilt reg --utf8 reg
     closed 'reg, refused' 1 '*[12]*' spoilt reg file
     closed 'deleted' 0 '*1*' spoilt deleted left
-    closed 'repair' 0 '*1*' sample repair file log
-    closed 'repair, json' 0 '*1*' sample repair --json file log
+    closed 'repair' 0 '*1*' sample repair --no-backup file log
+    closed 'repair, json' 0 '*1*' sample repair --no-backup --json file log
     closed 'repair, with a backup' 0 '*1*' sample repair --backup made file log
     closed 'repair, dry run' 0 '*1*' spoilt repair --dry-run file log
-    closed 'repair, refused' 1 '*1*' spoilt repair file sample
-    closed 'repair, not sound' 3 '*1*' spoilt repair file bad-log
-    closed 'repair, no log' 2 $never spoilt repair file nothing
+    closed 'repair, refused' 1 '*1*' spoilt repair --no-backup file sample
+    closed 'repair, not sound' 3 '*1*' spoilt repair --no-backup file bad-log
+    closed 'repair, no log' 2 $never spoilt repair --no-backup file nothing
     closed 'explain' 0 '*1*' spoilt explain 17
     closed '--help' 0 '*1*' spoilt --help
     closed '--version' 0 '*1*' spoilt --version

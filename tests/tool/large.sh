@@ -12,10 +12,12 @@ try 'large: before its repair' 1 'refused 7 at 0' 'give its log with --log' with
 try 'large: as its log would repair it' 0 "$longest" '' within check --log longest-log longest-spoilt
 try 'large: as a log of Windows 8.1 would repair it' 0 "$longest" '' within check --log longest-new-log longest-spoilt
 try 'large: dry run with it' 0 "$(printf 'would repair 2\n%s' "$longest")" '' within repair --dry-run longest-spoilt longest-new-log
-try 'large: repair' 0 "$(printf 'repaired 2\n%s' "$longest")" '' within repair longest-spoilt longest-log
+try 'large: repair' 0 "$(printf 'repaired 2\n%s' "$longest")" 'next: put it where it belongs' within repair longest-spoilt longest-log
 ends() { dd if="$1" bs=4096 count=2 && dd if="$1" bs=4096 skip=524287; } 2>/dev/null
 ends longest >ends
 ends longest-spoilt >ends.repaired
 same 'large: the repaired file, at both ends' ends.repaired ends
 right 'large: and between them it is a hole as before' [ "$(du -k longest-spoilt | cut -f 1)" -lt 1024 ]
 rm longest*
+right 'large: and so it is in the copy' [ "$(du -k longest-spoilt.before-repair | cut -f 1)" -lt 1024 ]
+rm longest-spoilt.before-repair

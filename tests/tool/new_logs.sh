@@ -4,46 +4,46 @@ try 'new log: explain 22' 0 "22: the log is too short for its bitmap or its page
 cp spoilt file
 try 'new log: dry run' 0 "$(printf 'would repair 8\n%s' "$sound")" '' hive repair --dry-run file new-log
 same 'new log: a dry run changes nothing' file spoilt
-try 'new log: repair' 0 "$done_line" '' hive repair file new-log
+try 'new log: repair' 0 "$done_line" 'next: put it where it belongs' hive repair --no-backup file new-log
 same 'new log: the finished file' file sample-10
-try 'new log: again' 0 "$clean_line" '' hive repair file new-log
+try 'new log: again' 0 "$clean_line" '' hive repair --no-backup file new-log
 same 'new log: clean, no byte changed' file sample-10
 cp spoilt file
-try 'new log: json' 0 "$(printf '%s\n' '{"file":"file","answer":"repaired","pages":8}' "$(hive check --json sample | sed s/sample/file/)")" '' hive repair --json file new-log
+try 'new log: json' 0 "$(printf '%s\n' '{"file":"file","answer":"repaired","pages":8}' "$(hive check --json sample | sed s/sample/file/)")" '' hive repair --no-backup --json file new-log
 
 # Two logs, in either order.
 for logs in 'new-log1 new-log2' 'new-log2 new-log1'; do
     cp spoilt file
-    try "new logs: $logs" 0 "$done_line" '' hive repair file $logs
+    try "new logs: $logs" 0 "$done_line" 'next: put it where it belongs' hive repair --no-backup file $logs
     same "new logs: $logs, the finished file" file sample-10
 done
 cp spoilt file
 try 'new logs: the second alone' 1 'refused 25 at 0' 'new-log2: the time stamps or the numbers of hive and log differ' hive repair file new-log2
 same 'new logs: the second alone changes nothing' file spoilt
 cp spoilt-8 file
-try 'new logs: the hive holds the first already' 0 "$done_line" 'new-log2: this log alone fits the hive, and the other is not used' hive repair file new-log1 new-log2
+try 'new logs: the hive holds the first already' 0 "$done_line" 'new-log2: this log alone fits the hive, and the other is not used' hive repair --no-backup file new-log1 new-log2
 same 'new logs: the hive holds the first already, the finished file' file sample-10
 cp spoilt file
 unsound_first=$(hive repair --dry-run file new-log1 2>/dev/null || true)
 try 'new logs: a gap between them' 3 "$unsound_first" 'new-log1: this log alone fits the hive, and the other is not used' hive repair --dry-run file new-log-gap new-log1
 same 'new logs: a gap, nothing written' file spoilt
-try 'new logs: one is empty' 0 "$done_line" 'empty: it is empty, and passed over' hive repair file empty new-log
+try 'new logs: one is empty' 0 "$done_line" 'empty: it is empty, and passed over' hive repair --no-backup file empty new-log
 same 'new logs: one is empty, the finished file' file sample-10
 cp spoilt file
-try 'new logs: one of each format' 0 "$done_line" 'this log alone fits the hive' hive repair file log new-log-gap
+try 'new logs: one of each format' 0 "$done_line" 'this log alone fits the hive' hive repair --no-backup file log new-log-gap
 same 'new logs: one of each format, the finished file' file sample
 cp spoilt-8 file
 try 'new logs: none fits' 1 'refused 25 at 0' 'new-log-gap: the time stamps or the numbers' hive repair file new-log1 new-log-gap
 try 'new logs: both are none' 1 'refused 21 at 0' 'minimal: the start of the log' hive repair file empty minimal
-try 'new logs: clean' 0 "$(printf 'clean\n%s' "$(hive check sample-8)")" '' hive repair sample-8 new-log1 new-log2
+try 'new logs: clean' 0 "$(printf 'clean\n%s' "$(hive check sample-8)")" '' hive repair --no-backup sample-8 new-log1 new-log2
 try 'new logs: three' 2 '' 'there are two logs at most, and "log" is the third that has bytes' hive repair file new-log1 new-log2 log
 try 'new logs: no pipe' 2 '' 'not standard input' hive repair file new-log1 -
 
 # A tree that is not sound.
 cp spoilt file
-try 'new log: not sound' 3 "$unsound" 'nothing was written: the repaired hive would be refused so' hive repair file new-log-bad
+try 'new log: not sound' 3 "$unsound" 'nothing was written: the repaired hive would be refused so' hive repair --no-backup file new-log-bad
 same 'new log: not sound, nothing is written' file spoilt
-try 'new log: not sound, anyway' 3 "$(printf 'repaired 8\nrefused 9 at 0')" 'it was repaired all the same (--anyway)' hive repair --anyway file new-log-bad
+try 'new log: not sound, anyway' 3 "$(printf 'repaired 8\nrefused 9 at 0')" 'it was repaired all the same (--anyway)' hive repair --no-backup --anyway file new-log-bad
 
 # A hive that is shorter than its log wants it.
 cp spoilt-short file
@@ -60,7 +60,7 @@ done
 same 'grow: nothing is written for a refusal' file spoilt-short
 try 'grow: without a log' 2 '' '--grow goes with --log' hive check --grow sample
 rm -f trace
-HIVE_TRACE=trace hive_cut repair --grow file new-log-grown >stdout
+HIVE_TRACE=trace hive_cut repair --no-backup --grow file new-log-grown >stdout
 right 'grow: what is said' [ "$(cat stdout)" = "$grown_line" ]
 same 'grow: the finished file' file sample-8
 {
@@ -93,23 +93,23 @@ cut_everywhere() {
     done
     right "$what: cut everywhere" [ "$k" -eq "$steps" ]
 }
-cut_everywhere 'new log' spoilt sample-10 12 repair file new-log
-cut_everywhere 'new logs' spoilt sample-10 12 repair file new-log1 new-log2
-cut_everywhere 'grow' spoilt-short sample-8 21 repair --grow file new-log-grown
+cut_everywhere 'new log' spoilt sample-10 12 repair --no-backup file new-log
+cut_everywhere 'new logs' spoilt sample-10 12 repair --no-backup file new-log1 new-log2
+cut_everywhere 'grow' spoilt-short sample-8 21 repair --no-backup --grow file new-log-grown
 
 # Each page in turn is lost before the first sync, and the repair is done again.
 for k in 1 2 3 4 5 6 7 8; do
     cp spoilt file
-    HIVE_LOSE=$k hive_cut repair file new-log >/dev/null || true
+    HIVE_LOSE=$k hive_cut repair --no-backup file new-log >/dev/null || true
     try "new log: page $k lost, not accepted" 1 'refused 7 at 0' 'differ' hive check file
-    hive repair file new-log >/dev/null || true
+    hive repair --no-backup file new-log >/dev/null || true
     same "new log: page $k lost, then done again" file sample-10
 done
 
 # Lengthening, its sync, the first page, the closing sector fail.
 for fail in 1 2 3 19; do
     cp spoilt-short file
-    try "grow: write or sync $fail fails" 2 '' 'it may be half repaired now: keep the log, and give the same command again' failing repair --grow file new-log-grown
-    hive repair --grow file new-log-grown >/dev/null || true
+    try "grow: write or sync $fail fails" 2 '' 'it may be half repaired now: keep the log, and give the same command again' failing repair --no-backup --grow file new-log-grown
+    hive repair --no-backup --grow file new-log-grown >/dev/null || true
     same "grow: write or sync $fail fails, then done again" file sample-8
 done

@@ -115,7 +115,7 @@ try 'tool: check' 0 "$(hive check sample)" '' bare_tool check ../sample
 try 'tool: value' 0 "$(hive value sample "$print" EventMessageFile)" '' bare_tool value ../sample "$print" EventMessageFile
 try 'tool: --version' 0 "hive $version" '' bare_tool --version
 cp spoilt repaired
-try 'tool: repair' 0 "$(printf 'repaired 8\n%s' "$(hive check sample)")" '' bare_tool repair ../repaired ../log
+try 'tool: repair' 0 "$(printf 'repaired 8\n%s' "$(hive check sample)")" 'next: put it where it belongs' bare_tool repair --no-backup ../repaired ../log
 same 'tool: the finished file' repaired sample
 right 'tool: it left nothing' [ -z "$(ls -A nothing)" ]
 
@@ -211,6 +211,6 @@ else
     try 'coming from: damaged' 1 "$(printf '%s\n' 'TORN: refused 7 at 0' 'BAD: refused 10 at 32' 'CUT: refused 6 at 0')" 'differ' hive check TORN BAD CUT
     try 'coming from: deleted records' 0 "$(printf '%s\n' 'key at 208 length 4 gone' 'value at 312 length 6 secret')" '' hive deleted DELETED
     try 'coming from: deleted records are not judged' 0 'accepted bins 1 keys 2 values 0 used 296 free 3768' '' hive check DELETED
-    try 'coming from: with two logs' 0 "$(printf 'repaired 3\n%s' 'accepted bins 1 keys 7 values 5 used 1152 free 2912')" '' hive repair NEW NEW.LOG1 NEW.LOG2
-    try 'coming from: repair' 0 "$(printf 'repaired 3\n%s' 'accepted bins 1 keys 7 values 5 used 1152 free 2912')" '' hive repair TORN TORN.LOG
+    try 'coming from: with two logs' 0 "$(printf 'repaired 3\n%s' 'accepted bins 1 keys 7 values 5 used 1152 free 2912')" 'next: put it where it belongs' hive repair --no-backup NEW NEW.LOG1 NEW.LOG2
+    try 'coming from: repair' 0 "$(printf 'repaired 3\n%s' 'accepted bins 1 keys 7 values 5 used 1152 free 2912')" 'next: put it where it belongs' hive repair --no-backup TORN TORN.LOG
 fi

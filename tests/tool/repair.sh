@@ -3,16 +3,16 @@
 cp spoilt file
 try 'repair: dry run' 0 "$(printf 'would repair 8\n%s' "$sound")" '' hive repair --dry-run file log
 same 'repair: a dry run changes nothing' file spoilt
-try 'repair' 0 "$done_line" '' hive repair file log
+try 'repair' 0 "$done_line" 'next: put it where it belongs' hive repair --no-backup file log
 same 'repair: the finished file' file sample
-try 'repair: again' 0 "$clean_line" '' hive repair file log
+try 'repair: again' 0 "$clean_line" '' hive repair --no-backup file log
 try 'repair: clean, whatever the log' 0 "$clean_line" '' hive repair --backup none file minimal
-try 'repair: clean, an empty log' 0 "$clean_line" '' hive repair file empty
+try 'repair: clean, an empty log' 0 "$clean_line" '' hive repair --no-backup file empty
 try 'repair: clean, dry run' 0 "$clean_line" '' hive repair --dry-run file empty
 right 'repair: clean, no backup' [ ! -e none ]
 same 'repair: clean, no byte changed' file sample
 cp spoilt file
-try 'repair: json' 0 "$(printf '%s\n' '{"file":"file","answer":"repaired","pages":8}' "$(hive check --json sample | sed s/sample/file/)")" '' hive repair --json file log
+try 'repair: json' 0 "$(printf '%s\n' '{"file":"file","answer":"repaired","pages":8}' "$(hive check --json sample | sed s/sample/file/)")" '' hive repair --no-backup --json file log
 cp spoilt file
 try 'repair: a log cut short' 1 'refused 22 at 0' 'short-log: the log is too short' hive repair file short-log
 try 'repair: a hive for a log' 1 'refused 21 at 0' 'sample: the start of the log' hive repair file sample
@@ -25,17 +25,19 @@ try 'repair: not sound, dry run' 3 "$unsound" 'the header of a bin is wrong' hiv
 try 'repair: not sound' 3 "$unsound" 'nothing was written: the repaired hive would be refused so' hive repair --backup none file bad-log
 right 'repair: not sound, no backup' [ ! -e none ]
 same 'repair: not sound, nothing is written' file spoilt
-try 'repair: not sound, anyway' 3 "$(printf 'repaired 8\nrefused 9 at 0')" 'it was repaired all the same (--anyway)' hive repair --anyway file bad-log
-try 'repair: not sound, again' 1 "$(printf 'clean\nrefused 9 at 0')" 'the header of a bin is wrong' hive repair file bad-log
+try 'repair: not sound, anyway' 3 "$(printf 'repaired 8\nrefused 9 at 0')" 'it was repaired all the same (--anyway)' hive repair --no-backup --anyway file bad-log
+try 'repair: not sound, again' 1 "$(printf 'clean\nrefused 9 at 0')" 'the header of a bin is wrong' hive repair --no-backup file bad-log
 
 cp spoilt file
-try 'repair: with a backup' 0 "$done_line" '' hive repair --backup kept file log
+try 'repair: with a backup' 0 "$done_line" 'next: put it where it belongs' hive repair --backup kept file log
 same 'repair: the backup' kept spoilt
 right 'repair: nothing beside the backup' [ "$(echo kept*)" = kept ]
 cp spoilt file
-try 'repair: never over a backup' 2 '' 'a file of this name is there already and is not overwritten' hive repair --backup kept file log
-right 'repair: and what to do' grep -qF 'If the backup is there from an earlier run, give the same command without --backup' stderr
+cp log other
+try 'repair: never over a file that is none' 2 '' 'a file of this name is there already, is no copy of the hive before this repair, and is not overwritten; give another name' hive repair --backup other file log
+right 'repair: and what to do' grep -qF 'hive: to repair it without a copy, type: hive repair --no-backup file log' stderr
 same 'repair: no backup, no repair' file spoilt
+same 'repair: the other file is as it was' other log
 try 'repair: no room for a backup' 2 '' 'nothing was changed' hive repair --backup none/kept file log
 mkdir folder
 try 'repair: a directory' 2 '' 'is a directory' hive repair folder log
@@ -89,7 +91,7 @@ same 'repair: the order of writes and syncs' order.traced order
 
 # What looks clean is stored and synced again, for the run before may have been cut.
 rm -f trace
-HIVE_TRACE=trace hive_cut repair file log >/dev/null
+HIVE_TRACE=trace hive_cut repair --no-backup file log >/dev/null
 right 'repair: clean is synced before it is told' [ "$(stores | tr '\n' ' ')" = 'pwrite 0 512 fsync ' ]
 same 'repair: clean, each byte as it was' file sample
 

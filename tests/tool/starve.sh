@@ -7,7 +7,7 @@ hive_starved_from() { HIVE_FROM=1 hive_starved "$@"; }
 # as_ever: what the last run did is what it does with memory
 # unharmed: what may be there of the files that it writes
 unharmed() {
-    [ "$(echo new.part*)" = 'new.part*' ] && { [ ! -e new ] || cmp -s new usual-new; } && { [ ! -e torn.kept ] || cmp -s torn torn.kept || cmp -s torn torn.usual; }
+    [ "$(echo new.part*)" = 'new.part*' ] && { [ ! -e torn.before-repair ] || cmp -s torn.before-repair torn.kept; } && [ ! -e torn.before-repair.part1 ] && { [ ! -e new ] || cmp -s new usual-new; } && { [ ! -e torn.kept ] || cmp -s torn torn.kept || cmp -s torn torn.usual; }
 }
 as_ever() { [ "$status" = "$usual" ] && cmp -s stdout stdout.usual && cmp -s stderr stderr.usual && { [ ! -e usual-new ] || cmp -s new usual-new; }; }
 
@@ -15,7 +15,7 @@ as_ever() { [ "$status" = "$usual" ] && cmp -s stdout stdout.usual && cmp -s std
 one() {
     how=$1 status=0
     shift
-    rm -f new new.part* starved
+    rm -f new new.part* starved torn.before-repair*
     [ ! -e torn.kept ] || cp torn.kept torn
     $how "$@" >stdout 2>stderr || status=$?
     [ -e starved ] || return 0
@@ -28,7 +28,7 @@ one() {
 # starve WORD..: a command, with each allocation that it makes
 starve() {
     wrong='' runs=0 k=0 usual=0
-    rm -f new usual-new
+    rm -f new usual-new torn.before-repair*
     [ ! -e torn.kept ] || cp torn.kept torn
     hive_starved "$@" >stdout.usual 2>stderr.usual || usual=$?
     [ ! -e new ] || mv new usual-new
@@ -56,7 +56,16 @@ done
 cp spoilt torn.kept
 for json in '' --json; do
     starve repair $json --backup new torn log
-    starve repair $json torn new-log1 new-log2
-    starve repair $json torn short-log
+    starve repair $json torn log
+    cp new-log1 torn.LOG1
+    starve repair $json --no-backup torn new-log1
+    cp new-log2 torn.LOG2
+    starve repair $json torn
+    starve repair $json torn torn.LOG1
+    starve check $json --logs torn.kept
+    starve ls $json --log new-log1 torn
+    rm torn.LOG1 torn.LOG2
+    starve repair --no-backup $json torn new-log1 new-log2
+    starve repair --no-backup $json torn short-log
 done
 rm -f torn torn.* new usual-new starved
