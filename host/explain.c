@@ -11,12 +11,12 @@ typedef struct {
 
 static const Reason REASONS[] = {
     [HIVE_FAULT_HIVE_SHORT] = {false, false, "the hive has fewer than 4096 bytes", "It is cut off, or no hive: every hive starts with a base block of 4096 bytes."},
-    [HIVE_FAULT_NO_REGF] = {false, false, "the hive does not start with \"regf\"", "It is no registry hive, or its first sector (bytes 0 to 511) is destroyed."},
-    [HIVE_FAULT_CHECKSUM] = {false, false, "the checksum of the base block is wrong", "The word at byte 508 is not the XOR of the 127 words before it, with 0 stored as 1 and 0xFFFFFFFF as 0xFFFFFFFE: the first sector was changed or half written. A log may repair it."},
+    [HIVE_FAULT_NO_REGF] = {false, false, "the hive does not start with \"regf\"", "It is no registry hive, or its first sector (bytes 0 to 511) is destroyed. In the second case a log may repair it: hive repair FILE, with its logs beside it."},
+    [HIVE_FAULT_CHECKSUM] = {false, false, "the checksum of the base block is wrong", "The word at byte 508 is not the XOR of the 127 words before it, with 0 stored as 1 and 0xFFFFFFFF as 0xFFFFFFFE: the first sector was changed or half written. A log may repair it: hive repair FILE, with its logs beside it."},
     [HIVE_FAULT_VERSION] = {false, false, "version, file type, format or clustering factor is not one that is read", "Wanted at bytes 20 to 47: major 1, minor 3 to 5, type 0, format 1, clustering factor 1. A log file given in place of the hive has type 1, 2 or 6."},
     [HIVE_FAULT_BINS_SIZE] = {false, false, "the size of the bins data is not possible", "The word at byte 40 is 0, no multiple of 4096, or over 2147479552."},
     [HIVE_FAULT_BINS_CUT] = {false, false, "the file ends before its bins do", "It was cut off: 4096 bytes and the size at byte 40 should be there. Copy it again."},
-    [HIVE_FAULT_SEQUENCES] = {false, false, "the two sequence numbers differ: give its log with --log, or repair it", "The words at bytes 4 and 8 differ: the last write was not finished, or the hive was taken from a running machine. --log LOG reads it together with its log and writes nothing; hive repair writes."},
+    [HIVE_FAULT_SEQUENCES] = {false, false, "the two sequence numbers differ: give its log with --log, or repair it", "The words at bytes 4 and 8 differ: the last write was not finished, or the hive was taken from a running machine. Its logs are FILE.LOG1 and FILE.LOG2, or FILE.LOG, in the folder that it was taken from: copy them beside it. Then hive check --logs FILE, and --logs with the others that read, reads it as they would repair it and writes nothing; hive repair FILE repairs it and keeps a copy. A log elsewhere is given by its name, behind --log or behind FILE."},
     [HIVE_FAULT_MAP_SMALL] = {false, false, "the work map is too small", "A program lent less than bins size / 64 bytes; this tool always lends enough."},
     [HIVE_FAULT_BIN_HEADER] = {true, false, "the header of a bin is wrong", "Wanted: \"hbin\", the bin's own offset, and a size that is a multiple of 4096 and ends inside the bins data."},
     [HIVE_FAULT_CELL_SIZE] = {true, false, "the size of a cell is not possible", "A cell's size is a nonzero multiple of 8 and stays inside its bin."},
@@ -30,11 +30,11 @@ static const Reason REASONS[] = {
     [HIVE_FAULT_NO_VALUE] = {false, false, "the key has no such value", "The unnamed value is called @ here."},
     [HIVE_FAULT_SEGMENTED] = {true, false, "the data lie in segments and have no view", "A program asked to see them in one piece; a copy joins them."},
     [HIVE_FAULT_OUTPUT_SHORT] = {false, false, "the output is too short for the data", "A program lent less than the data's length; this tool always lends enough."},
-    [HIVE_FAULT_LOG_BASE] = {false, true, "the start of the log is not sound", "It has fewer than 512 bytes, its base block is damaged or of another type than 1, 2 or 6, or its sequence numbers differ: the log itself was not finished."},
-    [HIVE_FAULT_LOG_SHORT] = {false, true, "the log is too short for its bitmap or its pages, or none of its entries counts", "An old-format log was cut off: copy it again. Of a log of Windows 8.1 or later the first entry is torn, has a wrong hash or another number than the log, or its pages cannot lie where it says."},
+    [HIVE_FAULT_LOG_BASE] = {false, true, "the start of the log is not sound", "It has fewer than 512 bytes, its base block is damaged or of another type than 1, 2 or 6, or its sequence numbers differ: the log itself was not finished. Or FILE has no log: it is looked for as FILE.LOG1, FILE.LOG2 and FILE.LOG. FILE stands before LOG: hive repair FILE LOG."},
+    [HIVE_FAULT_LOG_SHORT] = {false, true, "the log is too short for its bitmap or its pages, or none of its entries counts", "An old-format log was cut off: copy it again. Of a log of Windows 8.1 or later the first entry is torn, has a wrong hash or another number than the log, or its pages cannot lie where it says. If there is another log beside the hive, hive repair FILE asks both; else take the hive and its logs anew, all at one moment."},
     [HIVE_FAULT_NO_DIRT] = {false, true, "the log has no \"DIRT\" at byte 512", "It is no log of the old format, or holds nothing to repair with."},
-    [HIVE_FAULT_HIVE_CUT] = {false, false, "the hive is shorter than the log says", "4096 bytes and the log's bins size should be there (of Windows 8.1 or later: the largest of its entries'). The hive was cut off, or it had grown and only the log knows: then --grow lengthens it with zeros. Or this is not its log."},
-    [HIVE_FAULT_STAMPS] = {false, true, "the time stamps or the numbers of hive and log differ", "This log belongs to another hive, or to another state of this one. A log of Windows 8.1 or later must have the hive's second sequence number; its time stamp is compared where the hive's first sector is damaged, as an old log's always is. If there are two logs, give both."},
+    [HIVE_FAULT_HIVE_CUT] = {false, false, "the hive is shorter than the log says", "4096 bytes and the log's bins size should be there (of Windows 8.1 or later: the largest of its entries'). The hive was cut off, or it had grown and only the log knows: then the same command with --grow lengthens it with zeros. Or this is not its log. No other log is tried where only length is missing, so --grow does not change which is taken."},
+    [HIVE_FAULT_STAMPS] = {false, true, "the time stamps or the numbers of hive and log differ", "This log belongs to another hive, or to another state of this one. A log of Windows 8.1 or later must have the hive's second sequence number; its time stamp is compared where the hive's first sector is damaged, as an old log's always is. If there are two logs, give both, or lay them beside the hive and give none: hive repair FILE. Two that follow each other and do not fit together are not taken one by one, for one alone would leave out what the other holds; --only-this-log with one of them does it all the same. Where no log fits, take the hive and its logs anew, all at one moment."},
     [HIVE_FAULT_NOT_DIRTY] = {false, true, "the page is not marked in the log", "A program asked for a page that the log does not hold; this tool asks only for those it holds."},
     [HIVE_FAULT_NOT_IN] = {false, false, "a logged page is not in the hive yet", "A program asked to close the repair too early; this tool installs all pages first."},
     [HIVE_FAULT_SECURITY] = {true, false, "the security items of the keys do not fit together", "At the place is the root, whose own item is none; or an item that has no room for its descriptor, whose forward link leads to no item that links back, or whose count is not the number of keys that name it; or a key whose item is not on the ring that starts at the root's. Windows does not load such a hive; its keys and values can be read here."},
@@ -104,6 +104,9 @@ static void say_where(const char *label, bool there, uint64_t at)
 /* A line on standard output, and its words on standard error; or both in one object. */
 int refusal(const Hive *h, HiveAnswer a, const Path *path)
 {
+    Advice next;
+    if (advise(h, a.number, &next) != GOOD)
+        return TROUBLE;
     FILE *to = words_begin();
     if (to == NULL)
         return trouble(h->file, "no memory");
@@ -115,11 +118,16 @@ int refusal(const Hive *h, HiveAnswer a, const Path *path)
         say_where("place", reason_of(a.number)->placed, a.place);
         say_where("key", a.key != HIVE_NO_KEY, a.key);
         say_word("words", words);
+        if (next.count > 0)
+            say_word("type", next.lines[0]);
     } else
         say_number("at", a.place);
     say_end();
-    if (!say_json())
-        note(reason_of(a.number)->of_log && h->log != NULL ? h->log : h->file, words);
+    if (say_json())
+        return REFUSED;
+    note(reason_of(a.number)->of_log && h->log != NULL ? h->log : h->file, words);
+    for (int i = 0; i < next.count; i++)
+        say_next(next.what[i], next.lines[i]);
     return REFUSED;
 }
 

@@ -42,9 +42,9 @@ typedef struct {
 } Order;
 
 /* A hive in memory, and the log that it is read or repaired with; log is its name, NULL where none was given, and started what hive_recover_start says of the two.
- * wanted: how long the log wants the file to be, where it is shorter, else 0. grown: the memory is that long already, with zeros at the end. */
+ * alone: of two that are refused together, one that would be accepted alone, or NULL. wanted: how long the log wants the file to be, where it is shorter, else 0. grown: the memory is that long already, with zeros at the end. */
 typedef struct {
-    const char *file, *log;
+    const char *file, *log, *alone;
     Bytes bytes, logged;
     HiveRecovery started;
     uint64_t wanted;
@@ -151,11 +151,19 @@ typedef struct {
     int count;
 } Line;
 void order_is(const Order *o);
+bool order_repairs(void);
 const char *line_to_type(const char *file, const Line *l);
 const char *line_again(const char *file, Line *l);
 void say_next(const char *what, const char *line);
 int left_out(const Hive *h, const char *named, const char *other, const Choice *c);
 void after_repair(const Hive *h, const char *kept);
+
+/* advise.c: the lines to type after a refusal, at most two, each with what it does. GOOD or TROUBLE. */
+typedef struct {
+    const char *what[2], *lines[2];
+    int count;
+} Advice;
+int advise(const Hive *h, uint32_t number, Advice *out);
 
 /* hints.c */
 void put_hints(FILE *to, const Hive *h, const Path *path, HiveAnswer a);

@@ -27,6 +27,14 @@ static bool is_same(Bytes a, Bytes b)
     return a.length == b.length && memcmp(a.at, b.at, a.length) == 0;
 }
 
+static int exchanged(const Hive *h, const Log *log)
+{
+    Line l = {.repair = order_repairs(), .logs = {h->file}, .count = 1};
+    trouble(h->file, "this is a log, and what is given as LOG is a hive: exchange the two");
+    say_next("type", line_to_type(log->name, &l));
+    return TROUBLE;
+}
+
 /* A log that is the hive itself, and the two in each other's place: told before the library is asked, which would find a log that is not sound. */
 static int tell_apart(const Hive *h, const Log *log)
 {
@@ -34,7 +42,7 @@ static int tell_apart(const Hive *h, const Log *log)
     if (h->bytes.length > 0 && is_same(h->bytes, log->bytes))
         return trouble(log->name, "as LOG this is FILE once more, or a copy of it: give the log that Windows keeps beside the hive, as FILE.LOG, FILE.LOG1 or FILE.LOG2");
     if ((type == 1 || type == 2 || type == 6) && type_of(log->bytes) == 0)
-        return trouble(h->file, "this is a log, and what is given as LOG is a hive: exchange the two");
+        return exchanged(h, log);
     return GOOD;
 }
 
@@ -206,6 +214,19 @@ static int take_chosen(Hive *h, Logs *l, const Choice *c)
     return GOOD;
 }
 
+/* Of two logs that are refused together: one that would be accepted alone. */
+static int find_alone(Hive *h, const Logs *l)
+{
+    Choice c;
+    int status = GOOD;
+    for (int i = 0; l->count > 1 && i < LOGS && status == GOOD && h->alone == NULL; i++) {
+        status = choose(h->file, h->bytes, l->logs[i].bytes, NONE, &c);
+        if (status == GOOD && does_fit(&c))
+            h->alone = l->logs[i].name;
+    }
+    return status;
+}
+
 /* Which log was tried first is not known where there are two: both are named. named: where none has bytes. */
 static int refused_so(Hive *h, Logs *l, const char *named, const Choice *c)
 {
@@ -216,7 +237,11 @@ static int refused_so(Hive *h, Logs *l, const char *named, const Choice *c)
         return trouble(h->file, "no memory");
     if (c->wanted > 0)
         a.number = HIVE_FAULT_HIVE_CUT;
-    return refusal(h, a, NULL);
+    int status = c->wanted > 0 ? GOOD : find_alone(h, l);
+    if (status == GOOD)
+        status = refusal(h, a, NULL);
+    h->alone = NULL;
+    return status;
 }
 
 /* What was chosen is taken, and the hive lengthened where that is asked for. */

@@ -4,8 +4,9 @@
 
 #include "host.h"
 
+/* Two lines may be told together, so there are two rooms. */
 static const Order *given;
-static char room[1 << 16];
+static char rooms[2][1 << 16], *room = rooms[0];
 static size_t used;
 static bool whole;
 
@@ -17,12 +18,21 @@ void order_is(const Order *o)
 static void add(const char *text)
 {
     size_t n = strlen(text);
-    if (used + n >= sizeof room)
+    if (used + n >= sizeof rooms[0])
         whole = false;
     if (!whole)
         return;
     memcpy(room + used, text, n + 1);
     used += n;
+}
+
+/* A line in the other room. */
+static void begin(const char *text)
+{
+    room = room == rooms[0] ? rooms[1] : rooms[0];
+    used = 0;
+    whole = true;
+    add(text);
 }
 
 /* Whether each character can be typed as it is shown. */
@@ -114,10 +124,8 @@ static void add_options(const Line *l)
 const char *line_to_type(const char *file, const Line *l)
 {
     bool same = given != NULL && (strcmp(given->verb, "repair") == 0) == l->repair;
-    used = 0;
-    room[0] = 0;
+    begin("hive");
     whole = given != NULL;
-    add("hive");
     add_word(l->repair ? "repair" : given != NULL ? given->verb : "check");
     if (same)
         add_options(l);
@@ -146,15 +154,13 @@ const char *line_again(const char *file, Line *l)
 /* The copy in the place of the file. */
 static const char *line_back(const char *copy, const char *file)
 {
-    used = 0;
-    whole = true;
-    add("cp --");
+    begin("cp --");
     add_word(copy);
     add_word(file);
     return whole ? room : NULL;
 }
 
-static bool repairs(void)
+bool order_repairs(void)
 {
     return given != NULL && strcmp(given->verb, "repair") == 0;
 }
@@ -162,7 +168,7 @@ static bool repairs(void)
 /* The line that does what was chosen of a named log and another. */
 static Line line_for(const char *named, const char *other, const Choice *c)
 {
-    Line l = {.repair = repairs(), .grow = c->wanted > 0, .logs = {named, NULL}, .count = 1, .only = c->chosen == CHOSE_NONE};
+    Line l = {.repair = order_repairs(), .grow = c->wanted > 0, .logs = {named, NULL}, .count = 1, .only = c->chosen == CHOSE_NONE};
     if (c->chosen == CHOSE_SECOND)
         l.logs[0] = other;
     if (c->chosen == CHOSE_FIRST_SECOND || c->chosen == CHOSE_SECOND_FIRST) {

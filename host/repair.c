@@ -151,7 +151,8 @@ static int run(int fd, const Order *o, const Hive *h)
     if (write && (status = keep_and_write(fd, o, h, &kept)) != GOOD)
         return status;
     tell(h, write, kept);
-    report(h, r);
+    if (report(h, r) == TROUBLE)
+        return TROUBLE;
     if (!sound)
         note(h->file, write ? "it was repaired all the same (--anyway)" : "nothing was written: the repaired hive would be refused so; --anyway writes it all the same");
     if (write && !say_json())

@@ -18,6 +18,5 @@ ends longest >ends
 ends longest-spoilt >ends.repaired
 same 'large: the repaired file, at both ends' ends.repaired ends
 right 'large: and between them it is a hole as before' [ "$(du -k longest-spoilt | cut -f 1)" -lt 1024 ]
+right 'large: and so it is in the copy' [ "$(du -k longest-spoilt.before-repair | cut -f 1)" -lt 2048 ]
 rm longest*
-right 'large: and so it is in the copy' [ "$(du -k longest-spoilt.before-repair | cut -f 1)" -lt 1024 ]
-rm longest-spoilt.before-repair

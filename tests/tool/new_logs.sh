@@ -1,6 +1,6 @@
 # Repair with logs of Windows 8.1 and later: one, two that are one, two of which one fits; a hive that has to grow; and runs that are cut.
 
-try 'new log: explain 22' 0 "22: the log is too short for its bitmap or its pages, or none of its entries counts. An old-format log was cut off: copy it again. Of a log of Windows 8.1 or later the first entry is torn, has a wrong hash or another number than the log, or its pages cannot lie where it says." '' hive explain 22
+try 'new log: explain 22' 0 "22: the log is too short for its bitmap or its pages, or none of its entries counts. An old-format log was cut off: copy it again. Of a log of Windows 8.1 or later the first entry is torn, has a wrong hash or another number than the log, or its pages cannot lie where it says. If there is another log beside the hive, hive repair FILE asks both; else take the hive and its logs anew, all at one moment." '' hive explain 22
 cp spoilt file
 try 'new log: dry run' 0 "$(printf 'would repair 8\n%s' "$sound")" '' hive repair --dry-run file new-log
 same 'new log: a dry run changes nothing' file spoilt

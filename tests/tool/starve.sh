@@ -62,7 +62,7 @@ for json in '' --json; do
     cp new-log2 torn.LOG2
     starve repair $json torn
     starve repair $json torn torn.LOG1
-    starve check $json --logs torn.kept
+    starve check $json --logs torn
     starve ls $json --log new-log1 torn
     rm torn.LOG1 torn.LOG2
     starve repair --no-backup $json torn new-log1 new-log2
