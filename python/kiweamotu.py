@@ -42,10 +42,11 @@ import threading
 from ctypes import c_size_t, c_uint32, c_uint64, c_void_p
 from typing import Any, BinaryIO, Callable, Iterator, List, NamedTuple, Optional, Sequence, Tuple, TypeVar, Union, overload
 
-__all__ = ["Hive", "Key", "Value", "Deleted", "Report", "Exported", "Repair", "Log", "Refused", "Unsound", "Unbuilt", "build", "log_facts", "name_order",
-           "repair", "settle"]
+__all__ = ["Hive", "Key", "Value", "Deleted", "Report", "Exported", "Repair", "Log", "Refused", "Unsound", "LeftOut", "Unbuilt", "build", "log_facts",
+           "name_order", "repair", "settle"]
 
 SECTOR = 512
+ENDINGS = (".LOG1", ".LOG2", ".LOG")  # of a hive's logs
 INTERFACES = (3,)  # those that this file knows; in 2 and 1 the states had other numbers
 REFUSED, CLEAN, DONE, NO_MORE, THERE, OVER, OPENS, CLOSES, WRITTEN = range(9)
 SEGMENTS = 3
@@ -490,6 +491,20 @@ class Unsound(Refused):
     """What the check would refuse after a repair; nothing was written."""
 
 
+class LeftOut(Exception):
+    """A log that was named fits, but another beside it must not be left out: nothing was read or written. log, other: their names (log is None where memory was
+    given). logs: the names to give, in a list; or None where both do not fit together, with the `number` of that refusal. `only_this_log=True` does it all the same."""
+
+    def __init__(self, log: Optional[str], other: str, logs: Optional[List[Optional[str]]], number: Optional[int]) -> None:
+        super().__init__(log, other, logs, number)
+        self.log, self.other, self.logs, self.number = log, other, logs, number
+
+    def __str__(self) -> str:
+        if self.logs is None:
+            return "%s follows the log that was given, and the two do not fit the hive together (refused %d): only_this_log=True takes that log alone" % (self.other, self.number or 0)
+        return "%s lies beside the hive or the log that was given, which alone would leave out what it holds: give %r" % (self.other, self.logs)
+
+
 class Unbuilt(Refused):
     """A stream that no hive is built of. at: the byte of the stream where the frame at fault starts, its end where a key stays open, or None where no
     frame is at fault. It is no place in a hive: place and key are None.
@@ -546,7 +561,7 @@ class Exported(NamedTuple):
 class Repair(NamedTuple):
     """What a repair did. clean: nothing was to be done. pages: how many pages the log holds. written: whether the file was repaired.
     report: what the check says of the repaired hive, or None where it refuses it, with `refused`. lengthened: how long the file became, or would,
-    or None. logs: of those that were given, which were used, by their positions."""
+    or None. logs: of those that were given, or that lay beside it, which were used, by their positions. backup: where the copy of what it was is kept, or None."""
     clean: bool
     pages: int
     written: bool
@@ -554,6 +569,7 @@ class Repair(NamedTuple):
     refused: Optional[Refused]
     lengthened: Optional[int] = None
     logs: Tuple[int, ...] = (0,)
+    backup: Optional[str] = None
 
 
 class Log(NamedTuple):
@@ -747,7 +763,9 @@ class Key:
 
 class Hive:
     """A hive in memory: the file of that name, or bytes that are lent. With a log, also a name or bytes, or a list of two, it is read as its log would
-    repair it; nothing is written, not even to the bytes that were lent. `grow`: where the log wants a longer hive, it is lengthened with zeros.
+    repair it; nothing is written, not even to the bytes that were lent. `logs`: with the logs that lie beside the file, NAME.LOG1 and NAME.LOG2, or
+    NAME.LOG, whatever the case of their letters. `grow`: where the log wants a longer hive, it is lengthened with zeros. Where one log is named, and another
+    beside it would be left out, LeftOut is raised, unless `only_this_log`.
 
     >>> Hive("spoilt").check()
     Traceback (most recent call last):
@@ -757,11 +775,11 @@ class Hive:
     True
     """
 
-    def __init__(self, source: Source, log: Optional[Sources] = None, *, grow: bool = False) -> None:
-        owner = _contents(source)
-        if log is not None:
-            owner = owner if isinstance(source, (str, os.PathLike)) else bytearray(owner)
-            owner = _recover(_choose(owner, log, grow))
+    def __init__(self, source: Source, log: Optional[Sources] = None, *, logs: bool = False, only_this_log: bool = False, grow: bool = False) -> None:
+        owner, path = _contents(source), _path_of(source)
+        if log is not None or logs:
+            owner = owner if path is not None else bytearray(owner)
+            owner = _recover(_choose(owner, path, log, logs, grow, only_this_log))
         self._lent = _Lent(owner)
         self._memory = self._lent.memory
         self._view = memoryview(owner).cast("B").toreadonly()
@@ -1025,9 +1043,16 @@ def _own_facts(log: Any) -> Optional[Log]:
         return None
 
 
-def _tries(logs: List[Any]) -> Iterator[Tuple[Any, Tuple[int, ...]]]:
+def _usable(hive: Owned) -> bool:
+    """Whether the base block is usable, by the check's first refusals: behind them it asks for a map, and none is lent."""
+    work = bytearray()
+    return _ask(_library.hive_check, _Lent(hive), _Lent(work, writable=True)).answer.number not in (1, 2, 3, 4, 5)
+
+
+def _tries(hive: Owned, logs: Sequence[Any]) -> Iterator[Tuple[Any, Tuple[int, ...]]]:
     """Each log to try, and which of the given ones it is. Where one goes on where the other ends: both as one log, the one up to its end and the other from
-    its first entry on, and then the later alone, for the hive may hold the earlier already. Else each alone, the later first."""
+    its first entry on, and then the later alone, if the hive's base block is usable: only then its number shows that it holds the earlier already. Else each
+    alone, the later first."""
     facts = [_own_facts(log) for log in logs]
     order = sorted(range(len(logs)), key=lambda i: (facts[i] is None, -facts[i].last if facts[i] else 0))
     if len(logs) == 2 and all(f is not None and f.entries > 0 for f in facts):
@@ -1035,7 +1060,7 @@ def _tries(logs: List[Any]) -> Iterator[Tuple[Any, Tuple[int, ...]]]:
         if facts[earlier].last + 1 == facts[later].first:
             head, more = memoryview(logs[earlier]).cast("B")[:facts[earlier].end], memoryview(logs[later]).cast("B")[SECTOR:facts[later].end]
             yield bytes(head) + bytes(more), (earlier, later)
-            order = [later]
+            order = [later] if _usable(hive) else []
     for i in order:
         yield logs[i], (i,)
 
@@ -1050,21 +1075,121 @@ def _lengthened(start: _Start) -> _Start:
     return _Start(longer, start.log, start.logs, True)
 
 
-def _choose(hive: Owned, log: Sources, grow: bool) -> _Start:
-    """The first log that the library's start accepts; with `grow` also on a hive that is lengthened with zeros. Where none is, Refused, for the first."""
-    first: Optional[_Answer] = None
-    for data, logs in _tries([_contents(one) for one in (log if isinstance(log, (list, tuple)) else [log])]):
-        start = _Start(hive, data, logs, False)
-        answer = start.started.answer
-        if start.refused(SHORT):
-            longer = _lengthened(start)
-            if not longer.refused() and not grow:
-                raise _refusal(answer.number, answer.place, answer.key)
-            start, answer = (longer, longer.started.answer) if grow else (start, answer)
-        if not start.refused():
-            return start
-        first = first or answer
-    raise _refusal(first.number, first.place, first.key) if first is not None else ValueError("no log")
+def _choice(hive: Owned, logs: Sequence[Any]) -> Tuple[_Start, Optional[_Start]]:
+    """The first log that fits, of none, one or two with bytes; where none does, the first that was tried, which is refused. And where only length is missing,
+    the start of the lengthened hive: then no other log is tried. Clean answers first."""
+    first = _Start(hive, b"", (), False)
+    if not first.refused():
+        return first, None
+    for n, (data, which) in enumerate(_tries(hive, logs)):
+        start = _Start(hive, data, which, False)
+        longer = _lengthened(start) if start.refused(SHORT) else None
+        if not (longer or start).refused():
+            return start, longer
+        first = start if n == 0 else first
+    return first, None
+
+
+# ---- the logs beside a hive
+
+def _path_of(source: Source) -> Optional[str]:
+    return os.fsdecode(source) if isinstance(source, (str, os.PathLike)) else None
+
+
+def _same(one: Any, other: Any) -> bool:
+    a, b = memoryview(one).cast("B"), memoryview(other).cast("B")
+    return len(a) == len(b) and all(a[at:at + PIECE].tobytes() == b[at:at + PIECE].tobytes() for at in range(0, len(a), PIECE))
+
+
+def _entries(folder: str, stem: str) -> Iterator[Optional[str]]:
+    """The files that are called as a log of that hive, one for each ending: letter for letter, else but for the case of the ending, else but for case."""
+    names = [os.fsencode(name) for name in os.listdir(folder or ".")]
+    for ending in ENDINGS:
+        whole, length = os.fsencode(stem + ending), len(os.fsencode(stem))
+        alike = sorted((name != whole, name[:length] != whole[:length], name) for name in names if name.upper() == whole.upper())
+        yield os.path.join(folder, os.fsdecode(alike[0][2])) if alike else None
+
+
+def _read_regular(path: str) -> Any:
+    """What nobody has named: only where it is a regular file, or a link to one. A pipe is not waited for."""
+    try:
+        fd = _open(path, os.O_RDONLY | os.O_NONBLOCK)
+    except FileNotFoundError:
+        return b""
+    try:
+        return _read(fd, path) if stat.S_ISREG(os.fstat(fd).st_mode) else b""
+    finally:
+        os.close(fd)
+
+
+def _beside(path: str, stem: str) -> List[Tuple[str, Any]]:
+    """The logs in the folder of that path, at most two, with bytes."""
+    found: List[Tuple[str, Any]] = []
+    for ending, name in zip(ENDINGS, _entries(os.path.dirname(path), stem) if stem else ()):
+        data = b"" if name is None or (ending == ENDINGS[2] and found) else _read_regular(name)
+        if name is not None and len(data) > 0:
+            found.append((name, data))
+    return found
+
+
+def _stem(name: str) -> str:
+    return next((name[:-len(ending)] for ending in ENDINGS if os.fsencode(name).upper().endswith(os.fsencode(ending))), "")
+
+
+def _others(path: Optional[str], log: Optional[str]) -> Iterator[Tuple[str, Any]]:
+    """What lies beside the hive; and beside the log, called as the hive is or as the log is."""
+    base = "" if path is None else os.path.basename(path)
+    if path is not None:
+        yield from _beside(path, base)
+    if log is not None:
+        yield from _beside(log, base)
+        if _stem(os.path.basename(log)) != base:
+            yield from _beside(log, _stem(os.path.basename(log)))
+
+
+def _ask_others(hive: Owned, path: Optional[str], name: Optional[str], data: Any) -> None:
+    """That a log which fits alone leaves out none that lies beside it."""
+    for other, more in _others(path, name):
+        if _same(data, more) or _same(hive, more):
+            continue
+        start, longer = _choice(hive, [data, more])
+        chosen = longer or start
+        if chosen.refused():
+            raise LeftOut(name, other, None, chosen.started.answer.number)
+        if chosen.started.state == DONE and chosen.logs != (0,):
+            raise LeftOut(name, other, [(name, other)[i] for i in chosen.logs], None)
+
+
+def _given(path: Optional[str], log: Optional[Sources], logs: bool) -> List[Tuple[int, Optional[str], Any]]:
+    """The logs that have bytes, each once: where they were given, their names and their bytes."""
+    if log is not None and logs:
+        raise ValueError("log names a log, and logs takes those beside the file: give one of the two")
+    if log is None and path is None:
+        raise ValueError("memory has no logs beside it")
+    listed = list(log) if isinstance(log, (list, tuple)) else [] if log is None else [log]
+    named = [(_path_of(one), _contents(one)) for one in listed] if log is not None else _beside(path or "", os.path.basename(path or ""))
+    if log is not None and not listed:
+        raise ValueError("no log")
+    kept: List[Tuple[int, Optional[str], Any]] = []
+    for i, (name, data) in enumerate(named):
+        if memoryview(data).nbytes > 0 and not any(_same(data, other) for _, _, other in kept):
+            kept.append((i, name, data))
+    if len(kept) > 2:
+        raise ValueError("there are two logs at most, and %d have bytes" % len(kept))
+    return kept
+
+
+def _choose(hive: Owned, path: Optional[str], log: Optional[Sources], logs: bool, grow: bool, only: bool) -> _Start:
+    """The start of the log that was chosen; with `grow` also on a hive that is lengthened with zeros. Where there is none, Refused."""
+    given = _given(path, log, logs)
+    start, longer = _choice(hive, [data for _, _, data in given])
+    if len(given) == 1 and log is not None and not only and (longer is not None or start.started.state == DONE):
+        _ask_others(hive, path, given[0][1], given[0][2])
+    chosen = longer if grow and longer is not None else start
+    if chosen.refused():
+        _allow(chosen.started.answer)
+    chosen.logs = tuple(given[i][0] for i in chosen.logs)
+    return chosen
 
 
 def _recover(start: _Start) -> Owned:
@@ -1095,13 +1220,18 @@ def _settle_folder(path: str) -> None:
 
 
 def _copy_all(fd: int, to: int) -> None:
-    at = 0
-    while True:
+    """All that an open file holds. Holes stay holes."""
+    at = end = 0
+    length = os.lseek(fd, 0, os.SEEK_END)
+    while at < length:
+        at = _data_from(fd, at, length)
         data = os.pread(fd, PIECE, at)
         if not data:
-            return
+            break
         _store(to, data, at)
-        at += len(data)
+        end = at = at + len(data)
+    if end < length:
+        os.ftruncate(to, length)
 
 
 def _new_name(part: str, path: str) -> None:
@@ -1186,9 +1316,8 @@ def _marked(start: _Start) -> Iterator[int]:
     return (8 * at + bit for at, byte in enumerate(marks) if byte for bit in range(8) if byte >> bit & 1)
 
 
-def _write_out(fd: int, start: _Start) -> None:
+def _write_out(fd: int, start: _Start, pages: Sequence[int]) -> None:
     """Where it is to grow, the file's length and a sync; the pages, a sync, the closing sector, a sync: it goes out only when all pages are on the disk."""
-    pages = _marked(start)
     if start.grown:
         os.ftruncate(fd, len(start.hive))
         os.fsync(fd)
@@ -1199,6 +1328,64 @@ def _write_out(fd: int, start: _Start) -> None:
     _allow(_ask(_library.hive_recover_close, *start.both).answer)
     _store(fd, start.hive[:SECTOR], 0)
     os.fsync(fd)
+
+
+def _is_piece(start: _Start, pages: Any, at: int, mine: bytes, theirs: bytes) -> bool:
+    """Each sector of a piece of the file is the copy's own, or the last version that the log has of it, which the hive in memory holds."""
+    for i in range(0, len(mine), SECTOR):
+        sector = mine[i:i + SECTOR]
+        logged = (at + i - 4096) // SECTOR in pages and at + i >= 4096
+        if sector != theirs[i:i + SECTOR] and not (logged and sector == start.hive[at + i:at + i + len(sector)]):
+            return False
+    return True
+
+
+def _is_before(fd: int, copy: int, start: _Start, pages: Any) -> bool:
+    """Whether a copy and this log make the same hive as the file and this log. Behind the end of the copy there are zeros."""
+    facts = os.fstat(copy)
+    if not stat.S_ISREG(facts.st_mode) or os.path.samestat(facts, os.fstat(fd)):
+        return False
+    length, at = os.lseek(fd, 0, os.SEEK_END), 0
+    while at < length:
+        mine, theirs = os.pread(fd, PIECE, at), os.pread(copy, PIECE, at)
+        theirs += bytes(max(0, len(mine) - len(theirs)))
+        if not mine or (mine != theirs[:len(mine)] and not _is_piece(start, pages, at, mine, theirs)):
+            return False
+        at += len(mine)
+    return facts.st_size <= length
+
+
+def _is_made(fd: int, path: str, start: _Start, pages: Any) -> bool:
+    """Whether a file that is there is the copy; then it is synced again, for the run that made it may have been cut."""
+    try:
+        copy = _open(path, os.O_RDONLY | os.O_NONBLOCK | os.O_NOFOLLOW)
+    except OSError:
+        return False
+    try:
+        made = _is_before(fd, copy, start, pages)
+        if made:
+            os.fsync(copy)
+    finally:
+        os.close(copy)
+    if made:
+        _settle_folder(path)
+    return made
+
+
+def _keep(fd: int, name: str, backup: Union[bool, str], start: _Start, pages: Any) -> str:
+    """The copy of what the hive was, made or there already: where it is. One that is named and is another file is not overwritten; by default a number is put
+    behind the name then."""
+    path = name + ".before-repair" if backup is True else str(backup)
+    number = 1
+    while os.path.lexists(path):
+        if _is_made(fd, path, start, pages):
+            return path
+        number += 1
+        if backup is not True or number > 1000:
+            raise FileExistsError("%s is there already, is no copy of the hive before this repair, and is not overwritten" % path)
+        path = "%s.before-repair%d" % (name, number)
+    _new_file(path, lambda to: _copy_all(fd, to))
+    return path
 
 
 def _clean(fd: int, start: _Start, dry_run: bool, anyway: bool) -> Repair:
@@ -1212,37 +1399,43 @@ def _clean(fd: int, start: _Start, dry_run: bool, anyway: bool) -> Repair:
     return Repair(True, 0, False, report, refused, None, ())
 
 
-def _run(fd: int, start: _Start, backup: Optional[str], dry_run: bool, anyway: bool) -> Repair:
+def _run(fd: int, name: str, start: _Start, backup: Union[bool, str], dry_run: bool, anyway: bool) -> Repair:
     if start.started.state == CLEAN:
         return _clean(fd, start, dry_run, anyway)
     report, refused = _rehearse(start)
     if refused is not None and (dry_run or not anyway):
         raise Unsound(*refused.args)
+    kept = None
     if not dry_run:
-        if backup is not None:
-            _new_file(backup, lambda to: _copy_all(fd, to))
-        _write_out(fd, start)
-    return Repair(False, start.started.pages, not dry_run, report, refused, len(start.hive) if start.grown else None, start.logs)
+        pages = list(_marked(start))
+        kept = None if backup is False else _keep(fd, name, backup, start, frozenset(pages))
+        _write_out(fd, start, pages)
+    return Repair(False, start.started.pages, not dry_run, report, refused, len(start.hive) if start.grown else None, start.logs, kept)
 
 
-def repair(path: Union[str, "os.PathLike[str]"], log: Sources, *, backup: Optional[Union[str, "os.PathLike[str]"]] = None, dry_run: bool = False,
-           anyway: bool = False, grow: bool = False) -> Repair:
+def repair(path: Union[str, "os.PathLike[str]"], log: Optional[Sources] = None, *, logs: bool = False, only_this_log: bool = False,
+           backup: Optional[Union[bool, str, "os.PathLike[str]"]] = True, dry_run: bool = False, anyway: bool = False, grow: bool = False) -> Repair:
     """Repairs the hive in place with its log, of either format, or with its two logs in a list, as `hive repair` does: the whole repair in memory first;
     then, under a lock, the pages are stored and synced, and the first sector is stored and synced. A power failure at any moment leaves a file that the
-    same call repairs, and so does an interrupt: after an OSError, after Ctrl-C, or in doubt, keep the log and call again. `backup` names a new file that the
-    hive is copied to first. What the check would refuse afterwards raises Unsound, and nothing is written, unless `anyway`; what is clean and refused raises
-    Refused, unless `anyway`. `grow`: where the log wants a longer file, it is lengthened with zeros.
+    same call repairs, and so does an interrupt: after an OSError, after Ctrl-C, or in doubt, keep the log and call again.
+
+    Where no log is named (or `logs`) those beside the file are taken: PATH.LOG1 and PATH.LOG2, or PATH.LOG, whatever the case of their letters. Where one is
+    named, and another beside it would be left out, LeftOut is raised, unless `only_this_log`. The hive is first copied to PATH.before-repair and synced;
+    `backup` names another file, and False makes none. A copy that is there already is taken, from a call that was cut; another file never is overwritten.
+    What the check would refuse afterwards raises Unsound, and nothing is written, unless `anyway`; what is clean and refused raises Refused, unless `anyway`.
+    `grow`: where the log wants a longer file, it is lengthened with zeros.
 
     >>> repair("spoilt", "log", dry_run=True).pages
     8
     """
     name = os.fsdecode(path)
+    kept: Union[bool, str] = backup if isinstance(backup, bool) else False if backup is None else os.fsdecode(backup)
     fd = _open(name, os.O_RDONLY if dry_run else os.O_RDWR)
     try:
         if not dry_run:
             fcntl.flock(fd, fcntl.LOCK_EX | fcntl.LOCK_NB)
         if not stat.S_ISREG(os.fstat(fd).st_mode) and not stat.S_ISBLK(os.fstat(fd).st_mode):
             raise OSError("%s is a pipe or a terminal; repair wants a file" % name)
-        return _run(fd, _choose(_read(fd, name), log, grow), None if backup is None else os.fsdecode(backup), dry_run, anyway)
+        return _run(fd, name, _choose(_read(fd, name), name, log, logs, grow, only_this_log), kept, dry_run, anyway)
     finally:
         os.close(fd)

@@ -683,7 +683,7 @@ def no_room():
     with mock.patch("os.pwrite", Full(0).write):
         expect(trouble(repair, "python-file", "log", backup="python-kept"), (OSError, "cannot write at byte 0: no room"))
     with mock.patch("os.pwrite", Full(0).write):
-        expect(trouble(repair, "python-file", "log"), (OSError, "cannot write at byte 4096: no room"))
+        expect(trouble(repair, "python-file", "log", backup=False), (OSError, "cannot write at byte 4096: no room"))
     expect([name for name in os.listdir(".") if name.startswith(("python-frames", "python-built", "python-kept"))], [])
 
 
@@ -843,7 +843,7 @@ def order():
     expect((bytes_of("python-file"), bytes_of("python-kept")), (bytes_of("sample"), bytes_of("spoilt")))
     steps.clear()
     with traced(steps):
-        expect(repair("python-file", "log").clean, True)
+        expect(repair("python-file", "log", backup=False).clean, True)
     expect(steps, ["pwrite 0 512", "fsync"])
     expect(bytes_of("python-file"), bytes_of("sample"))
 
@@ -854,11 +854,11 @@ def cuts():
     for cut in range(len(PAGES) + 3):
         shutil.copy("spoilt", "python-file")
         with contextlib.suppress(Cut), traced([], cut):
-            repair("python-file", "log")
+            repair("python-file", "log", backup=False)
             raise AssertionError("not cut")
         if cut < len(PAGES) + 2:  # the closing sector is not stored
             expect(refusal(Hive("python-file").check), (7, None, None))
-        expect(repair("python-file", "log").report, Hive("sample").check())
+        expect(repair("python-file", "log", backup=False).report, Hive("sample").check())
         expect(bytes_of("python-file"), bytes_of("sample"))
 
 
@@ -879,7 +879,7 @@ def nothing_written():
     with open("python-file", "rb") as other:
         fcntl.flock(other, fcntl.LOCK_EX)
         with contextlib.suppress(BlockingIOError):
-            repair("python-file", "log")
+            repair("python-file", "log", backup=False)
             raise AssertionError("not locked")
     expect(bytes_of("python-file"), bytes_of("spoilt"))
     expect([name for name in os.listdir(".") if name.startswith("sample.part")], [])
@@ -920,11 +920,11 @@ def new_logs():
         shutil.copy("spoilt", "python-file")
         steps = []
         with traced(steps):
-            done = repair("python-file", log)
+            done = repair("python-file", log, backup=False)
         expect((done.pages, done.written, done.logs, done.lengthened, done.report), (8, True, logs, None, Hive("sample").check()))
         expect(steps, PAGES + ["fsync", "pwrite 0 512", "fsync"])
         expect(bytes_of("python-file"), bytes_of("sample-10"))
-        expect(repair("python-file", log).clean, True)
+        expect(repair("python-file", log, backup=False).clean, True)
     shutil.copy("spoilt-8", "python-file")
     expect(repair("python-file", ["new-log1", "new-log2"]).logs, (1,))
     expect(bytes_of("python-file"), bytes_of("sample-10"))
@@ -932,6 +932,111 @@ def new_logs():
     expect(refusal(Hive, "spoilt-8", ["new-log1", "new-log-gap"]), (25, None, None))
     expect(refusal(Hive, "spoilt", ["empty", "minimal"]), (21, None, None))
     expect(refusal(Hive, "spoilt", "no-entry"), (22, None, None))
+
+
+@contextlib.contextmanager
+def folder(**files):
+    """A folder with copies of those files under these names, S being the hive; _ stands for a dot in them."""
+    shutil.rmtree("python-beside", ignore_errors=True)
+    os.mkdir("python-beside")
+    for name, source in files.items():
+        shutil.copy(source, os.path.join("python-beside", name.replace("_", ".")))
+    yield os.path.join("python-beside", "S")
+    shutil.rmtree("python-beside")
+
+
+def left_out(call, *words, **more):
+    """What LeftOut says: the names without their folder."""
+    try:
+        call(*words, **more)
+    except kiweamotu.LeftOut as left:
+        expect(left.other in str(left), True)
+        base = lambda name: None if name is None else os.path.basename(name)  # noqa: E731
+        return base(left.log), base(left.other), None if left.logs is None else [base(name) for name in left.logs], left.number
+    raise AssertionError("not left out")
+
+
+@test
+def beside():
+    """the logs beside a hive are taken where none is named"""
+    good = Hive("sample").check()
+    for files, logs in (({"S_LOG1": "new-log1", "S_LOG2": "new-log2"}, (0, 1)), ({"S_LOG1": "new-log2", "S_LOG2": "new-log1"}, (1, 0)), ({"S_LOG": "log"}, (0,)),
+                        ({"S_LOG1": "empty", "S_LOG2": "new-log", "S_LOG": "short-log"}, (0,)), ({"s_log1": "new-log"}, (0,)),
+                        ({"S_log1": "new-log-gap", "S_LOG1": "new-log"}, (0,)), ({"S_LOG1": "new-log", "S_LOG2": "new-log"}, (0,))):
+        with folder(S="spoilt", **files) as hive:
+            expect(Hive(hive, logs=True).check(), good)
+            expect(repair(hive, dry_run=True).logs, logs)
+            done = repair(hive, logs=True)
+            expect((done.report, done.logs, done.backup), (good, logs, hive + ".before-repair"))
+            expect(bytes_of(done.backup), bytes_of("spoilt"))
+    with folder(S="spoilt") as hive:
+        expect(refusal(repair, hive), (21, None, None))
+        expect(refusal(Hive, hive, logs=True), (21, None, None))
+        os.mkfifo(hive + ".LOG1")
+        expect(refusal(repair, hive), (21, None, None))
+    for wrong in (lambda: Hive(b"", logs=True), lambda: Hive("spoilt", "log", logs=True), lambda: Hive("spoilt", ["log", "new-log", "new-log-gap"])):
+        expect(trouble(wrong)[0], ValueError)
+    expect(Hive("spoilt", ["new-log", "new-log", "empty"]).check(), good)
+
+
+@test
+def left():
+    """a log that is named does not lose one that lies beside it"""
+    good = Hive("sample").check()
+    with folder(S="spoilt", S_LOG1="new-log1", S_LOG2="new-log2", other="new-log1") as hive:
+        both = ["S.LOG1", "S.LOG2"]
+        for call in (Hive, repair):
+            expect(left_out(call, hive, hive + ".LOG1"), ("S.LOG1", "S.LOG2", both, None))
+            expect(left_out(call, hive, os.path.join("python-beside", "other")), ("other", "S.LOG2", ["other", "S.LOG2"], None))
+            expect(left_out(call, hive, bytes_of("new-log1")), (None, "S.LOG2", [None, "S.LOG2"], None))
+            expect(left_out(call, "spoilt", hive + ".LOG1"), ("S.LOG1", "S.LOG2", both, None))
+            expect(left_out(call, hive, [hive + ".LOG1", hive + ".LOG1"]), ("S.LOG1", "S.LOG2", both, None))
+        expect(left_out(Hive, bytes_of("spoilt"), hive + ".LOG1"), ("S.LOG1", "S.LOG2", both, None))
+        expect(bytes_of(hive), bytes_of("spoilt"))
+        expect(Hive(hive, [hive + ".LOG2", hive + ".LOG1"]).check(), good)
+        expect(refusal(repair, hive, hive + ".LOG1", only_this_log=True, dry_run=True)[0], refusal(Hive("spoilt", "new-log1").check)[0])
+    with folder(S="spoilt", S_LOG1="new-log", S_LOG2="new-log1") as hive:
+        expect(left_out(Hive, hive, hive + ".LOG2"), ("S.LOG2", "S.LOG1", ["S.LOG1"], None))
+        expect(Hive(hive, hive + ".LOG1").check(), good)
+    with folder(S="torn-base", S_LOG1="torn-log1", S_LOG2="torn-log2") as hive:
+        expect(left_out(repair, hive, hive + ".LOG2"), ("S.LOG2", "S.LOG1", None, 25))
+        expect(refusal(repair, hive), (25, None, None))
+        expect(bytes_of(hive), bytes_of("torn-base"))
+
+
+@test
+def kept():
+    """repair: the copy that is kept, made or there already, and cut before each store and sync"""
+    with folder(S="spoilt") as hive:
+        copy, steps = hive + ".before-repair", []
+        with traced(steps):
+            expect(repair(hive, "log").backup, copy)
+        expect(steps, ["pwrite 0 69632", "fsync", "fsync"] + PAGES + ["fsync", "pwrite 0 512", "fsync"])
+        for cut in range(len(steps)):
+            shutil.copy("spoilt", hive)
+            os.remove(copy)
+            with contextlib.suppress(Cut), traced([], cut):
+                repair(hive, "log")
+                raise AssertionError("not cut")
+            expect(repair(hive, "log").report, Hive("sample").check())
+            expect((bytes_of(hive), bytes_of(copy), os.path.lexists(copy + "2")), (bytes_of("sample"), bytes_of("spoilt"), False))
+        expect((repair(hive, "log").clean, repair(hive, "log").backup), (True, None))
+        for other in ("sample", "log", "empty"):
+            shutil.copy("spoilt", hive)
+            shutil.copy(other, copy)
+            expect(repair(hive, "log").backup, copy + "2")
+            expect((bytes_of(copy), bytes_of(copy + "2")), (bytes_of(other), bytes_of("spoilt")))
+            shutil.copy("spoilt", hive)
+            expect(trouble(repair, hive, "log", backup=copy)[0], FileExistsError)
+            expect(bytes_of(hive), bytes_of("spoilt"))
+        os.remove(copy)
+        os.remove(copy + "2")
+        os.link(hive, copy)  # the hive under a second name is no copy of it
+        expect(repair(hive, "log").backup, copy + "2")
+        shutil.copy("spoilt", hive)
+        for none in (False, None):
+            expect(repair(hive, "log", backup=none, dry_run=True).backup, None)
+        expect(repair(hive, "log", backup=False).backup, None)
 
 
 @test
@@ -953,21 +1058,21 @@ def grow():
     """repair: a hive that is shorter than its log wants it is lengthened where that is asked for, and cut before each step"""
     expect(refusal(Hive, "spoilt-short", "new-log-grown"), (24, None, None))
     expect(Hive("spoilt-short", "new-log-grown", grow=True).check(), Hive("sample").check())
-    expect(refusal(Hive, "spoilt-short", "new-log-gap", grow=True), (25, None, None))
+    expect(refusal(Hive, "spoilt-short", "new-log-gap", grow=True), (24, None, None))
     shutil.copy("spoilt-short", "python-file")
     expect(refusal(repair, "python-file", "new-log-grown"), (24, None, None))
     expect(repair("python-file", "new-log-grown", dry_run=True, grow=True).lengthened, 69632)
     expect(bytes_of("python-file"), bytes_of("spoilt-short"))
     steps = []
     with traced(steps):
-        expect(repair("python-file", "new-log-grown", grow=True).lengthened, 69632)
+        expect(repair("python-file", "new-log-grown", grow=True, backup=False).lengthened, 69632)
     expect(steps[:3], ["ftruncate 69632", "fsync", PAGES[0]])
     for cut in range(len(steps)):
         shutil.copy("spoilt-short", "python-file")
         with contextlib.suppress(Cut), traced([], cut):
-            repair("python-file", "new-log-grown", grow=True)
+            repair("python-file", "new-log-grown", grow=True, backup=False)
             raise AssertionError("not cut")
-        repair("python-file", "new-log-grown", grow=True)
+        repair("python-file", "new-log-grown", grow=True, backup=False)
         expect(bytes_of("python-file"), bytes_of("sample-8"))
 
 
@@ -1017,7 +1122,7 @@ def the_same_beside():
         yield refusal(Hive("no-root").check), refusal(Hive("spoilt").export), unbuilt(build, frames[:-1]), refusal(Hive, "spoilt", "short-log")
         for log in ("log", "new-log", ["new-log1", "new-log2"]):
             shutil.copy("spoilt", "python-file")
-            yield repair("python-file", log), bytes_of("python-file"), kiweamotu.log_facts("new-log")
+            yield repair("python-file", log, backup=False), bytes_of("python-file"), kiweamotu.log_facts("new-log")
     wanted, waits = list(answers()), []
     waited = kiweamotu._waited
     with beside(), mock.patch.object(kiweamotu, "_waited", lambda call: waits.append(1) or waited(call)):
@@ -1054,19 +1159,19 @@ def interrupted_anywhere():
 
         try:
             with beside(), mock.patch.object(kiweamotu, "_waited", some):
-                repair("python-file", "log")
+                repair("python-file", "log", backup=False)
             break
         except KeyboardInterrupt:
             pass
-        expect(repair("python-file", "log").report, Hive("sample").check())
+        expect(repair("python-file", "log", backup=False).report, Hive("sample").check())
         expect(bytes_of("python-file"), bytes_of("sample"))
     expect(last >= 6, True)
     for cut in range(len(PAGES) + 3):
         shutil.copy("spoilt", "python-file")
         with contextlib.suppress(KeyboardInterrupt), traced([], cut, KeyboardInterrupt):
-            repair("python-file", "log")
+            repair("python-file", "log", backup=False)
             raise AssertionError("not cut")
-        expect(repair("python-file", "log").report, Hive("sample").check())
+        expect(repair("python-file", "log", backup=False).report, Hive("sample").check())
         expect(bytes_of("python-file"), bytes_of("sample"))
 
 
