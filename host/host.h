@@ -168,7 +168,7 @@ int advise(const Hive *h, uint32_t number, Advice *out);
 /* hints.c */
 void put_hints(FILE *to, const Hive *h, const Path *path, HiveAnswer a);
 
-/* export.c: the frames in runs, from the root on or, after export_below, of a key and what is below it. The hive is checked first. */
+/* verb_export.c: the frames in runs, from the root on or, after export_below, of a key and what is below it. The hive is checked first. */
 typedef struct {
     const Hive *h;
     HiveExport e;
@@ -225,7 +225,7 @@ int settle_beside(const char *path);
 /* copy.c: the copy of FILE before its repair, as the order asks for it: where it is, or NULL for none. map: the pages of the log. */
 int keep_copy(int fd, const Order *o, const Hive *h, Bytes map, const char **kept);
 
-/* repair.c */
+/* verb_repair.c */
 int recover(const Hive *h);
 
 /* progress.c: on a terminal, from one second on. */

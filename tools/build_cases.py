@@ -1,6 +1,6 @@
 """The cases of a hive from frames: python3 tools/build_cases.py FILE writes streams with the answer to each, for a test that has no Python.
 
-Each case states by hand the frame at fault and its number, or how many bytes of the built hive are in use; the model of build.py has to say the same, and the
+Each case states by hand the frame at fault and its number, or how many bytes of the built hive are in use; the model of build_model.py has to say the same, and the
 model of hives.py has to accept the hive and to export the stream again, or the script stops. The bytes of one hive stand in docs/LAYOUT.md. Standard library
 only.
 
@@ -14,10 +14,10 @@ import re
 import struct
 import zlib
 
-import build
+import build_model as build
 import hives
 import usage
-from build import NONE
+from build_model import NONE
 from hives import BASE, DATA_MOST, KEY_CLOSES, KEY_OPENS, KEY_VALUE, SEGMENT, framed, name_bytes, units
 
 out, seen = bytearray(), []

@@ -13,7 +13,7 @@
 #include <time.h>
 #include <unistd.h>
 
-#include "build.h"
+#include "fixtures.h"
 
 enum { MOST = 1 << 18, WORDS = 16, LENGTH = 4096, TOO_LONG = 20, WRITTEN = 64 << 20 };
 

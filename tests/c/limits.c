@@ -3,7 +3,7 @@
 #include <string.h>
 #include <sys/mman.h>
 
-#include "build.h"
+#include "fixtures.h"
 #include "expect.h"
 
 static const size_t BINS = 2147479552, FILE_LENGTH = 2147483648, MAP = 33554368;

@@ -5,7 +5,7 @@
 #include <string.h>
 #include <unistd.h>
 
-#include "build.h"
+#include "fixtures.h"
 
 static const char *folder;
 

@@ -1,5 +1,5 @@
 /* The calls of recovery with logs of Windows 8.1 and later: what each clause of an entry does to the log, and repairs. What is lent ends at an unreadable page. */
-#include "build.h"
+#include "fixtures.h"
 #include "expect.h"
 #include "lend.h"
 

@@ -1,5 +1,5 @@
 /* The bytes that a key names beside its lists and values: its class name and its security descriptor. What is lent ends at an unreadable page. */
-#include "build.h"
+#include "fixtures.h"
 #include "expect.h"
 #include "lend.h"
 

@@ -4,7 +4,7 @@
 
 #include <string.h>
 
-#include "build.h"
+#include "fixtures.h"
 
 static uint32_t get16(const uint8_t *p)
 {

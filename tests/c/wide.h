@@ -4,7 +4,7 @@
 
 #include <stdio.h>
 
-#include "build.h"
+#include "fixtures.h"
 
 enum { MOST = 65535, LONGEST_NAME = 16 };
 static uint32_t keys[MOST], leaves[MOST];

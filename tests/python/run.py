@@ -26,7 +26,7 @@ release, tool = os.path.abspath(sys.argv[1]), sys.argv[2:]
 sys.path[:0] = [os.path.join(release, "python"), os.path.join(os.path.dirname(os.path.abspath(__file__)), os.pardir, os.pardir, "tools")]
 sys.dont_write_bytecode = True
 
-import build as plain  # noqa: E402
+import build_model as plain  # noqa: E402
 import hives  # noqa: E402
 import kiweamotu  # noqa: E402
 from kiweamotu import Hive, Key, Refused, Unbuilt, Unsound, build, repair  # noqa: E402

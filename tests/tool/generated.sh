@@ -15,5 +15,5 @@ right 'generated: the larger hives and their lines' stored $(files crates/hive_r
 right 'generated: no stored hive that no script makes' [ "$(files crates/hive_runs/data crates/frame_ends/data)" = "$(cd "$top" && find crates/hive_runs/data crates/frame_ends/data -type f | LC_ALL=C sort)" ]
 right 'generated: repair_runs.py runs' written_anew repair_runs
 right 'generated: the repairs and their lines' stored $(files crates/repair_runs)
-right 'generated: build_cases.py runs' written_anew build_cases builds.cases
-right 'generated: the streams and their answers' cmp anew/builds.cases "$top/tests/c/builds.cases"
+right 'generated: build_cases.py runs' written_anew build_cases build_test.cases
+right 'generated: the streams and their answers' cmp anew/build_test.cases "$top/tests/c/build_test.cases"

@@ -1,7 +1,7 @@
 #include <stdlib.h>
 #include <string.h>
 
-#include "build.h"
+#include "fixtures.h"
 
 void put16(uint8_t *at, uint32_t n)
 {

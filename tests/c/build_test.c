@@ -5,7 +5,7 @@
 #include <sys/mman.h>
 #include <unistd.h>
 
-#include "build.h"
+#include "fixtures.h"
 #include "expect.h"
 #include "reading.h"
 #include "stack.h"
