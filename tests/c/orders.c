@@ -436,8 +436,8 @@ static void on_path(size_t length)
     say(" quick info: ", hive_quick_info(hive, hive_length, units, n, name, 1).answer);
     say(" quick view: ", hive_quick_view(hive, hive_length, units, n, name, 1).answer);
     say(" quick copy: ", hive_quick_copy(hive, hive_length, units, n, name, 1, out, ROOM).answer);
-    ordered(units, n);
     step_by_step(units, n, name);
+    ordered(units, n);
 }
 
 int main(void)
