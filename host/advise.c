@@ -14,13 +14,17 @@ static void advice(Advice *out, const char *what, const char *line)
 
 static const Bytes NONE = {(uint8_t *)"", 0};
 
+int ask_beside(const Hive *h, Log *logs, int *count, Choice *c)
+{
+    int status = logs_beside(h->file, base_name(h->file), strlen(base_name(h->file)), LOOK_HINT, logs, count);
+    return status == GOOD && *count > 0 ? choose(h->file, h->bytes, logs[0].bytes, *count > 1 ? logs[1].bytes : NONE, c) : status;
+}
+
 /* How many logs lie beside the hive, and what is chosen of them. */
-static int ask_beside(const Hive *h, int *n, Choice *c)
+static int ask(const Hive *h, int *n, Choice *c)
 {
     Log logs[2];
-    int status = logs_beside(h->file, base_name(h->file), strlen(base_name(h->file)), LOOK_HINT, logs, n);
-    if (status == GOOD && *n > 0)
-        status = choose(h->file, h->bytes, logs[0].bytes, *n > 1 ? logs[1].bytes : NONE, c);
+    int status = ask_beside(h, logs, n, c);
     for (int i = 0; i < *n; i++)
         drop_log(&logs[i]);
     return status;
@@ -33,7 +37,7 @@ static const char *repair_line(const Hive *h, bool grow)
 }
 
 /* Both ways, of which the first is that of the command which was given. */
-static void with_logs(const Hive *h, bool grow, Advice *out)
+void advise_logs(const Hive *h, bool grow, Advice *out)
 {
     Line l = {.beside = true, .grow = grow};
     if (!order_repairs())
@@ -41,20 +45,29 @@ static void with_logs(const Hive *h, bool grow, Advice *out)
     advice(out, order_repairs() ? "the logs beside it fit. Type" : "to repair it, type", repair_line(h, grow));
 }
 
+/* Of a dirty hive that no log lies beside. */
+static void no_log(const Hive *h, Advice *out)
+{
+    Line l = {.as_is = true};
+    advice(out, "no log lies beside it: look for FILE.LOG1 and FILE.LOG2, or FILE.LOG, where it was taken from, copy them beside it, and type", repair_line(h, false));
+    if (!order_repairs())
+        advice(out, "where they are lost, to read it as it is, without what they held, type", line_to_type(h->file, &l));
+}
+
 /* Of a hive that is not finished, or whose base block is damaged, and no log was asked. */
 static int without_log(const Hive *h, uint32_t number, Advice *out)
 {
     int n = 0;
     Choice c = {.chosen = CHOSE_NONE};
-    int status = ask_beside(h, &n, &c);
+    int status = ask(h, &n, &c);
     if (status != GOOD)
         return status;
     if (n > 0 && does_fit(&c))
-        with_logs(h, c.wanted > 0, out);
+        advise_logs(h, c.wanted > 0, out);
     else if (number == HIVE_FAULT_SEQUENCES && n > 0)
         advice(out, "what lies beside it as its log does not fit it: take FILE and its logs anew, all at one moment, and type", repair_line(h, false));
     else if (number == HIVE_FAULT_SEQUENCES)
-        advice(out, "no log lies beside it: look for FILE.LOG1 and FILE.LOG2, or FILE.LOG, where it was taken from, copy them beside it, and type", repair_line(h, false));
+        no_log(h, out);
     return GOOD;
 }
 
@@ -63,12 +76,12 @@ static int with_log(const Hive *h, uint32_t number, Advice *out)
 {
     int n = 0;
     Choice c = {.chosen = CHOSE_NONE};
-    int status = is_standard(h->file) ? GOOD : ask_beside(h, &n, &c);
+    int status = is_standard(h->file) ? GOOD : ask(h, &n, &c);
     if (status != GOOD)
         return status;
     Line alone = {.repair = order_repairs(), .only = true, .logs = {h->alone}, .count = 1};
     if (n > 0 && does_fit(&c))
-        with_logs(h, c.wanted > 0, out);
+        advise_logs(h, c.wanted > 0, out);
     else if (h->alone != NULL)
         advice(out, "both do not fit together, and one alone may leave out what belongs to it; to take one all the same, type", line_to_type(h->file, &alone));
     else if (number == HIVE_FAULT_LOG_BASE && h->log == NULL)

@@ -16,7 +16,7 @@ static const Reason REASONS[] = {
     [HIVE_FAULT_VERSION] = {false, false, "version, file type, format or clustering factor is not one that is read", "Wanted at bytes 20 to 47: major 1, minor 3 to 5, type 0, format 1, clustering factor 1. A log file given in place of the hive has type 1, 2 or 6."},
     [HIVE_FAULT_BINS_SIZE] = {false, false, "the size of the bins data is not possible", "The word at byte 40 is 0, no multiple of 4096, or over 2147479552."},
     [HIVE_FAULT_BINS_CUT] = {false, false, "the file ends before its bins do", "It was cut off: 4096 bytes and the size at byte 40 should be there. Copy it again."},
-    [HIVE_FAULT_SEQUENCES] = {false, false, "the two sequence numbers differ: give its log with --log, or repair it", "The words at bytes 4 and 8 differ: the last write was not finished, or the hive was taken from a running machine. Its logs are FILE.LOG1 and FILE.LOG2, or FILE.LOG, in the folder that it was taken from: copy them beside it. Then hive check --logs FILE, and --logs with the others that read, reads it as they would repair it and writes nothing; hive repair FILE repairs it and keeps a copy. A log elsewhere is given by its name, behind --log or behind FILE."},
+    [HIVE_FAULT_SEQUENCES] = {false, false, "the two sequence numbers differ: give its log with --log, or repair it", "The words at bytes 4 and 8 differ: the last write was not finished, or the hive was taken from a running machine. Its logs are FILE.LOG1 and FILE.LOG2, or FILE.LOG, in the folder that it was taken from: copy them beside it. Then hive check --logs FILE, and --logs with the others that read, reads it as they would repair it and writes nothing; hive repair FILE repairs it and keeps a copy. A log elsewhere is given by its name, behind --log or behind FILE. Where its logs are lost, hive check --as-is FILE, and --as-is with the others that read, reads what is there, without what they held."},
     [HIVE_FAULT_MAP_SMALL] = {false, false, "the work map is too small", "A program lent less than bins size / 64 bytes; this tool always lends enough."},
     [HIVE_FAULT_BIN_HEADER] = {true, false, "the header of a bin is wrong", "Wanted: \"hbin\", the bin's own offset, and a size that is a multiple of 4096 and ends inside the bins data."},
     [HIVE_FAULT_CELL_SIZE] = {true, false, "the size of a cell is not possible", "A cell's size is a nonzero multiple of 8 and stays inside its bin."},
@@ -81,6 +81,8 @@ static void put_words(FILE *to, const Hive *h, HiveAnswer a, const Path *path)
         fprintf(to, ": it has %zu bytes and needs %llu; --grow lengthens it with zeros", h->bytes.length, (unsigned long long)h->wanted);
     if (a.number == HIVE_FAULT_HIVE_CUT && h->wanted == 0)
         fputs(", and would not fit it if it were longer: this is another log", to);
+    if (a.number == HIVE_FAULT_SEQUENCES && is_standard(h->file))
+        fputs("; --as-is reads it without what its log held", to);
     if (reason_of(a.number)->placed) {
         unsigned long long at = 4096ull + a.place;
         fprintf(to, ", at offset %u (0x%x), which is byte %llu (0x%llx) of the file", a.place, a.place, at, at);
@@ -181,16 +183,17 @@ int check(const char *file, Bytes hive, HiveReport *out)
     return GOOD;
 }
 
+/* A dirty hive is never accepted, however sound what is there may be. */
 int report(const Hive *h, HiveReport r)
 {
     if (r.answer.number != 0)
         return refusal(h, r.answer, NULL);
-    say(h->file, "accepted");
+    say(h->file, h->as_is ? "dirty" : "accepted");
     say_number("bins", r.bins);
     say_number("keys", r.keys);
     say_number("values", r.values);
     say_number("used", r.used);
     say_number("free", r.free);
     say_end();
-    return GOOD;
+    return h->as_is ? REFUSED : GOOD;
 }

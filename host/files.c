@@ -166,10 +166,12 @@ static int from_input(const Order *o, const char *file)
     return n;
 }
 
-/* The hive as its file is, or, where a log was given, as the repair would leave it. The file is opened for reading only. */
+/* The hive as its file is, or, where a log was given, as the repair would leave it; or, where that is asked for, a dirty one as it is. The file is opened for
+ * reading only. */
 int read_hive(const Order *o, const char *file, Hive *out)
 {
     *out = (Hive){.file = file};
+    say_as_is(false);
     if (from_input(o, file) > 1)
         return misused("FILE and LOG cannot both be standard input");
     bool with_log = o->beside || o->log_count > 0;
@@ -178,6 +180,8 @@ int read_hive(const Order *o, const char *file, Hive *out)
     if (o->beside && o->log_count > 0)
         return misused("--log names a log, and --logs takes those beside FILE: give one of the two");
     int status = read_file(file, &out->bytes);
+    if (status == GOOD && o->as_is)
+        status = take_as_is(out);
     if (status == GOOD && with_log)
         status = take_logs(out, o->logs, o->log_count, o, read_file);
     return status == GOOD && with_log && out->log != NULL ? recover(out) : status;

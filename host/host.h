@@ -38,17 +38,18 @@ typedef struct {
     const char *verb, *logs[2], *backup, *prefix, *descriptor;
     int log_count;
     size_t nth; /* 0: none was given */
-    bool json, wide, dry, anyway, grow, utf8, any_length, beside, only_this_log, no_backup;
+    bool json, wide, dry, anyway, grow, utf8, any_length, beside, only_this_log, no_backup, as_is;
 } Order;
 
 /* A hive in memory, and the log that it is read or repaired with; log is its name, NULL where none was given, and started what hive_recover_start says of the two.
- * alone: of two that are refused together, one that would be accepted alone, or NULL. wanted: how long the log wants the file to be, where it is shorter, else 0. grown: the memory is that long already, with zeros at the end. */
+ * alone: of two that are refused together, one that would be accepted alone, or NULL. wanted: how long the log wants the file to be, where it is shorter, else 0. grown: the memory is that long already, with zeros at the end.
+ * as_is: it is dirty, and was settled in memory without its log. */
 typedef struct {
     const char *file, *log, *alone;
     Bytes bytes, logged;
     HiveRecovery started;
     uint64_t wanted;
-    bool grown;
+    bool grown, as_is;
 } Hive;
 
 /* A path as it was given, and its units. */
@@ -84,8 +85,10 @@ int read_order(int count, char **words, Order *out, Verb **verb);
 /* The verbs. */
 Verb check_verb, key_verb, list_verb, keys_verb, value_verb, export_verb, build_verb, reg_verb, deleted_verb, repair_verb, explain_verb;
 
-/* say.c: answers on standard output, as a line or as a JSON object; messages on standard error. Those that answer an int answer TROUBLE. */
+/* say.c: answers on standard output, as a line or as a JSON object; messages on standard error. Those that answer an int answer TROUBLE.
+ * say_as_is: whether what is said from here on is of a hive that is read as it is. */
 void say_as(bool json, bool many);
+void say_as_is(bool as_is);
 bool say_json(void);
 void say(const char *file, const char *answer);
 void say_number(const char *label, uint64_t n);
@@ -146,7 +149,7 @@ void put_key(FILE *to, const Hive *h, uint32_t key);
 /* next.c: what to type next, quoted for the shell. left_out: a log that is not named holds what the named one alone would lose; answers REFUSED, after its words.
  * order_is: the command that was given, which the lines repeat. */
 typedef struct {
-    bool repair, grow, only, beside, no_backup, again;
+    bool repair, grow, only, beside, no_backup, again, as_is;
     const char *logs[2];
     int count;
 } Line;
@@ -164,6 +167,9 @@ typedef struct {
     int count;
 } Advice;
 int advise(const Hive *h, uint32_t number, Advice *out);
+/* The logs beside the hive, which the caller drops, and what is chosen of them; and the lines to type where they fit, `grow` where the hive is lengthened. */
+int ask_beside(const Hive *h, Log *logs, int *count, Choice *c);
+void advise_logs(const Hive *h, bool grow, Advice *out);
 
 /* hints.c */
 void put_hints(FILE *to, const Hive *h, const Path *path, HiveAnswer a);
@@ -208,6 +214,9 @@ void drop_log(Log *log);
 /* logs.c. GOOD, TROUBLE or REFUSED, after a message: those that are named, or where none is those beside the hive. One log, or two that are one or of which one
  * fits. h->log stays NULL where there is none and none is needed. */
 int take_logs(Hive *h, const char *const *names, int count, const Order *o, Reader *reader);
+
+/* as_is.c: a dirty hive is settled in memory, after a warning; another stays as it was read. GOOD or TROUBLE. */
+int take_as_is(Hive *h);
 
 /* store.c. The same. */
 int open_kept(const char *path, int flags);

@@ -129,7 +129,8 @@ const char *line_to_type(const char *file, const Line *l)
     add_word(l->repair ? "repair" : given != NULL ? given->verb : "check");
     if (same)
         add_options(l);
-    add_if(l->grow || (same && given->grow), "--grow");
+    add_if(l->grow || (same && given->grow && !l->as_is), "--grow");
+    add_if(l->as_is, "--as-is");
     add_if(l->only, "--only-this-log");
     add_if(l->beside, "--logs");
     for (int i = 0; !l->repair && i < l->count; i++)

@@ -6,7 +6,7 @@
 #include "host.h"
 
 enum { LOG = 1, JSON = 2, WIDE = 4, NTH = 8, DRY_RUN = 16, BACKUP = 32, ANYWAY = 64, GROW = 128, PREFIX = 256, UTF8 = 512, DESCRIPTOR = 1024, ANY_LENGTH = 2048, BESIDE = 4096, ONLY = 8192, NO_BACKUP = 16384,
-       LOGGED = LOG | BESIDE | ONLY | GROW, NO_END = 1 << 30 };
+       AS_IS = 32768, READS = LOG | BESIDE | ONLY | GROW | AS_IS, NO_END = 1 << 30 };
 
 static const struct {
     const char *name, *wants;
@@ -14,15 +14,15 @@ static const struct {
     unsigned options;
     Verb *go;
 } VERBS[] = {
-    {"check", "FILE..", 1, NO_END, LOGGED | JSON, check_verb},
-    {"key", "FILE PATH", 2, 2, LOGGED | JSON | WIDE, key_verb},
-    {"ls", "FILE [PATH]", 1, 2, LOGGED | JSON | WIDE, list_verb},
-    {"keys", "FILE [PATH]", 1, 2, LOGGED | JSON | ANY_LENGTH, keys_verb},
-    {"value", "FILE PATH NAME [OUT]", 3, 4, LOGGED | JSON | NTH, value_verb},
-    {"export", "FILE [OUT]", 1, 2, LOGGED | JSON | ANY_LENGTH, export_verb},
+    {"check", "FILE..", 1, NO_END, READS | JSON, check_verb},
+    {"key", "FILE PATH", 2, 2, READS | JSON | WIDE, key_verb},
+    {"ls", "FILE [PATH]", 1, 2, READS | JSON | WIDE, list_verb},
+    {"keys", "FILE [PATH]", 1, 2, READS | JSON | ANY_LENGTH, keys_verb},
+    {"value", "FILE PATH NAME [OUT]", 3, 4, READS | JSON | NTH, value_verb},
+    {"export", "FILE [OUT]", 1, 2, READS | JSON | ANY_LENGTH, export_verb},
     {"build", "FRAMES OUT", 2, 2, DESCRIPTOR | JSON, build_verb},
-    {"reg", "FILE [PATH]", 1, 2, LOGGED | PREFIX | UTF8 | ANY_LENGTH, reg_verb},
-    {"deleted", "FILE", 1, 1, LOGGED | JSON, deleted_verb},
+    {"reg", "FILE [PATH]", 1, 2, READS | PREFIX | UTF8 | ANY_LENGTH, reg_verb},
+    {"deleted", "FILE", 1, 1, READS | JSON, deleted_verb},
     {"repair", "FILE [LOG [LOG2]]", 1, NO_END, ONLY | GROW | JSON | DRY_RUN | BACKUP | NO_BACKUP | ANYWAY, repair_verb},
     {"explain", "N", 1, 1, 0, explain_verb},
 };
@@ -36,7 +36,7 @@ static const struct {
     {"--log", "a LOG", LOG}, {"--json", NULL, JSON}, {"-l", NULL, WIDE}, {"--nth", "a number", NTH},
     {"--dry-run", NULL, DRY_RUN}, {"--backup", "a COPY", BACKUP}, {"--anyway", NULL, ANYWAY}, {"--grow", NULL, GROW},
     {"--prefix", "a KEY", PREFIX}, {"--utf8", NULL, UTF8}, {"--descriptor", "a FILE", DESCRIPTOR}, {"--any-length", NULL, ANY_LENGTH},
-    {"--logs", NULL, BESIDE}, {"--only-this-log", NULL, ONLY}, {"--no-backup", NULL, NO_BACKUP},
+    {"--logs", NULL, BESIDE}, {"--only-this-log", NULL, ONLY}, {"--no-backup", NULL, NO_BACKUP}, {"--as-is", NULL, AS_IS},
 };
 enum { OPTION_COUNT = sizeof OPTIONS / sizeof OPTIONS[0] };
 
@@ -71,6 +71,7 @@ static int take(Order *o, unsigned bit, const char *word)
     o->beside |= bit == BESIDE;
     o->only_this_log |= bit == ONLY;
     o->no_backup |= bit == NO_BACKUP;
+    o->as_is |= bit == AS_IS;
     if (bit == BACKUP)
         o->backup = word;
     if (bit == PREFIX)
@@ -120,5 +121,7 @@ int read_order(int count, char **words, Order *o, Verb **verb)
         return misused("%s wants %s, and a word is missing", words[0], VERBS[v].wants);
     if (status == GOOD && o->count > VERBS[v].most)
         return misused("%s wants %s, and \"%s\" is a word too many", words[0], VERBS[v].wants, o->words[VERBS[v].most]);
+    if (status == GOOD && o->as_is && (o->beside || o->log_count > 0))
+        return misused("--as-is reads FILE without its log, and %s with it: give one of the two", o->beside ? "--logs" : "--log");
     return status;
 }

@@ -7,7 +7,7 @@
 
 /* replaced: something that no JSON string can hold stands in this object as U+FFFD. */
 static struct {
-    bool json, many, replaced;
+    bool json, many, replaced, as_is;
     uint64_t bytes;
 } shape;
 
@@ -15,6 +15,11 @@ void say_as(bool json, bool many)
 {
     shape.json = json;
     shape.many = many;
+}
+
+void say_as_is(bool as_is)
+{
+    shape.as_is = as_is;
 }
 
 bool say_json(void)
@@ -152,6 +157,8 @@ void say_path(const Name *way, size_t count)
 
 void say_end(void)
 {
+    if (shape.json && shape.as_is)
+        fputs(",\"as_is\":true", stdout);
     if (shape.json)
         fputs(shape.replaced ? ",\"replaced\":true}" : "}", stdout);
     putchar('\n');

@@ -255,7 +255,7 @@ static void write_torn(const Made *good)
     write_file("torn-log2", second.at, second.length);
 }
 
-/* The sample as a log leaves it that ends with that number, and the spoilt one with that second number. */
+/* The sample as a log leaves it that ends with that number, the sample that looks as if a store had been cut, and the spoilt one with that second number. */
 static void write_numbered(const char *name, const uint8_t *file, size_t length, uint32_t first, uint32_t second)
 {
     uint8_t *copy = malloc(length);
@@ -584,6 +584,7 @@ int main(int count, char **words)
     write_logs(&good, pages, 8);
     write_new_logs(&good, pages);
     write_torn(&good);
+    write_numbered("dirty", good.file, n, 8, 7);
     write_numbered("sample-8", good.file, n, 8, 8);
     write_numbered("sample-10", good.file, n, 10, 10);
     write_numbered("spoilt-8", spoilt(&good, pages, 8), n, 9, 8);

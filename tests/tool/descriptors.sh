@@ -63,6 +63,9 @@ else
     closed 'check, standard input' 1 '*[01]*' spoilt check -
     closed 'check, no file' 2 $never spoilt check nothing
     closed 'check, with its log' 0 '*1*' spoilt check --log log file
+    closed 'check, as it is' 1 '*1*' spoilt check --as-is dirty
+    closed 'keys, as it is' 0 '*1*' spoilt keys --as-is dirty
+    closed 'export, as it is' 0 '*1*' spoilt export --as-is dirty made
     closed 'key' 0 '*1*' spoilt key -l sample "$print"
     closed 'ls' 0 '*1*' spoilt ls sample
     closed 'keys' 0 '*1*' spoilt keys sample
