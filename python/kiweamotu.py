@@ -107,7 +107,7 @@ WORDS = {
     39: "the hive would be longer than a hive can be",
 }
 PLACED = frozenset((9, 10, 11, 12, 13, 14, 15, 19, 28, 29))
-ORDER, PARENT, LEVEL, SEGMENTED, SHORT = 13, 14, 15, 19, 24
+SEQUENCES, ORDER, PARENT, LEVEL, SEGMENTED, SHORT = 7, 13, 14, 15, 19, 24
 SPOTTED = range(30, 39)  # those that have a byte of the stream
 
 # O:BAG:SYD:(A;CI;KA;;;SY)(A;CI;KA;;;BA)(A;CI;KR;;;BU), self-relative: the descriptor of a built hive where none is given.
@@ -765,7 +765,8 @@ class Hive:
     """A hive in memory: the file of that name, or bytes that are lent. With a log, also a name or bytes, or a list of two, it is read as its log would
     repair it; nothing is written, not even to the bytes that were lent. `logs`: with the logs that lie beside the file, NAME.LOG1 and NAME.LOG2, or
     NAME.LOG, whatever the case of their letters. `grow`: where the log wants a longer hive, it is lengthened with zeros. Where one log is named, and another
-    beside it would be left out, LeftOut is raised, unless `only_this_log`.
+    beside it would be left out, LeftOut is raised, unless `only_this_log`. `as_is`: without a log, a dirty hive is read as it is, with what its log held
+    missing; then `dirty` is True, and nothing is written either. Of any other hive `as_is` changes nothing.
 
     >>> Hive("spoilt").check()
     Traceback (most recent call last):
@@ -773,13 +774,22 @@ class Hive:
     kiweamotu.Refused: refused 7: the two sequence numbers differ: give its log, or repair it
     >>> Hive("spoilt", log="log").check() == Hive("sample").check()
     True
+    >>> Hive("dirty", as_is=True).dirty, Hive("sample", as_is=True).dirty
+    (True, False)
     """
 
-    def __init__(self, source: Source, log: Optional[Sources] = None, *, logs: bool = False, only_this_log: bool = False, grow: bool = False) -> None:
+    def __init__(self, source: Source, log: Optional[Sources] = None, *, logs: bool = False, only_this_log: bool = False, grow: bool = False,
+                 as_is: bool = False) -> None:
+        if as_is and (log is not None or logs):
+            raise ValueError("as_is reads the hive without its log, and log and logs with it: give one of them")
         owner, path = _contents(source), _path_of(source)
         if log is not None or logs:
             owner = owner if path is not None else bytearray(owner)
             owner = _recover(_choose(owner, path, log, logs, grow, only_this_log))
+        self.dirty = as_is and _is_dirty(owner)
+        if self.dirty:
+            owner = owner if path is not None else bytearray(owner)
+            settle(owner)
         self._lent = _Lent(owner)
         self._memory = self._lent.memory
         self._view = memoryview(owner).cast("B").toreadonly()
@@ -810,7 +820,8 @@ class Hive:
                      lambda out: _library.hive_copy_at(*self._memory, offset, *out))
 
     def check(self) -> Report:
-        """Checks the hive wholly. What it answers is proved to be exact: a Report where the hive is clean and well formed, else Refused.
+        """Checks the hive wholly. What it answers is proved to be exact: a Report where the hive is clean and well formed, else Refused. Of one that is
+        `dirty`, and so is read as it is, a Report says that what is there is well formed, and not that the file is.
 
         >>> Hive("minimal").check()
         Report(bins=1, keys=1, values=0, used=112, free=3952)
@@ -1022,6 +1033,12 @@ def settle(hive: Any) -> bool:
     done = _library.hive_settle(*lent.memory)
     _allow(done.answer)
     return done.state == DONE
+
+
+def _is_dirty(hive: Any) -> bool:
+    """Whether 7 is its only fault of 1 to 7, by the reader's own tests of the base block."""
+    lent = _Lent(hive)
+    return _library.hive_find_key(*lent.memory, *_units("")).number == SEQUENCES
 
 
 class _Start:

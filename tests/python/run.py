@@ -175,6 +175,32 @@ def settled():
 
 
 @test
+def as_it_is():
+    """a dirty hive is read as it is where that is asked for, in memory of its own, and says so; other hives are read as ever; never with a log"""
+    clean, dirty = Hive("sample"), bytes_of("dirty")
+    expect((refusal(Hive("dirty").check)[0], refusal(Hive(dirty).check)[0], clean.dirty, Hive("dirty").dirty), (7, 7, False, False))
+    for source in ("dirty", dirty, bytearray(dirty), memoryview(dirty)):
+        hive = Hive(source, as_is=True)
+        expect((hive.dirty, hive.check(), hive.export()), (True, clean.check(), clean.export()))
+        expect([key.path for key in hive.keys()], [key.path for key in clean.keys()])
+        expect((hive.value(PRINT, "Big").decoded, list(hive.deleted())), (258, list(clean.deleted())))
+        expect(bytes_of(source) if isinstance(source, str) else bytes(source), dirty)
+    owned = bytearray(bytes_of("sample"))
+    sound = Hive(owned, as_is=True)
+    expect((sound.dirty, sound.check(), sound._memory[0]), (False, clean.check(), ctypes.addressof(ctypes.c_char.from_buffer(owned))))
+    for file, number in (("cut", 6), ("empty", 1), ("log", 4)):
+        hive = Hive(file, as_is=True)
+        expect((hive.dirty, refusal(hive.check)[0]), (False, number))
+    spoilt = Hive("spoilt", as_is=True)
+    expect((spoilt.dirty, refusal(spoilt.check)[0] > 8), (True, True))
+    for named in ({"log": "log"}, {"logs": True}, {"log": "log", "logs": True}):
+        expect(trouble(Hive, "dirty", as_is=True, **named), (ValueError, "as_is reads the hive without its log, and log and logs with it: give one of them"))
+    for file in ("dirty", "sample"):
+        lines = subprocess.run(tool + ["check", "--json", "--as-is", file], stdout=subprocess.PIPE, stderr=subprocess.DEVNULL).stdout.decode()
+        expect((json.loads(lines).get("as_is", False), json.loads(lines)["answer"]), (Hive(file, as_is=True).dirty, "dirty" if file == "dirty" else "accepted"))
+
+
+@test
 def words():
     """its words for every refusal are the tool's"""
     numbers = re.findall(r"HIVE_FAULT_\w+ = (\d+),", bytes_of(os.path.join(release, "include", "kiweamotu.h")).decode())
