@@ -209,6 +209,7 @@ else
     same "coming from: text, README's example" found wanted
     try 'coming from: with its log' 0 'accepted bins 1 keys 7 values 5 used 1152 free 2912' '' hive check --log TORN.LOG TORN
     try 'coming from: damaged' 1 "$(printf '%s\n' 'TORN: refused 7 at 0' 'BAD: refused 10 at 32' 'CUT: refused 6 at 0')" 'differ' hive check TORN BAD CUT
+    try 'coming from: damaged, as it is' 1 'refused 10 at 576' 'what its log held is missing' hive check --as-is TORN
     try 'coming from: deleted records' 0 "$(printf '%s\n' 'key at 208 length 4 gone' 'value at 312 length 6 secret')" '' hive deleted DELETED
     try 'coming from: deleted records are not judged' 0 'accepted bins 1 keys 2 values 0 used 296 free 3768' '' hive check DELETED
     try 'coming from: with two logs' 0 "$(printf 'repaired 3\n%s' 'accepted bins 1 keys 7 values 5 used 1152 free 2912')" 'next: put it where it belongs' hive repair --no-backup NEW NEW.LOG1 NEW.LOG2
