@@ -1,4 +1,4 @@
-/* How much export, reg and keys write of one file: keys may share lists, and values their data, so a small file may hold more than a disk does. */
+/* How much export, reg, keys and dump write of one file: keys may share lists, and values their data, so a small file may hold more than a disk does. */
 #include "host.h"
 
 /* The tests have a tool with another. */

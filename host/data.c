@@ -52,8 +52,11 @@ static void each_string(uint32_t kind, Bytes data, void (*show)(Name, size_t))
 
 static void put_hex(Bytes data)
 {
-    for (size_t i = 0; i < data.length; i++)
-        printf("%02x", data.at[i]);
+    static const char digits[] = "0123456789abcdef";
+    for (size_t i = 0; i < data.length; i++) {
+        putchar(digits[data.at[i] >> 4]);
+        putchar(digits[data.at[i] & 15]);
+    }
 }
 
 static void print_hex(Bytes data)
@@ -79,27 +82,65 @@ static void print_string(Name text, size_t n)
     putchar('\n');
 }
 
-/* Little-endian, or big-endian. */
-static void print_number(Bytes data, bool big)
+/* Little-endian, or big-endian, where its type is a number's and its length that of the type. */
+bool is_number(uint32_t kind, Bytes data, uint64_t *out)
 {
-    uint64_t n = 0;
-    for (size_t i = 0; i < data.length; i++)
-        n = n * 256 + data.at[big ? i : data.length - 1 - i];
-    printf("%llu (0x%llx)\n", (unsigned long long)n, (unsigned long long)n);
+    *out = 0;
+    for (size_t i = 0; i < data.length && i < 8; i++)
+        *out = *out * 256 + data.at[kind == DWORD_BIG_ENDIAN ? i : data.length - 1 - i];
+    return (data.length == 4 && (kind == DWORD || kind == DWORD_BIG_ENDIAN)) || (data.length == 8 && kind == QWORD);
+}
+
+static void print_number(uint64_t n)
+{
+    printf("%llu (0x%llx)", (unsigned long long)n, (unsigned long long)n);
 }
 
 void print_data(const char *file, uint32_t kind, Bytes data)
 {
+    uint64_t n;
     if (is_text(kind, data)) {
         each_string(kind, data, print_string);
         if (data.length % 2 != 0) {
             print_hex((Bytes){data.at + data.length - 1, 1});
             note(file, "the last byte of the data is no part of a string and is shown in hexadecimal");
         }
-    } else if ((data.length == 4 && (kind == DWORD || kind == DWORD_BIG_ENDIAN)) || (data.length == 8 && kind == QWORD))
-        print_number(data, kind == DWORD_BIG_ENDIAN);
-    else
+    } else if (is_number(kind, data, &n)) {
+        print_number(n);
+        putchar('\n');
+    } else
         print_hex(data);
+}
+
+static void put_code(FILE *to, uint32_t c)
+{
+    if (c == '\\')
+        fputc('\\', to);
+    if (is_hidden(c))
+        put_escape(to, c);
+    else
+        put_utf8(to, c);
+}
+
+/* A tab stands in no string: there it is a code. So it ends the one before it. */
+static void put_string(Name text, size_t n)
+{
+    fputs(n > 0 ? "\t\"" : "\"", stdout);
+    for (size_t i = 0; i < unit_count(text);)
+        put_code(stdout, next_code(text, &i));
+    putchar('"');
+}
+
+/* On one line: text in quotes, as a value's name is written; of an odd length, which is no text, in hexadecimal. */
+void put_line_data(uint32_t kind, Bytes data)
+{
+    uint64_t n;
+    if (is_text(kind, data) && data.length % 2 == 0)
+        each_string(kind, data, put_string);
+    else if (is_number(kind, data, &n))
+        print_number(n);
+    else
+        put_hex(data);
 }
 
 static void say_string(Name text, size_t n)

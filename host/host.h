@@ -83,10 +83,10 @@ typedef int Verb(const Order *);
 int read_order(int count, char **words, Order *out, Verb **verb);
 
 /* The verbs. */
-Verb check_verb, key_verb, list_verb, keys_verb, value_verb, export_verb, build_verb, reg_verb, deleted_verb, repair_verb, explain_verb;
+Verb check_verb, key_verb, list_verb, keys_verb, value_verb, export_verb, build_verb, reg_verb, dump_verb, deleted_verb, repair_verb, explain_verb;
 
 /* say.c: answers on standard output, as a line or as a JSON object; messages on standard error. Those that answer an int answer TROUBLE.
- * say_as_is: whether what is said from here on is of a hive that is read as it is. */
+ * say_as_is: whether what is said from here on is of a hive that is read as it is. say_much: from here on many lines are written at once. */
 void say_as(bool json, bool many);
 void say_as_is(bool as_is);
 bool say_json(void);
@@ -97,7 +97,9 @@ void say_only(const char *label, uint64_t n);
 void say_word(const char *label, const char *word);
 void say_name(Name name, enum Style style);
 void say_path(const Name *way, size_t count);
+void say_value_name(Name name);
 void say_end(void);
+void say_much(void);
 uint64_t said_bytes(void);
 void put_json_name(FILE *to, Name name);
 int trouble(const char *file, const char *format, ...) __attribute__((format(printf, 2, 3)));
@@ -125,6 +127,8 @@ int name_units(const char *text, Units *out);
 /* data.c */
 void print_data(const char *file, uint32_t kind, Bytes data);
 void say_data(uint32_t kind, Bytes data);
+void put_line_data(uint32_t kind, Bytes data);
+bool is_number(uint32_t kind, Bytes data, uint64_t *out);
 const char *kind_name(uint32_t kind, char *room);
 
 /* stamp.c */
@@ -183,6 +187,23 @@ typedef struct {
 int export_begin(const Hive *h, Export *out);
 void export_below(Export *x, uint32_t key);
 int export_next(void *of, Bytes *piece);
+
+/* frames.c: the frames of an export, and the keys that are open while they are read: their names in UTF-16LE on the way down, the root's left out, and how many
+ * they are with the root. A frame's payload is as docs/FRAMES.md has it. */
+enum { FRAME_KEY = 16, FRAME_VALUE = 17, FRAME_END = 18 };
+typedef struct {
+    Name names[LEVELS];
+    size_t level;
+} Way;
+extern Way open_keys;
+uint32_t word_at(const uint8_t *at);
+void enter_key(Name name);
+void leave_key(void);
+/* From the key at PATH on: those above it are open from the start, by `enter`, and no frame comes for them. */
+int go_below(Export *x, const Path *path, void (*enter)(Name));
+/* All frames to `show`, until it answers other than GOOD or `to` cannot be written. */
+typedef int Frame(const Hive *h, uint32_t kind, uint8_t *payload, size_t length);
+int each_frame(Export *x, FILE *to, Frame *show);
 
 /* bound.c: how many bytes may be written of a hive; and what is said where they are more, which answers TROUBLE. */
 uint64_t bound_of(const Order *o, const Hive *h);

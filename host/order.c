@@ -22,6 +22,7 @@ static const struct {
     {"export", "FILE [OUT]", 1, 2, READS | JSON | ANY_LENGTH, export_verb},
     {"build", "FRAMES OUT", 2, 2, DESCRIPTOR | JSON, build_verb},
     {"reg", "FILE [PATH]", 1, 2, READS | PREFIX | UTF8 | ANY_LENGTH, reg_verb},
+    {"dump", "FILE [PATH]", 1, 2, READS | JSON | ANY_LENGTH, dump_verb},
     {"deleted", "FILE", 1, 1, READS | JSON, deleted_verb},
     {"repair", "FILE [LOG [LOG2]]", 1, NO_END, ONLY | GROW | JSON | DRY_RUN | BACKUP | NO_BACKUP | ANYWAY, repair_verb},
     {"explain", "N", 1, 1, 0, explain_verb},
@@ -105,7 +106,7 @@ int read_order(int count, char **words, Order *o, Verb **verb)
     while (v < VERB_COUNT && strcmp(words[0], VERBS[v].name) != 0)
         v++;
     if (v == VERB_COUNT)
-        return misused("\"%s\" is none of check, key, ls, keys, value, export, build, reg, deleted, repair and explain", words[0]);
+        return misused("\"%s\" is none of check, key, ls, keys, value, export, build, reg, dump, deleted, repair and explain", words[0]);
     *o = (Order){.words = words, .verb = VERBS[v].name};
     for (int i = 1; i < count && status == GOOD; i++) {
         if (options && strcmp(words[i], "--") == 0)

@@ -7,9 +7,13 @@
 
 /* replaced: something that no JSON string can hold stands in this object as U+FFFD. */
 static struct {
-    bool json, many, replaced, as_is;
-    uint64_t bytes;
+    bool json, many, replaced, as_is, much;
+    uint64_t bytes, kept;
 } shape;
+
+/* Where much is said lines lie in the buffer until they are so many bytes; `kept` is how many lie there. With room for any one line: 1 MiB of data, in hexadecimal and
+ * as strings, where two bytes may take six; 512 names of 255 characters, twice, where one may have 16. */
+enum { KEPT_MOST = 1 << 16, LINE_ROOM = 1 << 23 };
 
 void say_as(bool json, bool many)
 {
@@ -115,9 +119,9 @@ void say_word(const char *label, const char *word)
 }
 
 /* A name, or a key's path, as the tool reads it, which loses nothing. */
-static void say_notation(const Name *way, size_t count, enum Style style)
+static void say_notation(const char *label, const Name *way, size_t count, enum Style style)
 {
-    fputs(",\"notation\":\"", stdout);
+    printf(",\"%s\":\"", label);
     if (style == KEY_NAME)
         spell_path(stdout, way, count, put_json_code);
     else
@@ -135,7 +139,7 @@ void say_name(Name name, enum Style style)
     fputs(",\"name\":", stdout);
     put_json_name(stdout, name);
     if (shape.replaced)
-        say_notation(&name, 1, style);
+        say_notation("notation", &name, 1, style);
 }
 
 /* A key's path: the names on the way, which alone stand on a line. */
@@ -152,7 +156,32 @@ void say_path(const Name *way, size_t count)
     }
     fputc('"', stdout);
     if (shape.replaced)
-        say_notation(way, count, KEY_NAME);
+        say_notation("notation", way, count, KEY_NAME);
+}
+
+/* In an object that has its key's path, whose notation stands there already. */
+void say_value_name(Name name)
+{
+    bool before = shape.replaced;
+    shape.replaced = false;
+    fputs(",\"name\":", stdout);
+    put_json_name(stdout, name);
+    if (shape.replaced)
+        say_notation("name_notation", &name, 1, VALUE_NAME);
+    shape.replaced |= before;
+}
+
+static void let_go(void)
+{
+    fflush(stdout);
+    shape.kept = 0;
+}
+
+void say_much(void)
+{
+    static char line[LINE_ROOM];
+    setvbuf(stdout, line, _IOFBF, sizeof line);
+    shape.much = true;
 }
 
 void say_end(void)
@@ -162,8 +191,11 @@ void say_end(void)
     if (shape.json)
         fputs(shape.replaced ? ",\"replaced\":true}" : "}", stdout);
     putchar('\n');
-    shape.bytes += __fpending(stdout);
-    fflush(stdout);
+    uint64_t lie = __fpending(stdout);
+    shape.bytes += lie - shape.kept;
+    shape.kept = lie;
+    if (!shape.much || lie > KEPT_MOST)
+        let_go();
 }
 
 /* How many bytes the lines have that were said: exact where standard output has a buffer that holds each of them whole. */
@@ -175,7 +207,7 @@ uint64_t said_bytes(void)
 void note(const char *file, const char *words)
 {
     work_ends();
-    fflush(stdout);
+    let_go();
     fputs("hive: ", stderr);
     if (file != NULL) {
         put_argument(stderr, file);

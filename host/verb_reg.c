@@ -3,9 +3,8 @@
 
 #include "host.h"
 
-enum { KEY_OPENS = 16, VALUE = 17 }; /* kinds of frames; the third, 18, closes a key */
 enum { SZ = 1, BINARY = 3, DWORD = 4 };
-enum { LINE_MOST = 77, NAME_MOST = 510 }; /* characters before a continuation; bytes of a key's name */
+enum { LINE_MOST = 77 }; /* characters before a continuation */
 
 /* WIDE: UTF-16LE with its mark, as regedit writes it. PLAIN: UTF-8. SHOWN: that, with what is hidden as codes. */
 enum Form { WIDE, PLAIN, SHOWN };
@@ -21,13 +20,8 @@ static struct {
     bool in_key, left_out, untold, replaced;
 } text;
 
-/* The keys that are open, by their names in UTF-16LE, the root's left out. level: how many they are, with the root. unsaid: the level of the
- * key that is left out with all below it, else 0. */
-static struct {
-    uint8_t room[LEVELS * NAME_MOST];
-    Name names[LEVELS];
-    size_t level, unsaid;
-} way;
+/* The level of the key that is left out with all below it, else 0. */
+static size_t unsaid;
 
 static void put_unit(uint32_t unit)
 {
@@ -111,11 +105,6 @@ static bool is_one_string(Bytes data)
     return n >= 2 && n % 2 == 0 && data.at[n - 2] == 0 && data.at[n - 1] == 0 && fits_line((Name){data.at, n - 2, false});
 }
 
-static uint32_t word_at(const uint8_t *at)
-{
-    return at[0] | at[1] << 8 | at[2] << 16 | (uint32_t)at[3] << 24;
-}
-
 /* The first stands on its line whatever is before it; another where it fits, with its comma if one follows. */
 static void put_bytes(Bytes data)
 {
@@ -158,9 +147,9 @@ static void put_key_line(void)
 {
     put_text("[");
     put_key_name(text.prefix);
-    for (size_t i = 0; i + 1 < way.level; i++) {
+    for (size_t i = 0; i + 1 < open_keys.level; i++) {
         put_text("\\");
-        put_key_name(way.names[i]);
+        put_key_name(open_keys.names[i]);
     }
     put_text("]");
     end_line();
@@ -189,7 +178,7 @@ static void leave_out(const Name *value)
         fputs(" of ", to);
     }
     fputs("the key \\", to);
-    put_path(to, way.names, way.level - 1);
+    put_path(to, open_keys.names, open_keys.level - 1);
     fputs(value != NULL ? " is left out: no line can hold its name" : " is left out, with all below it: no line can hold its name", to);
     note(text.file, words_end(to));
 }
@@ -197,26 +186,18 @@ static void leave_out(const Name *value)
 /* A key opens. The first that does is the root, whose own name is not shown. */
 static void enter(Name name)
 {
-    size_t at = way.level++;
-    if (at == 0)
-        return;
-    uint8_t *to = way.room + (at - 1) * NAME_MOST;
-    way.names[at - 1] = (Name){to, 2 * unit_count(name), false};
-    for (size_t i = 0; i < unit_count(name); i++) {
-        to[2 * i] = (uint8_t)unit_at(name, i);
-        to[2 * i + 1] = (uint8_t)(unit_at(name, i) >> 8);
-    }
-    if (way.unsaid == 0 && !fits_line(name)) {
-        way.unsaid = way.level;
+    enter_key(name);
+    if (open_keys.level > 1 && unsaid == 0 && !fits_line(name)) {
+        unsaid = open_keys.level;
         leave_out(NULL);
     }
 }
 
 static void leave(void)
 {
-    if (way.unsaid == way.level)
-        way.unsaid = 0;
-    way.level--;
+    if (unsaid == open_keys.level)
+        unsaid = 0;
+    leave_key();
 }
 
 static void put_value(uint8_t *payload, size_t length)
@@ -236,43 +217,30 @@ static void put_value(uint8_t *payload, size_t length)
     end_line();
 }
 
-static void put_frame(uint32_t kind, uint8_t *payload, size_t length)
+static void put_key_frame(uint32_t kind, uint8_t *payload, size_t length)
 {
-    if (kind == VALUE) {
-        if (way.unsaid == 0)
-            put_value(payload, length);
-        return;
-    }
     end_key();
-    if (kind != KEY_OPENS) {
+    if (kind != FRAME_KEY) {
         leave();
         return;
     }
     enter((Name){payload + 8, length - 8, false});
-    if (way.unsaid == 0)
+    if (unsaid == 0)
         put_key_line();
 }
 
-static int put_piece(const Hive *h, Bytes piece)
+static int put_frame(const Hive *h, uint32_t kind, uint8_t *payload, size_t length)
 {
-    for (size_t i = 0, length; i < piece.length; i += 6 + length) {
-        length = word_at(piece.at + i);
-        put_frame(piece.at[i + 4], piece.at + i + 6, length);
-        if (text.bytes > text.bound)
-            return past_bound(h, text.bound);
-    }
-    return GOOD;
+    if (kind != FRAME_VALUE)
+        put_key_frame(kind, payload, length);
+    else if (unsaid == 0)
+        put_value(payload, length);
+    return text.bytes > text.bound ? past_bound(h, text.bound) : GOOD;
 }
 
 static int put_frames(Export *x)
 {
-    Bytes piece;
-    int status = export_next(x, &piece);
-    while (status == GOOD && piece.length > 0 && !ferror(text.to)) {
-        status = put_piece(x->h, piece);
-        if (status == GOOD)
-            status = export_next(x, &piece);
-    }
+    int status = each_frame(x, text.to, put_frame);
     if (fflush(text.to) != 0 || ferror(text.to))
         return trouble("standard output", "it cannot be written");
     return status;
@@ -294,25 +262,6 @@ static int put_all(Export *x)
     if (status == GOOD && text.untold)
         return TROUBLE;
     return status == GOOD && (text.left_out || text.replaced) ? UNSAID : status;
-}
-
-/* The keys above the one at PATH are open from the start, and no line is written for them. */
-static int go_below(Export *x, const Path *path)
-{
-    Name up[LEVELS];
-    Bytes b = x->h->bytes;
-    HiveAnswer a = hive_find_key(b.at, b.length, path->units.at, path->units.length);
-    if (a.number != 0)
-        return refusal(x->h, a, path);
-    int level = climb(x->h, a.value, up);
-    if (level < 0)
-        return trouble(x->h->file, "the parent fields of the key at %u do not lead to the root", a.value);
-    if (level > 0)
-        enter((Name){NULL, 0, false});
-    for (int i = level - 1; i > 0; i--)
-        enter(up[i]);
-    export_below(x, a.value);
-    return GOOD;
 }
 
 /* A key's path, as PATH can be given: no part of it is empty, and it can stand in a line that does not begin with [-, which deletes a key. */
@@ -348,7 +297,7 @@ int reg_verb(const Order *o)
     if (status == GOOD)
         status = export_begin(&h, &x);
     if (status == GOOD)
-        status = go_below(&x, &path);
+        status = go_below(&x, &path, enter);
     text.bound = bound_of(o, &h);
     return status == GOOD ? put_all(&x) : status;
 }

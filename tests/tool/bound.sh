@@ -1,4 +1,4 @@
-# How much export, reg and keys write of one file: in a tool that writes freely up to 4 KiB, where a hundred times the file is what counts; and in the tool itself.
+# How much export, reg, keys and dump write of one file: in a tool that writes freely up to 4 KiB, where a hundred times the file is what counts; and in the tool itself.
 
 to_part() { run "$out/hive-bound" "$@" >part; }
 # pad LENGTH: zeros behind the hive, up to that length
@@ -28,9 +28,16 @@ bound shared export
 bound shared reg
 bound shared reg --utf8
 bound paths keys
+bound shared dump
+bound paths dump
 to_json() { to_part "$@" && false || tail -n 1 part; }
 try 'bound: in JSON' 0 '{"file":"paths","answer":"trouble","words":"what it holds takes more than 12697600 bytes, over 1 GiB and over a hundred times the file, and no more is written: much of it is shared in the file; --any-length writes all of it"}' \
     'paths: what it holds' to_json keys --json paths
+try 'bound: dump in JSON' 0 "{\"file\":\"shared\",\"answer\":\"trouble\",\"words\":\"what it holds takes more than $(wc -c <shared)00 bytes, over 1 GiB and over a hundred times the file, and no more is written: much of it is shared in the file; --any-length writes all of it\"}" \
+    'shared: what it holds' to_json dump --json shared
+try 'bound: dump in JSON, and wanted' 0 '' '' to_part dump --json --any-length shared
+hive dump --any-length --json shared >all
+same 'bound: dump in JSON, all of it' part all
 bounded() { run "$out/hive-bound" "$@"; }
 try 'bound: export to a file' 2 '' '--any-length writes all of it' bounded export shared shared.frames
 right 'bound: nothing is left of it' [ "$(echo shared.frames*)" = 'shared.frames*' ]

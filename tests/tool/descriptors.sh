@@ -84,6 +84,9 @@ else
     closed 'reg' 0 '*1*' spoilt reg sample
     closed 'reg, not all of it' 4 '*1*' spoilt reg --utf8 reg
     closed 'reg, refused' 1 '*[12]*' spoilt reg file
+    closed 'dump' 0 '*1*' spoilt dump sample
+    closed 'dump, json' 0 '*1*' spoilt dump --json sample
+    closed 'dump, refused' 1 '*1*' spoilt dump file
     closed 'deleted' 0 '*1*' spoilt deleted left
     closed 'repair' 0 '*1*' sample repair --no-backup file log
     closed 'repair, json' 0 '*1*' sample repair --no-backup --json file log

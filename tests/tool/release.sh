@@ -207,6 +207,9 @@ else
     sed '1,/^\$ hive reg /d; /^```/,$d' "$top/README.md" >wanted
     hive reg --utf8 SYSTEM "$P" | tail -n +3 | sed '$d' >found
     same "coming from: text, README's example" found wanted
+    sed '1,/^\$ hive dump /d; /^```/,$d' "$top/README.md" >wanted
+    hive dump SYSTEM "$P" >found
+    same "coming from: every value, README's example" found wanted
     try 'coming from: with its log' 0 'accepted bins 1 keys 7 values 5 used 1152 free 2912' '' hive check --log TORN.LOG TORN
     try 'coming from: damaged' 1 "$(printf '%s\n' 'TORN: refused 7 at 0' 'BAD: refused 10 at 32' 'CUT: refused 6 at 0')" 'differ' hive check TORN BAD CUT
     try 'coming from: damaged, as it is' 1 'refused 10 at 576' 'what its log held is missing' hive check --as-is TORN
