@@ -58,6 +58,11 @@ static const Reason *reason_of(uint32_t number)
     return number < REASON_COUNT && REASONS[number].what != NULL ? &REASONS[number] : &unknown;
 }
 
+const char *fault_words(uint32_t number)
+{
+    return reason_of(number)->what;
+}
+
 /* Whether a frame of a stream is at fault. */
 static bool of_frame(uint32_t number)
 {

@@ -83,7 +83,10 @@ typedef int Verb(const Order *);
 int read_order(int count, char **words, Order *out, Verb **verb);
 
 /* The verbs. */
-Verb check_verb, key_verb, list_verb, keys_verb, value_verb, export_verb, build_verb, reg_verb, dump_verb, deleted_verb, repair_verb, explain_verb;
+Verb check_verb, info_verb, key_verb, list_verb, keys_verb, value_verb, export_verb, build_verb, reg_verb, dump_verb, deleted_verb, repair_verb, explain_verb;
+
+/* main.c: every FILE, and the worst status. */
+int each_file(const Order *o, int (*one)(const Order *, const char *));
 
 /* say.c: answers on standard output, as a line or as a JSON object; messages on standard error. Those that answer an int answer TROUBLE.
  * say_as_is: whether what is said from here on is of a hive that is read as it is. say_much: from here on many lines are written at once. */
@@ -142,6 +145,7 @@ const char *words_end(FILE *to);
 /* explain.c. path is what was asked for, or NULL. */
 int refusal(const Hive *h, HiveAnswer a, const Path *path);
 int unbuilt(const char *file, Bytes frames, HiveBuilt b);
+const char *fault_words(uint32_t number);
 int check(const char *file, Bytes hive, HiveReport *out);
 int report(const Hive *h, HiveReport r);
 

@@ -30,20 +30,24 @@ static int inputs(const Order *o)
     return n;
 }
 
-/* Every file, and the worst status. */
-int check_verb(const Order *o)
+int each_file(const Order *o, int (*one)(const Order *, const char *))
 {
     int worst = GOOD;
     if (inputs(o) > 1)
         return misused("standard input is read once, and - stands for it more than once");
-    if (o->log_count > 0 && o->count > 1)
-        return misused("check --log wants one FILE, the log's own");
     for (int i = 0; i < o->count; i++) {
-        int status = check_one(o, o->words[i]);
+        int status = one(o, o->words[i]);
         if (status > worst)
             worst = status;
     }
     return worst;
+}
+
+int check_verb(const Order *o)
+{
+    if (o->log_count > 0 && o->count > 1 && inputs(o) < 2)
+        return misused("check --log wants one FILE, the log's own");
+    return each_file(o, check_one);
 }
 
 static int show_key(const Order *o, const Hive *h, uint32_t key)
@@ -99,7 +103,7 @@ static int answer(int count, char **words)
     Verb *verb;
     say_as(wants_json(count, words), false);
     if (count == 0)
-        return misused("a verb is wanted: check, key, ls, keys, value, export, build, reg, dump, deleted, repair or explain");
+        return misused("a verb is wanted: check, info, key, ls, keys, value, export, build, reg, dump, deleted, repair or explain");
     if (wants_help(words[0])) {
         fputs(HELP, stdout);
         return GOOD;
@@ -111,7 +115,7 @@ static int answer(int count, char **words)
     int status = read_order(count, words, &o, &verb);
     if (status != GOOD)
         return status;
-    say_as(o.json, o.count > 1 && verb == check_verb);
+    say_as(o.json, o.count > 1 && (verb == check_verb || verb == info_verb));
     order_is(&o);
     return verb(&o);
 }

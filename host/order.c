@@ -15,6 +15,7 @@ static const struct {
     Verb *go;
 } VERBS[] = {
     {"check", "FILE..", 1, NO_END, READS | JSON, check_verb},
+    {"info", "FILE..", 1, NO_END, JSON, info_verb},
     {"key", "FILE PATH", 2, 2, READS | JSON | WIDE, key_verb},
     {"ls", "FILE [PATH]", 1, 2, READS | JSON | WIDE, list_verb},
     {"keys", "FILE [PATH]", 1, 2, READS | JSON | ANY_LENGTH, keys_verb},
@@ -106,7 +107,7 @@ int read_order(int count, char **words, Order *o, Verb **verb)
     while (v < VERB_COUNT && strcmp(words[0], VERBS[v].name) != 0)
         v++;
     if (v == VERB_COUNT)
-        return misused("\"%s\" is none of check, key, ls, keys, value, export, build, reg, dump, deleted, repair and explain", words[0]);
+        return misused("\"%s\" is none of check, info, key, ls, keys, value, export, build, reg, dump, deleted, repair and explain", words[0]);
     *o = (Order){.words = words, .verb = VERBS[v].name};
     for (int i = 1; i < count && status == GOOD; i++) {
         if (options && strcmp(words[i], "--") == 0)

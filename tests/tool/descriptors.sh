@@ -66,6 +66,11 @@ else
     closed 'check, as it is' 1 '*1*' spoilt check --as-is dirty
     closed 'keys, as it is' 0 '*1*' spoilt keys --as-is dirty
     closed 'export, as it is' 0 '*1*' spoilt export --as-is dirty made
+    closed 'info' 0 '*1*' spoilt info sample
+    closed 'info, broken' 0 '*1*' spoilt info file
+    closed 'info, json' 0 '*1*' spoilt info --json file
+    closed 'info, no base block' 1 '*1*' spoilt info empty
+    closed 'info, standard input' 1 '*[01]*' spoilt info -
     closed 'key' 0 '*1*' spoilt key -l sample "$print"
     closed 'ls' 0 '*1*' spoilt ls sample
     closed 'keys' 0 '*1*' spoilt keys sample

@@ -21,6 +21,7 @@ bare() { PATH=$PWD/bare sh tree/hive "$@"; }
 
 try 'script: --help' 0 "$(cat "$top/host/help.txt")" '' unproved --help
 try 'script: no file' 2 '' 'hive: nothing: No such file' unproved check nothing
+try 'script: no file of one' 2 '' 'hive: nothing: No such file' unproved info nothing
 try 'script: no file behind options' 2 '' 'hive: nothing: No such file' unproved value --log log nothing a b
 try 'script: no file behind a prefix' 2 '' 'hive: nothing: No such file' unproved reg --prefix log nothing
 try 'script: no frames behind a descriptor' 2 '' 'hive: nothing: No such file' unproved build --descriptor log nothing out
