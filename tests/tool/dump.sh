@@ -87,6 +87,33 @@ try 'dump: the notation of names' 0 "$(cat wanted)" '' hive dump notation
 sed -n 's/^\t//p' wanted | while IFS="$tab" read -r name kind data; do printf '%s\n' "$data" && hive value notation '' "$name"; done | uniq -u >found
 right 'dump: what is printed can be given back' [ ! -s found ]
 
+# Several strings, of which some are empty; none; a byte too many; and a tab in a string.
+zeros='\0\0\0\0'
+# value NAME TYPE LENGTH DATA: the frame of a value; the name is one letter, TYPE is in octal, and so is the length of the payload
+value() { printf "\\$3\\0\\0\\0\\021\\0\\$2\\0\\0\\0\\002\\0\\0\\0$1\\0$4"; }
+{
+    printf "\\012\\0\\0\\0\\020\\0$zeros${zeros}r\\0"
+    value a 7 026 'a\0\0\0\0\0b\0\0\0\0\0'
+    value b 7 016 "$zeros"
+    value c 7 014 '\0\0'
+    value d 7 015 'a\0\377'
+    value e 1 016 'x\0\011\0'
+    value f 7 020 'x\0\0\0\0\0'
+    printf '\0\0\0\0\022\0'
+} >frames
+rm -f strings
+hive build frames strings >/dev/null
+tabbed >wanted <<'END_OF_TEXT'
+0
+|a|REG_MULTI_SZ|"a"|""|"b"
+|b|REG_MULTI_SZ|""
+|c|REG_MULTI_SZ|
+|d|REG_MULTI_SZ|6100ff
+|e|REG_SZ|"x\x09"
+|f|REG_MULTI_SZ|"x"
+END_OF_TEXT
+try 'dump: several strings' 0 "$(cat wanted)" '' hive dump strings
+
 # JSON: the object of `value --json`, and more.
 try 'dump: json of keys' 0 "$(printf '%s\n' '{"file":"notation","answer":"key","path":"@","written":"'$zero'"}' '{"file":"notation","answer":"key","path":"@\\\u202ex\u2028","written":"'$zero'"}' \
     '{"file":"notation","answer":"key","path":"@\\'"$replaced"'g","notation":"@\\\\\\ud83dg","written":"'$zero'","replaced":true}')" '' hive dump --json notation @
