@@ -30,21 +30,21 @@ void leave_key(void)
     open_keys.level--;
 }
 
-int go_below(Export *x, const Path *path, void (*enter)(Name))
+int go_below(Export *x, Path *path, void (*enter)(Name))
 {
     Name up[LEVELS];
-    Bytes b = x->h->bytes;
-    HiveAnswer a = hive_find_key(b.at, b.length, path->units.at, path->units.length);
-    if (a.number != 0)
-        return refusal(x->h, a, path);
-    int level = climb(x->h, a.value, up);
+    uint32_t key;
+    int status = find_path(x->h, path, &key);
+    if (status != GOOD)
+        return status;
+    int level = climb(x->h, key, up);
     if (level < 0)
-        return trouble(x->h->file, "the parent fields of the key at %u do not lead to the root", a.value);
+        return trouble(x->h->file, "the parent fields of the key at %u do not lead to the root", key);
     if (level > 0)
         enter((Name){NULL, 0, false});
     for (int i = level - 1; i > 0; i--)
         enter(up[i]);
-    export_below(x, a.value);
+    export_below(x, key);
     return GOOD;
 }
 

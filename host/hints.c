@@ -8,13 +8,6 @@ static Name part(Units u, size_t from, size_t to)
     return (Name){(const uint8_t *)(u.at + from), 2 * (to - from), false};
 }
 
-static size_t part_end(Units u, size_t from)
-{
-    while (from < u.length && u.at[from] != '\\')
-        from++;
-    return from;
-}
-
 /* How many parts have that name. */
 static size_t called_so(Units u, Name name)
 {
@@ -93,11 +86,6 @@ void put_hints(FILE *to, const Hive *h, const Path *path, HiveAnswer a)
         put_missing(to, h, a.key, path->units);
     if (a.number != HIVE_FAULT_NO_KEY && a.number != HIVE_FAULT_PATH_PARTS)
         return;
-    size_t n = strlen(path->text);
     if (names_a_machine(path->text))
         fputs("; a path starts below the hive's own root: leave out HKEY_LOCAL_MACHINE\\SYSTEM and the like", to);
-    if (strchr(path->text, '/') != NULL)
-        fputs("; parts are separated by backslashes, and / is a letter like others", to);
-    if (n > 0 && path->text[n - 1] == '\\')
-        fputs("; leave out the backslash at the end", to);
 }

@@ -89,9 +89,11 @@ Verb check_verb, info_verb, key_verb, list_verb, keys_verb, value_verb, export_v
 int each_file(const Order *o, int (*one)(const Order *, const char *));
 
 /* say.c: answers on standard output, as a line or as a JSON object; messages on standard error. Those that answer an int answer TROUBLE.
- * say_as_is: whether what is said from here on is of a hive that is read as it is. say_much: from here on many lines are written at once. */
+ * say_as_is: whether what is said from here on is of a hive that is read as it is. say_much: from here on many lines are written at once. say_read_as: that
+ * what is said from here on is of another path than the one that was given. */
 void say_as(bool json, bool many);
 void say_as_is(bool as_is);
+void say_read_as(Name path);
 bool say_json(void);
 void say(const char *file, const char *answer);
 void say_number(const char *label, uint64_t n);
@@ -115,6 +117,7 @@ uint32_t next_code(Name name, size_t *i);
 size_t unit_count(Name name);
 uint32_t unit_at(Name name, size_t i);
 bool is_called(Name stored, Units name);
+Name units_name(Units u);
 long decode(const char **text);
 void put_utf8(FILE *to, uint32_t code);
 void put_escape(FILE *to, uint32_t code);
@@ -126,6 +129,13 @@ void put_path(FILE *to, const Name *way, size_t count);
 void put_argument(FILE *to, const char *text);
 int path_units(const char *text, Path *out);
 int name_units(const char *text, Units *out);
+
+/* path.c: the key at a path, as it is given or, where that is refused with 16 or 17, as it is read instead, which is told and then is the path. GOOD, or REFUSED or
+ * TROUBLE after a message. find_instead: after the answer *a to the path as it is given, which then is that of what is read instead; GOOD or TROUBLE.
+ * part_end: where the part that starts there ends. */
+int find_path(const Hive *h, Path *path, uint32_t *key);
+int find_instead(const Hive *h, Path *path, HiveAnswer *a);
+size_t part_end(Units u, size_t from);
 
 /* data.c */
 void print_data(const char *file, uint32_t kind, Bytes data);
@@ -204,7 +214,7 @@ uint32_t word_at(const uint8_t *at);
 void enter_key(Name name);
 void leave_key(void);
 /* From the key at PATH on: those above it are open from the start, by `enter`, and no frame comes for them. */
-int go_below(Export *x, const Path *path, void (*enter)(Name));
+int go_below(Export *x, Path *path, void (*enter)(Name));
 /* All frames to `show`, until it answers other than GOOD or `to` cannot be written. */
 typedef int Frame(const Hive *h, uint32_t kind, uint8_t *payload, size_t length);
 int each_frame(Export *x, FILE *to, Frame *show);

@@ -77,10 +77,9 @@ int key_verb(const Order *o)
         status = read_hive(o, o->words[0], &h);
     if (status != GOOD)
         return status;
-    HiveAnswer a = hive_find_key(h.bytes.at, h.bytes.length, path.units.at, path.units.length);
-    if (a.number != 0)
-        return refusal(&h, a, &path);
-    return show_key(o, &h, a.value);
+    uint32_t key;
+    status = find_path(&h, &path, &key);
+    return status == GOOD ? show_key(o, &h, key) : status;
 }
 
 /* Wrong usage is told as the words ask for it, before they are understood. */

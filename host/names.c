@@ -40,6 +40,11 @@ bool is_called(Name stored, Units name)
     return hive_name_order(units, count, name.at, name.length) == HIVE_SAME;
 }
 
+Name units_name(Units u)
+{
+    return (Name){(const uint8_t *)u.at, 2 * u.length, false};
+}
+
 /* What gives a terminal orders, breaks a line, or changes how the text around it looks: so no file can. Halves of pairs are no characters. */
 bool is_hidden(uint32_t c)
 {

@@ -8,6 +8,7 @@
 /* replaced: something that no JSON string can hold stands in this object as U+FFFD. */
 static struct {
     bool json, many, replaced, as_is, much;
+    Name read_as; /* at is NULL where there is none */
     uint64_t bytes, kept;
 } shape;
 
@@ -24,6 +25,11 @@ void say_as(bool json, bool many)
 void say_as_is(bool as_is)
 {
     shape.as_is = as_is;
+}
+
+void say_read_as(Name path)
+{
+    shape.read_as = path;
 }
 
 bool say_json(void)
@@ -184,8 +190,18 @@ void say_much(void)
     shape.much = true;
 }
 
+/* As PATH can be given. */
+static void say_reading(void)
+{
+    fputs(",\"read_as\":\"", stdout);
+    spell_name(stdout, shape.read_as, KEY_NAME, put_json_code);
+    fputc('"', stdout);
+}
+
 void say_end(void)
 {
+    if (shape.json && shape.read_as.at != NULL)
+        say_reading();
     if (shape.json && shape.as_is)
         fputs(",\"as_is\":true", stdout);
     if (shape.json)

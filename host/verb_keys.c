@@ -77,6 +77,7 @@ int keys_verb(const Order *o)
         return status;
     if (r.answer.number != 0)
         return refusal(&h, r.answer, NULL);
-    HiveAnswer a = hive_find_key(h.bytes.at, h.bytes.length, path.units.at, path.units.length);
-    return a.number != 0 ? refusal(&h, a, &path) : list(o, &h, a.value, path.units.length == 0 ? r.keys : 0);
+    uint32_t key;
+    status = find_path(&h, &path, &key);
+    return status == GOOD ? list(o, &h, key, path.units.length == 0 ? r.keys : 0) : status;
 }

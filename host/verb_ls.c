@@ -79,6 +79,7 @@ int list_verb(const Order *o)
         status = read_hive(o, o->words[0], &h);
     if (status != GOOD)
         return status;
-    HiveAnswer a = hive_find_key(h.bytes.at, h.bytes.length, path.units.at, path.units.length);
-    return a.number != 0 ? refusal(&h, a, &path) : list(o, &h, a.value);
+    uint32_t key;
+    status = find_path(&h, &path, &key);
+    return status == GOOD ? list(o, &h, key) : status;
 }

@@ -25,14 +25,32 @@ static int show(const Order *o, uint32_t kind, Bytes data)
     return GOOD;
 }
 
-/* The first value of that name. */
-static int first(const Order *o, const Hive *h, const Path *path, Units name)
+static HiveValue info(const Hive *h, const Path *path, Units name)
 {
+    return hive_value_info(h->bytes.at, h->bytes.length, path->units.at, path->units.length, name.at, name.length);
+}
+
+/* Of a path that is read as another one the value is asked for again. */
+static int ask(const Hive *h, Path *path, Units name, HiveValue *v)
+{
+    *v = info(h, path, name);
+    if (v->answer.number == 0)
+        return GOOD;
+    int status = find_instead(h, path, &v->answer);
+    if (status == GOOD && v->answer.number == 0)
+        *v = info(h, path, name);
+    return status != GOOD ? status : v->answer.number != 0 ? refusal(h, v->answer, path) : GOOD;
+}
+
+/* The first value of that name. */
+static int first(const Order *o, const Hive *h, Path *path, Units name)
+{
+    HiveValue v;
+    int status = ask(h, path, name, &v);
+    if (status != GOOD)
+        return status;
     Bytes b = h->bytes;
     Units p = path->units;
-    HiveValue v = hive_value_info(b.at, b.length, p.at, p.length, name.at, name.length);
-    if (v.answer.number != 0)
-        return refusal(h, v.answer, path);
     Bytes data = {malloc(v.length + 1), v.length};
     if (data.at == NULL)
         return trouble(h->file, "no memory");
@@ -65,16 +83,17 @@ static int at_offset(const Order *o, const Hive *h, uint32_t value)
     return c.answer.number != 0 ? refusal(h, c.answer, NULL) : show(o, v.kind, data);
 }
 
-static int nth(const Order *o, const Hive *h, const Path *path, Units name)
+static int nth(const Order *o, const Hive *h, Path *path, Units name)
 {
-    HiveAnswer a = hive_find_key(h->bytes.at, h->bytes.length, path->units.at, path->units.length);
-    if (a.number != 0)
-        return refusal(h, a, path);
-    HiveMember m = search(o, h, a.value, name);
+    uint32_t key;
+    int status = find_path(h, path, &key);
+    if (status != GOOD)
+        return status;
+    HiveMember m = search(o, h, key, name);
     if (m.state == HIVE_REFUSED)
         return refusal(h, m.answer, NULL);
     if (m.state == HIVE_NO_MORE)
-        return refusal(h, (HiveAnswer){HIVE_FAULT_NO_VALUE, 0, a.value, 0}, NULL);
+        return refusal(h, (HiveAnswer){HIVE_FAULT_NO_VALUE, 0, key, 0}, NULL);
     return at_offset(o, h, m.answer.value);
 }
 

@@ -10,7 +10,7 @@ try 'key: doubled backslashes' 0 "$at" '' hive key sample 'ControlSet001\\Servic
 try 'key: one in front' 0 "$at" '' hive key sample "\\$print"
 try 'key: two in front' 0 "$at" '' hive key sample "\\\\$print"
 try 'key: three in front' 1 'refused 16 at 0' 'the path is not possible' hive key sample "\\\\\\$print"
-try 'key: one at the end' 1 'refused 16 at 0' 'leave out the backslash at the end' hive key sample 'a\'
+try 'key: two parts too few at the end' 1 'refused 16 at 0' 'the path is not possible (see' hive key sample 'a\\\'
 try 'key: letters past z' 0 'key at 296' '' hive key letters "$(printf '\303\251DITEUR')"
 try 'key: a capital past the byte' 0 'key at 384' '' hive key letters "$(printf '\305\270')"
 try 'key: none' 1 'refused 17 at 0' 'there is no such key, in key \a (at 120): a has no subkey k9 (see' hive key sample 'a\k9'
@@ -20,9 +20,8 @@ try 'key: none further down' 1 'refused 17 at 0' 'ControlSet001\Services has no 
 try 'key: none below keys of one name' 1 'refused 17 at 0' ': n\n\n has no subkey x (see' hive key deep 'n\n\n\x\y'
 try 'key: none, and no way up' 1 'refused 17 at 0' 'there is no such key, in key (at 912) (see' hive key own-parent "$application\\$(printf '\303\251')\x"
 try 'key: none, and a way up that is not the way down' 1 'refused 17 at 0' 'there is no such key, in key \n (at 328) (see' hive key liar 'n\n\n\x'
-try 'key: a path of a machine' 1 'refused 17 at 0' "a path starts below the hive's own root" hive key sample 'HKLM\SYSTEM\ControlSet001'
-try 'key: a long path of a machine' 1 'refused 17 at 0' "a path starts below the hive's own root" hive key sample '\hkey_local_machine\SYSTEM'
-try 'key: slashes' 1 'refused 17 at 0' 'parts are separated by backslashes' hive key sample ControlSet001/Services
+try 'key: a path of a machine' 1 'refused 17 at 0' "a path starts below the hive's own root" hive key sample 'HKCR\ControlSet001'
+try 'key: a long path of a machine' 1 'refused 17 at 0' "a path starts below the hive's own root" hive key sample '\hkey_local_machine'
 try 'key: json' 1 '{"file":"sample","answer":"refused","number":17,"place":null,"key":32,"words":"there is no such key: the root has no subkey \"x\""}' '' hive key --json sample '"x"'
 try 'key: not UTF-8' 2 '' 'this is not UTF-8: \xff; see' hive key sample "$(printf 'a\377')"
 try 'ls: the root' 0 "$(printf 'key a\nkey b\nkey ControlSet001\nkey d')" '' hive ls sample
