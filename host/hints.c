@@ -60,6 +60,7 @@ static void put_missing(FILE *to, const Hive *h, uint32_t deepest, Units u)
     }
     fputs(" has no subkey ", to);
     put_name(to, part(u, from, part_end(u, from)), KEY_NAME);
+    put_nearest(to, h, deepest, part(u, from, part_end(u, from)), KEY_NAME);
 }
 
 static bool starts(const char *text, const char *with)
@@ -84,6 +85,8 @@ void put_hints(FILE *to, const Hive *h, const Path *path, HiveAnswer a)
 {
     if (a.number == HIVE_FAULT_NO_KEY)
         put_missing(to, h, a.key, path->units);
+    if (a.number == HIVE_FAULT_NO_VALUE && path->value.length > 0)
+        put_nearest(to, h, a.key, units_name(path->value), VALUE_NAME);
     if (a.number != HIVE_FAULT_NO_KEY && a.number != HIVE_FAULT_PATH_PARTS)
         return;
     if (names_a_machine(path->text))

@@ -52,10 +52,10 @@ typedef struct {
     bool grown, as_is;
 } Hive;
 
-/* A path as it was given, and its units. */
+/* A path as it was given, and its units. value: the name of the value that is asked for, of no units where none is. */
 typedef struct {
     const char *text;
-    Units units;
+    Units units, value;
 } Path;
 
 /* A log, with memory of its own for both. */
@@ -136,6 +136,15 @@ int name_units(const char *text, Units *out);
 int find_path(const Hive *h, Path *path, uint32_t *key);
 int find_instead(const Hive *h, Path *path, HiveAnswer *a);
 size_t part_end(Units u, size_t from);
+
+/* nearest.c: the name that is most like the wanted one, of those that are shown to is_nearer; far is 0 where none is like it. put_nearest: of the subkeys or values of
+ * a key, in words; nothing where none is. */
+typedef struct {
+    Name wanted, name;
+    size_t far;
+} Nearest;
+void is_nearer(Nearest *to, Name name);
+void put_nearest(FILE *to, const Hive *h, uint32_t key, Name wanted, enum Style style);
 
 /* data.c */
 void print_data(const char *file, uint32_t kind, Bytes data);

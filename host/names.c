@@ -193,6 +193,7 @@ int path_units(const char *text, Path *out)
 {
     Units *u = &out->units;
     out->text = text;
+    out->value = (Units){NULL, 0};
     int status = room_for(text, u);
     for (const char *start = text; status == GOOD && *text != 0;) {
         size_t run = strspn(text, "\\");

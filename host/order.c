@@ -99,6 +99,16 @@ static int read_option(const char *verb, unsigned options, int count, char **wor
     return misused("%s: %s is no option (-- ends the options)", verb, word);
 }
 
+/* A wrong verb, and the one that is most like it. */
+static int no_verb(const char *word)
+{
+    Nearest near = {.wanted = {(const uint8_t *)word, strlen(word), true}};
+    for (int v = 0; v < VERB_COUNT; v++)
+        is_nearer(&near, (Name){(const uint8_t *)VERBS[v].name, strlen(VERBS[v].name), true});
+    return misused("\"%s\" is none of check, key, ls, keys, value, export, build, reg, deleted, repair and explain%s%s%s", word, near.far > 0 ? "; did you mean " : "",
+                   near.far > 0 ? (const char *)near.name.at : "", near.far > 0 ? "?" : "");
+}
+
 /* words[0] is the verb. The words that are no options move to the front. */
 int read_order(int count, char **words, Order *o, Verb **verb)
 {
@@ -107,7 +117,7 @@ int read_order(int count, char **words, Order *o, Verb **verb)
     while (v < VERB_COUNT && strcmp(words[0], VERBS[v].name) != 0)
         v++;
     if (v == VERB_COUNT)
-        return misused("\"%s\" is none of check, info, key, ls, keys, value, export, build, reg, dump, deleted, repair and explain", words[0]);
+        return no_verb(words[0]);
     *o = (Order){.words = words, .verb = VERBS[v].name};
     for (int i = 1; i < count && status == GOOD; i++) {
         if (options && strcmp(words[i], "--") == 0)

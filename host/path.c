@@ -176,7 +176,8 @@ int find_instead(const Hive *h, Path *path, HiveAnswer *a)
     }
     Units given = path->units;
     *a = r.answer;
-    *path = (Path){"", r.units};
+    path->text = "";
+    path->units = r.units;
     return tell_reading(h, given, r.units);
 }
 

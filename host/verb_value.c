@@ -93,7 +93,7 @@ static int nth(const Order *o, const Hive *h, Path *path, Units name)
     if (m.state == HIVE_REFUSED)
         return refusal(h, m.answer, NULL);
     if (m.state == HIVE_NO_MORE)
-        return refusal(h, (HiveAnswer){HIVE_FAULT_NO_VALUE, 0, key, 0}, NULL);
+        return refusal(h, (HiveAnswer){HIVE_FAULT_NO_VALUE, 0, key, 0}, path);
     return at_offset(o, h, m.answer.value);
 }
 
@@ -111,5 +111,6 @@ int value_verb(const Order *o)
         status = read_hive(o, o->words[0], &h);
     if (status != GOOD)
         return status;
+    path.value = name;
     return o->nth > 0 ? nth(o, &h, &path, name) : first(o, &h, &path, name);
 }

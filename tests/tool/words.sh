@@ -73,3 +73,40 @@ try 'paths: json' 0 "$(hive key --json set2 'ControlSet002\Services' | sed 's/}$
 try 'paths: json, each object' 0 2 'is read as' eval 'hive ls --json set2 CurrentControlSet/Services | grep -c "\"read_as\":\"ControlSet002"'
 try 'paths: json, refused' 1 1 'is read as' eval 'hive key --json set2 CurrentControlSet/zzzz >found || { grep -c "\"number\":17.*\"read_as\":\"ControlSet002.*zzzz\"}" found; false; }'
 try 'paths: json, as given' 0 0 '' eval 'hive ls --json set2 ControlSet002 | grep -c read_as || true'
+
+# What was perhaps meant: a name that is near, as names are printed, and nothing where none is.
+nothing_meant() {
+    name=$1
+    shift
+    if "$@" >stdout 2>stderr; then bad "meant: nothing, $name" 'it is there'; else right "meant: nothing, $name" eval '[ -s stderr ] && ! grep -qF "did you mean" stderr'; fi
+}
+try 'meant: a key' 1 'refused 17 at 0' ': the root has no subkey ControlSte001; did you mean ControlSet001? (see' hive key set2 'ControlSte001\Services'
+try 'meant: a key below' 1 'refused 17 at 0' 'has no subkey Tpcip; did you mean Tcpip? (see' hive ls set2 'controlset001\services\Tpcip'
+try 'meant: the nearest of two' 1 'refused 17 at 0' 'did you mean ControlSet002?' hive keys set2 'ControlSt002'
+try 'meant: the first of two' 1 '' 'did you mean ControlSet001?' hive reg --utf8 set2 'ControlSet003'
+try 'meant: a beginning' 1 'refused 17 at 0' 'has no subkey Serv; did you mean Services?' hive key set2 'ControlSet001\Serv'
+try 'meant: behind another reading' 1 'refused 17 at 0' 'ControlSet002\Services has no subkey Dhcp; did you mean Dhcp/Nt?' hive key set2 'HKLM\SYSTEM\CurrentControlSet\Services\Dhcp'
+try 'meant: a value' 1 'refused 18 at 0' '; did you mean Start? (see' hive value set2 'ControlSet001\Services' Satrt
+try 'meant: a value, by number' 1 'refused 18 at 0' '; did you mean Start? (see' hive value --nth 1 set2 'ControlSet001\Services' Stat
+try 'meant: json' 1 1 '' eval 'hive value --json set2 Select Curent | grep -c "no such value; did you mean Current?\"" && false'
+try 'meant: a verb' 2 '' 'and explain; did you mean check?; see: hive --help' hive chekc sample
+try 'meant: the beginning of a verb' 2 '' '; did you mean deleted?' hive del sample
+nothing_meant 'a key' hive key set2 Nothing
+nothing_meant 'a short key' hive key set2 'x'
+nothing_meant 'a value' hive value set2 Select Nope
+nothing_meant 'the unnamed value' hive value set2 Select @
+nothing_meant 'a value that is there, once' hive value --nth 2 set2 Select Current
+nothing_meant 'a verb' hive nothing sample
+nothing_meant 'a key that is longer than is compared' hive key set2 "$(printf 'ControlSet001%070d' 0)"
+# Only the first 4,096: sibling 4,097 is not looked at. Names are printed as they can be given.
+many=$(awk 'BEGIN { for (n = 0; n < 4095; n++) { printf "\\020\\000\\000\\000\\021\\000\\003\\000\\000\\000\\010\\000\\000\\000"; for (k = 1000; k >= 1; k /= 10) printf "%d\\000", n / k % 10 } }')
+{ key R && printf "$many" && dword Wolverine 1 && dword Elephant 2 && end_key; } >frames.many
+rm -f many odd
+hive build frames.many many >/dev/null
+right 'meant: there are 4,097 values' [ "$(lines ls many)" = 4097 ]
+try 'meant: value 4,096' 1 'refused 18 at 0' 'did you mean Wolverine?' hive value many '' Wolverina
+nothing_meant 'not value 4,097' hive value many '' Elephent
+{ key R && frame 11 03 00 00 00 0a 00 00 00 61 00 62 00 0a 00 5c 00 63 00 && key "$(printf 'one\033two')" && end_key && end_key; } >frames.odd
+hive build frames.odd odd >/dev/null
+try 'meant: a hidden character of a key' 1 'refused 17 at 0' 'did you mean one\\x1btwo?' hive key odd onetwo
+try 'meant: hidden characters of a value' 1 'refused 18 at 0' 'did you mean ab\x0a\\c?' hive value odd '' 'ab\\c'
