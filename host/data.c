@@ -50,19 +50,19 @@ static void each_string(uint32_t kind, Bytes data, void (*show)(Name, size_t))
     }
 }
 
-static void put_hex(Bytes data)
+void put_hex(FILE *to, Bytes data)
 {
     static const char digits[] = "0123456789abcdef";
     for (size_t i = 0; i < data.length; i++) {
-        putchar(digits[data.at[i] >> 4]);
-        putchar(digits[data.at[i] & 15]);
+        fputc(digits[data.at[i] >> 4], to);
+        fputc(digits[data.at[i] & 15], to);
     }
 }
 
 static void print_hex(Bytes data)
 {
     for (size_t i = 0; i < data.length; i += 32) {
-        put_hex((Bytes){data.at + i, data.length - i < 32 ? data.length - i : 32});
+        put_hex(stdout, (Bytes){data.at + i, data.length - i < 32 ? data.length - i : 32});
         putchar('\n');
     }
 }
@@ -154,7 +154,7 @@ static void say_string(Name text, size_t n)
 void say_data(uint32_t kind, Bytes data)
 {
     fputs(",\"hex\":\"", stdout);
-    put_hex(data);
+    put_hex(stdout, data);
     putchar('"');
     if (!is_text(kind, data))
         return;

@@ -151,7 +151,11 @@ void print_data(const char *file, uint32_t kind, Bytes data);
 void say_data(uint32_t kind, Bytes data);
 void put_line_data(uint32_t kind, Bytes data);
 bool is_number(uint32_t kind, Bytes data, uint64_t *out);
+void put_hex(FILE *to, Bytes data);
 const char *kind_name(uint32_t kind, char *room);
+
+/* sddl.c: a security descriptor as SDDL, where it has entries of types 0 to 2 alone and nothing about it is odd; else its bytes in hexadecimal. */
+void put_sddl(FILE *to, Bytes descriptor);
 
 /* stamp.c */
 enum { STAMP_ROOM = 40 };

@@ -50,38 +50,6 @@ int check_verb(const Order *o)
     return each_file(o, check_one);
 }
 
-static int show_key(const Order *o, const Hive *h, uint32_t key)
-{
-    char room[STAMP_ROOM];
-    HiveKey k = hive_key_at(h->bytes.at, h->bytes.length, key);
-    if (k.answer.number != 0)
-        return refusal(h, k.answer, NULL);
-    say(h->file, "key");
-    say_number("at", key);
-    if (o->wide) {
-        say_number("subkeys", k.subkeys);
-        say_number("values", k.values);
-        fputs(say_json() ? "" : " written", stdout);
-        say_word("written", stamp_text(k.written, room));
-    }
-    say_end();
-    return GOOD;
-}
-
-int key_verb(const Order *o)
-{
-    Hive h;
-    Path path;
-    int status = path_units(o->words[1], &path);
-    if (status == GOOD)
-        status = read_hive(o, o->words[0], &h);
-    if (status != GOOD)
-        return status;
-    uint32_t key;
-    status = find_path(&h, &path, &key);
-    return status == GOOD ? show_key(o, &h, key) : status;
-}
-
 /* Wrong usage is told as the words ask for it, before they are understood. */
 static bool wants_json(int count, char **words)
 {

@@ -105,7 +105,7 @@ static int no_verb(const char *word)
     Nearest near = {.wanted = {(const uint8_t *)word, strlen(word), true}};
     for (int v = 0; v < VERB_COUNT; v++)
         is_nearer(&near, (Name){(const uint8_t *)VERBS[v].name, strlen(VERBS[v].name), true});
-    return misused("\"%s\" is none of check, key, ls, keys, value, export, build, reg, deleted, repair and explain%s%s%s", word, near.far > 0 ? "; did you mean " : "",
+    return misused("\"%s\" is none of check, info, key, ls, keys, value, export, build, reg, dump, deleted, repair and explain%s%s%s", word, near.far > 0 ? "; did you mean " : "",
                    near.far > 0 ? (const char *)near.name.at : "", near.far > 0 ? "?" : "");
 }
 

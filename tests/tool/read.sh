@@ -31,7 +31,7 @@ try 'ls: values' 0 "$(printf 'value %s\n' 'REG_EXPAND_SZ 38 EventMessageFile' 'R
     'REG_QWORD 8 Long' 'REG_MULTI_SZ 18 Several' 'REG_SZ 4 Pair' 'REG_BINARY 33 Bytes' 'REG_BINARY 40000 Large' 'REG_BINARY 0 Empty')" '' hive ls sample "\\$print"
 try 'ls: when keys were written' 0 "$(printf '%s\n' 'key 2024-02-29T23:59:59.1234567Z Bin' 'key 1601-01-01T00:00:00.0000000Z Esc' "$(printf 'key +60056-05-28T05:36:10.9551615Z \303\251')")" \
     '' hive ls -l sources 'ControlSet001\Services\EventLog\Application'
-try 'ls: when, as json' 0 '{"file":"minimal","answer":"key","at":32,"subkeys":0,"values":0,"written":"1601-01-01T00:00:00.0000000Z"}' '' hive key -l --json minimal ''
+try 'ls: when, as json' 0 '{"file":"minimal","answer":"key","at":32,"subkeys":0,"values":0,"written":"1601-01-01T00:00:00.0000000Z","class":null,"security":""}' '' hive key -l --json minimal ''
 try 'key: its counts, and when it was written' 0 'key at 32 subkeys 4 values 0 written 1601-01-01T00:00:00.0000000Z' '' hive key -l sample ''
 try 'ls: no such key' 1 'refused 17 at 0' 'the root has no subkey nobody' hive ls sample nobody
 try 'ls: a key that is none' 1 "$(printf '%s\n' 'key \\x1b[2J' 'refused 11 at 40')" ', in key \ (at 32) (see' hive ls bad-key

@@ -199,7 +199,7 @@ else
     try 'coming from: raw bytes' 0 '' '' hive value SYSTEM "$P" Blob OUT
     right 'coming from: all of them' [ "$(wc -c <OUT)" -eq 40 ]
     try 'coming from: ls' 0 "$(printf 'value %s\n' 'REG_EXPAND_SZ 70 EventMessageFile' 'REG_DWORD 4 TypesSupported' 'REG_MULTI_SZ 18 Sources' 'REG_BINARY 40 Blob')" '' hive ls SYSTEM "$P"
-    try 'coming from: key' 0 'key at 488 subkeys 0 values 4 written 2024-02-29T16:47:36.8485888Z' '' hive key -l SYSTEM "$P"
+    try 'coming from: key' 0 'key at 488 subkeys 0 values 4 written 2024-02-29T16:47:36.8485888Z security O:SYG:SY' '' hive key -l SYSTEM "$P"
     try 'coming from: all keys' 0 7 '' lines keys SYSTEM
     try 'coming from: frames' 0 'exported frames 19 bytes 552' '' hive export SYSTEM SYSTEM.frames
     try 'coming from: a hive from frames' 0 "$(printf '%s\n' 'built 8192' 'accepted bins 1 keys 7 values 5 used 1232 free 2832')" '' hive build SYSTEM.frames NEWHIVE

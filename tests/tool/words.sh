@@ -110,3 +110,104 @@ nothing_meant 'not value 4,097' hive value many '' Elephent
 hive build frames.odd odd >/dev/null
 try 'meant: a hidden character of a key' 1 'refused 17 at 0' 'did you mean one\\x1btwo?' hive key odd onetwo
 try 'meant: hidden characters of a value' 1 'refused 18 at 0' 'did you mean ab\x0a\\c?' hive value odd '' 'ab\\c'
+
+# Security descriptors as SDDL. In hexadecimal words: le16 N, le32 N; sid AUTHORITY SUB..; ace TYPE FLAGS MASK SID; acl ACE..; sd CONTROL OWNER GROUP SACL DACL ('': none, null: no list is there)
+le16() { printf '%02x %02x ' $(($1 & 255)) $(($1 >> 8 & 255)); }
+le32() { le16 $(($1 & 65535)) && le16 $(($1 >> 16)); }
+sid() {
+    printf '01 %02x 00 00 00 00 00 %02x ' $(($# - 1)) "$1"
+    shift
+    for sub in "$@"; do le32 "$sub"; done
+}
+count() { echo $#; }
+ace() { printf '%02x %02x ' "$1" "$2" && le16 $((8 + $(count $4))) && le32 "$3" && echo "$4"; }
+acl() { printf '02 00 ' && le16 $((8 + $(count $*))) && le16 $# && printf '00 00 ' && echo "$*"; }
+sd() {
+    control=$1 at=20 offsets=''
+    shift
+    for part in "$@"; do
+        n=$(count ${part#null})
+        if [ $n -gt 0 ]; then offsets="$offsets $(le32 $at)"; else offsets="$offsets 00 00 00 00"; fi
+        at=$((at + n))
+    done
+    printf '01 00 ' && le16 $((control)) && echo "$offsets" ${1#null} ${2#null} ${3#null} ${4#null}
+}
+{ key R && end_key; } >frames.one
+# shown BYTES..: what key -l shows of a hive with that descriptor
+shown() {
+    octets "$@" >sd
+    rm -f sd.hive
+    hive build --descriptor sd frames.one sd.hive >/dev/null && hive key -l sd.hive '' | sed -n 's/^key at 32 subkeys 0 values 0 written 1601-01-01T00:00:00.0000000Z security //p'
+}
+hexed() { echo "$*" | tr -d ' '; }
+sddl() { try "security: $1" 0 "$2" '' shown $3; }
+odd() { sddl "$1" "$(hexed $2)" "$2"; }
+ba=$(sid 5 32 544) sy=$(sid 5 18) wd=$(sid 1 0)
+sddl 'owner and group' O:BAG:SY "$(sd 0x8000 "$ba" "$sy" '' '')"
+sddl 'a list' 'O:BAG:SYD:(A;CI;KA;;;SY)(D;OIIO;KR;;;WD)' "$(sd 0x8004 "$ba" "$sy" '' "$(acl "$(ace 0 2 0xf003f "$sy")" "$(ace 1 9 0x20019 "$wd")")")"
+sddl 'both lists, and how they are kept' 'D:PAI(A;CIID;KW;;;BU)S:AR(AU;SAFA;0x10000000;;;WD)' \
+    "$(sd 0x9614 '' '' "$(acl "$(ace 2 0xc0 0x10000000 "$wd")")" "$(acl "$(ace 0 0x12 0x20006 "$(sid 5 32 545)")")")"
+sddl 'an empty list' D: "$(sd 0x8004 '' '' '' "$(acl)")"
+sddl 'no list, and nothing is forbidden' D:NO_ACCESS_CONTROL "$(sd 0x8004 '' '' '' null)"
+sddl 'other names' "O:S-1-5-21-1-4294967295-3-1001G:S-1-5-32-999" "$(sd 0x8000 "$(sid 5 21 1 4294967295 3 1001)" "$(sid 5 32 999)" '' '')"
+sddl 'a name with no parts, and one with fifteen' 'O:S-1-9G:S-1-5-1-2-3-4-5-6-7-8-9-10-11-12-13-14-15' "$(sd 0x8000 "$(sid 9)" "$(sid 5 1 2 3 4 5 6 7 8 9 10 11 12 13 14 15)" '' '')"
+sddl 'an authority of 48 bits' 'O:S-1-0x010000000005-7' "$(sd 0x8000 '01 01 01 00 00 00 00 05 07 00 00 00' '' '' '')"
+for known in 'CO 3 0' 'AU 5 11' 'LS 5 19' 'NS 5 20' 'PU 5 32 547' 'RC 5 12' 'AC 15 2 1'; do
+    sddl "$known" "O:${known%% *}" "$(sd 0x8000 "$(sid ${known#* })" '' '' '')"
+done
+# What is odd is hexadecimal, all of it.
+odd 'another revision' "$(sd 0x8000 "$ba" '' '' '' | sed 's/^01/02/')"
+odd 'not self-relative' "$(sd 0x0004 "$ba" '' '' "$(acl)")"
+odd 'a bit of the control word that is not said' "$(sd 0xc000 "$ba" '' '' '')"
+odd 'a list that is not said to be there' "$(sd 0x8000 '' '' '' "$(acl)")"
+odd 'an entry of type 5' "$(sd 0x8004 '' '' '' "$(acl "$(ace 5 2 0xf003f "$sy")")")"
+odd 'a flag that is not said' "$(sd 0x8004 '' '' '' "$(acl "$(ace 0 0x20 0xf003f "$sy")")")"
+odd 'an entry with more behind it' "$(sd 0x8004 '' '' '' "$(acl "$(ace 0 2 0xf003f "$sy 00 00 00 00")")")"
+odd 'a name with too many parts' "$(sd 0x8000 "$(sid 5 1 2 3 4 5 6 7 8 9 10 11 12 13 14 15 16)" '' '' '')"
+odd 'an entry more than there are' "$(sd 0x8004 '' '' '' "$(acl "$(ace 0 2 1 "$sy")" | sed 's/^\(02 00 .. ..\) 01/\1 02/')")"
+odd 'an entry of no bytes' "$(sd 0x8004 '' '' '' "$(acl '00 00 00 00 00 00 00 00')")"
+odd 'an owner past the end' "01 00 00 80 ff ff ff ff 00 00 00 00 00 00 00 00 00 00 00 00"
+odd 'a list past the end' "01 00 04 80 00 00 00 00 00 00 00 00 00 00 00 00 fe ff ff ff"
+odd 'a list that ends past the end' "$(sd 0x8004 '' '' '' "$(acl)" | sed 's/02 00 08 00 00 00/02 00 09 00 00 00/')"
+odd 'few bytes' '01'
+odd 'nothing to say' "$(sd 0x8000 '' '' '' '')"
+sddl 'room behind the entries' 'D:(A;;0x1;;;SY)' "$(sd 0x8004 '' '' '' "$(acl "$(ace 0 0 1 "$sy")" '00 00 00 00' | sed 's/^\(02 00 .. ..\) 02/\1 01/')")"
+all=$(sd 0x8014 "$ba" "$sy" "$(acl "$(ace 2 0x40 1 "$wd")")" "$(acl "$(ace 0 2 2 "$sy")" "$(ace 1 0 3 "$ba")")")
+cut='' wrong=''
+for byte in $all; do
+    [ -z "$cut" ] || [ "$(shown $cut)" = "$(hexed $cut)" ] || wrong="$wrong $(count $cut)"
+    cut="$cut $byte"
+done
+right "security: cut anywhere it is hexadecimal ($wrong)" [ -z "$wrong" ]
+sddl 'the whole of it' 'O:BAG:SYD:(A;CI;0x2;;;SY)(D;;0x3;;;BA)S:(AU;SA;0x1;;;WD)' "$all"
+
+# Class names: a key is led to the data of its value, which the check does not see.
+# classed LENGTH HEX..: the file classed, whose root has a class name of so many of these bytes
+classed() {
+    { key R && frame 11 03 00 00 00 02 00 00 00 76 00 "$@" && end_key; } >frames.classed
+    rm -f classed
+    hive build --descriptor sd frames.classed classed >/dev/null
+    vk=$(hive ls --json classed | sed 's/.*"at":\([0-9]*\).*/\1/')
+    dd if=classed of=classed bs=1 skip=$((4096 + vk + 4 + 8)) seek=$((4096 + 32 + 4 + 48)) count=4 conv=notrunc 2>/dev/null
+    octets $(le16 $length) | dd of=classed bs=1 seek=$((4096 + 32 + 4 + 74)) conv=notrunc 2>/dev/null
+}
+octets $(sd 0x8000 "$ba" '' '' '') >sd
+head='key at 32 subkeys 0 values 1 written 1601-01-01T00:00:00.0000000Z'
+length=8
+classed 53 00 68 00 22 00 1b 00
+try 'class: a name' 0 "$head class \"Sh\\\"\\u001b\" security O:BA" '' hive key -l classed ''
+try 'class: json' 0 '{"file":"classed","answer":"key","at":32,"subkeys":0,"values":1,"written":"1601-01-01T00:00:00.0000000Z","class":"Sh\"\u001b","security":"O:BA"}' '' hive key -l --json classed ''
+try 'class: not without -l' 0 'key at 32' '' hive key classed ''
+length=5
+classed 53 00 68 00 22 00 1b 00
+try 'class: an odd number of bytes' 0 "$head class 5300680022 security O:BA" '' hive key -l classed ''
+try 'class: an odd number, json' 0 1 '' eval 'hive key -l --json classed "" | grep -c "\"class_hex\":\"5300680022\",\"security\""'
+length=2
+classed 3d d8 68 00 22 00 1b 00
+try 'class: half of a pair, json' 0 1 '' eval 'hive key -l --json classed "" | grep -c "\"class\":\"$replaced\",\"security\":\"O:BA\",\"replaced\":true}"'
+octets 04 00 00 00 | dd of=classed bs=1 seek=$((4096 + 32 + 4 + 48)) conv=notrunc 2>/dev/null
+try 'class: it cannot be read' 0 "$head security O:BA" 'classed: its class name cannot be read: refused 11 at 4 (see: hive explain 11)' hive key -l classed ''
+octets 0c 00 00 00 | dd of=classed bs=1 seek=$((4096 + 32 + 4 + 44)) conv=notrunc 2>/dev/null
+try 'security: it cannot be read' 0 "$head" 'its security descriptor cannot be read: refused 11 at 12' hive key -l classed ''
+try 'security: it cannot be read, json' 0 1 'refused 11 at 12' eval 'hive key -l --json classed "" | grep -c "\"class\":null,\"security\":null}"'
+try 'security: of no bytes' 0 'key at 32 subkeys 0 values 0 written 1601-01-01T00:00:00.0000000Z' '' hive key -l minimal ''
