@@ -140,7 +140,7 @@ void put_line_data(uint32_t kind, Bytes data)
     else if (is_number(kind, data, &n))
         print_number(n);
     else
-        put_hex(data);
+        put_hex(stdout, data);
 }
 
 static void say_string(Name text, size_t n)

@@ -83,7 +83,7 @@ typedef int Verb(const Order *);
 int read_order(int count, char **words, Order *out, Verb **verb);
 
 /* The verbs. */
-Verb check_verb, info_verb, key_verb, list_verb, keys_verb, value_verb, export_verb, build_verb, reg_verb, dump_verb, deleted_verb, repair_verb, explain_verb;
+Verb check_verb, info_verb, key_verb, list_verb, keys_verb, value_verb, descriptor_verb, export_verb, build_verb, reg_verb, dump_verb, deleted_verb, repair_verb, explain_verb;
 
 /* main.c: every FILE, and the worst status. */
 int each_file(const Order *o, int (*one)(const Order *, const char *));

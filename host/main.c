@@ -70,7 +70,7 @@ static int answer(int count, char **words)
     Verb *verb;
     say_as(wants_json(count, words), false);
     if (count == 0)
-        return misused("a verb is wanted: check, info, key, ls, keys, value, export, build, reg, dump, deleted, repair or explain");
+        return misused("a verb is wanted: check, info, key, ls, keys, value, descriptor, export, build, reg, dump, deleted, repair or explain");
     if (wants_help(words[0])) {
         fputs(HELP, stdout);
         return GOOD;

@@ -20,6 +20,7 @@ static const struct {
     {"ls", "FILE [PATH]", 1, 2, READS | JSON | WIDE, list_verb},
     {"keys", "FILE [PATH]", 1, 2, READS | JSON | ANY_LENGTH, keys_verb},
     {"value", "FILE PATH NAME [OUT]", 3, 4, READS | JSON | NTH, value_verb},
+    {"descriptor", "FILE PATH [OUT]", 2, 3, READS | JSON, descriptor_verb},
     {"export", "FILE [OUT]", 1, 2, READS | JSON | ANY_LENGTH, export_verb},
     {"build", "FRAMES OUT", 2, 2, DESCRIPTOR | JSON, build_verb},
     {"reg", "FILE [PATH]", 1, 2, READS | PREFIX | UTF8 | ANY_LENGTH, reg_verb},
@@ -105,7 +106,7 @@ static int no_verb(const char *word)
     Nearest near = {.wanted = {(const uint8_t *)word, strlen(word), true}};
     for (int v = 0; v < VERB_COUNT; v++)
         is_nearer(&near, (Name){(const uint8_t *)VERBS[v].name, strlen(VERBS[v].name), true});
-    return misused("\"%s\" is none of check, info, key, ls, keys, value, export, build, reg, dump, deleted, repair and explain%s%s%s", word, near.far > 0 ? "; did you mean " : "",
+    return misused("\"%s\" is none of check, info, key, ls, keys, value, descriptor, export, build, reg, dump, deleted, repair and explain%s%s%s", word, near.far > 0 ? "; did you mean " : "",
                    near.far > 0 ? (const char *)near.name.at : "", near.far > 0 ? "?" : "");
 }
 

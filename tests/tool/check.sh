@@ -50,7 +50,7 @@ try 'json: many' 2 "$(printf '%s\n' '{"file":"nothing","answer":"trouble","words
 wrong() { printf '{"file":null,"answer":"usage","words":"%s; see: hive --help"}' "$1"; }
 try 'json: a word too few' 2 "$(wrong 'key wants FILE PATH, and a word is missing')" 'hive: key wants FILE PATH, and a word is missing' hive key --json sample
 try 'json: an option that is none' 2 "$(wrong 'ls: --fast is no option (-- ends the options)')" '--fast is no option' hive ls --fast sample --json
-try 'json: no verb' 2 "$(wrong '\"chekc\" is none of check, info, key, ls, keys, value, export, build, reg, dump, deleted, repair and explain; did you mean check?')" 'none of check' hive chekc --json sample
+try 'json: no verb' 2 "$(wrong '\"chekc\" is none of check, info, key, ls, keys, value, descriptor, export, build, reg, dump, deleted, repair and explain; did you mean check?')" 'none of check' hive chekc --json sample
 try 'json: no number' 2 "$(wrong '--nth wants a number from 1 on, not \"0\"')" '--nth wants' hive value --json --nth 0 sample '' x
 try 'json: a path that is none' 2 "$(wrong "this is not UTF-8: $replaced" | sed 's/}$/,"replaced":true}/')" 'this is not UTF-8' hive key --json sample "$(printf '\377')"
 try 'json: standard input twice' 2 "$(wrong 'FILE and LOG cannot both be standard input')" 'cannot both' hive check --json --log - -
@@ -66,8 +66,8 @@ try 'explain: the checksum' 0 "3: the checksum of the base block is wrong. The w
 try 'explain: security' 0 "28: the security items of the keys do not fit together. At the place is the root, whose own item is none; or an item that has no room for its descriptor, whose forward link leads to no item that links back, or whose count is not the number of keys that name it; or a key whose item is not on the ring that starts at the root's. Windows does not load such a hive; its keys and values can be read here." '' hive explain 28
 try 'explain: two values of one name' 0 "29: a key has two values of one name. At the place is the second of them: its name is that of a value earlier in the key's list, with a to z, and the accented letters of Western Europe, as capitals. Who asks for that name gets the first and never the second; hive value --nth 2 reads it." '' hive explain 29
 try 'explain: no number' 2 '' 'from 1 to 39' hive explain 40
-try 'usage: nothing' 2 '' 'a verb is wanted: check, info, key, ls, keys, value, export, build, reg, dump, deleted, repair or explain; see: hive --help' hive
-try 'usage: no verb' 2 '' '"chekc" is none of check, info, key, ls, keys, value, export, build, reg, dump, deleted, repair and explain; did you mean check?; see: hive --help' hive chekc a
+try 'usage: nothing' 2 '' 'a verb is wanted: check, info, key, ls, keys, value, descriptor, export, build, reg, dump, deleted, repair or explain; see: hive --help' hive
+try 'usage: no verb' 2 '' '"chekc" is none of check, info, key, ls, keys, value, descriptor, export, build, reg, dump, deleted, repair and explain; did you mean check?; see: hive --help' hive chekc a
 try 'usage: a word too few' 2 '' 'key wants FILE PATH, and a word is missing; see: hive --help' hive key sample
 try 'usage: a word too many' 2 '' 'key wants FILE PATH, and "b" is a word too many; see: hive --help' hive key sample a b
 try 'usage: an unknown option' 2 '' 'repair: --fast is no option' hive repair --fast spoilt log

@@ -86,6 +86,10 @@ else
     closed 'build' 0 '*1*' spoilt build smallest made
     closed 'build, to -' 0 '*[12]*' spoilt build smallest -
     closed 'build, refused' 1 '*1*' spoilt build sample made
+    closed 'descriptor' 0 '*1*' spoilt descriptor sample a
+    closed 'descriptor, to a file' 0 $never spoilt descriptor sample a made
+    closed 'descriptor, raw' 0 '*1*' spoilt descriptor sample a -
+    closed 'descriptor, raw, refused' 1 '*[12]*' spoilt descriptor sample nobody -
     closed 'reg' 0 '*1*' spoilt reg sample
     closed 'reg, not all of it' 4 '*1*' spoilt reg --utf8 reg
     closed 'reg, refused' 1 '*[12]*' spoilt reg file

@@ -44,7 +44,7 @@ notation='@\\\ud83dg'
 for json in '' --json; do
     for words in 'check sample' 'check /proc/version' 'check minimal cut nothing' 'check --log log spoilt' 'check --log new-log1 --log new-log2 spoilt' 'check --grow --log new-log-grown spoilt-short' \
         'check own-parent' 'info sample' 'info minimal cut nothing' 'info /proc/version' 'key -l sample a' 'key sample a\k9' "key notation $notation" 'key cut a' 'ls sample a' 'key sample HKLM/SYSTEM/a' 'value sample a/k1 x' 'ls -l notation @' 'ls names' 'ls bad-key' 'keys notation' \
-        'keys bad-key' 'keys sample nobody' 'dump sample' 'dump notation @' 'dump bad-key' 'dump --as-is dirty' "value sample $print Large new" "value sample $print Several" 'value --nth 2 names \ a\x0ab' 'value names \ a\x0aB' 'export sample new' \
+        'keys bad-key' 'keys sample nobody' 'dump sample' 'dump notation @' 'dump bad-key' 'dump --as-is dirty' "value sample $print Large new" "value sample $print Several" 'value --nth 2 names \ a\x0ab' 'value names \ a\x0aB' 'descriptor sample a' 'descriptor sample a new' 'descriptor sample a\k9 new' 'export sample new' \
         'export sample' 'export bad-key new' 'export bad-key' 'build sample.frames new' 'build log new' 'build --descriptor log sample.frames new' 'deleted left' \
         'repair --dry-run spoilt log' 'repair --dry-run spoilt short-log' 'check --as-is dirty' 'ls --as-is dirty' 'export --as-is dirty new'; do
         starve ${words%% *} $json ${words#* }

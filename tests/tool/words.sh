@@ -211,3 +211,37 @@ octets 0c 00 00 00 | dd of=classed bs=1 seek=$((4096 + 32 + 4 + 44)) conv=notrun
 try 'security: it cannot be read' 0 "$head" 'its security descriptor cannot be read: refused 11 at 12' hive key -l classed ''
 try 'security: it cannot be read, json' 0 1 'refused 11 at 12' eval 'hive key -l --json classed "" | grep -c "\"class\":null,\"security\":null}"'
 try 'security: of no bytes' 0 'key at 32 subkeys 0 values 0 written 1601-01-01T00:00:00.0000000Z' '' hive key -l minimal ''
+
+# A key's descriptor as a file, and what build takes.
+octets $all >all.sd
+rm -f sd.hive with-all out.sd
+hive build --descriptor all.sd frames.2 with-all >/dev/null
+text='O:BAG:SYD:(A;CI;0x2;;;SY)(D;;0x3;;;BA)S:(AU;SA;0x1;;;WD)'
+cp with-all with-all.before
+try 'descriptor: as words' 0 "$text" '' hive descriptor with-all ControlSet001
+try 'descriptor: the root' 0 "$text" '' hive descriptor with-all ''
+try 'descriptor: json' 0 "{\"file\":\"with-all\",\"answer\":\"descriptor\",\"at\":32,\"length\":$(count $all),\"security\":\"$text\",\"hex\":\"$(hexed $all)\"}" '' hive descriptor --json with-all ''
+try 'descriptor: to a file' 0 '' '' hive descriptor with-all Select out.sd
+same 'descriptor: its bytes' out.sd all.sd
+try 'descriptor: never over a file' 2 '' 'is not overwritten' hive descriptor with-all Select out.sd
+raw_descriptor() { hive descriptor "$@" - >raw; }
+try 'descriptor: raw' 0 '' '' raw_descriptor with-all Select
+same 'descriptor: raw, its bytes' raw all.sd
+try 'descriptor: raw, refused' 1 '' 'refused 17 at 0' raw_descriptor with-all Nothing
+right 'descriptor: raw, refused, and standard output is empty' [ ! -s raw ]
+try 'descriptor: raw, not to a terminal' 2 '' 'standard output: raw bytes are no text for a terminal; give OUT' on_terminal descriptor with-all '' -
+rm -f again-all
+try 'descriptor: for build' 0 "$(rm -f again-frames; hive export with-all again-frames >/dev/null; hive build --descriptor all.sd again-frames again-first)" '' hive build --descriptor out.sd again-frames again-all
+same 'descriptor: the same hive again' again-all with-all
+try 'descriptor: another reading of the path' 0 "$text" 'is read as ControlSet002\Services' hive descriptor with-all 'HKLM\SYSTEM\CurrentControlSet\Services'
+try 'descriptor: no such key' 1 'refused 17 at 0' 'did you mean Select?' hive descriptor with-all Slect
+rm -f out.sd
+try 'descriptor: no such key, and no file' 1 'refused 17 at 0' 'did you mean Select?' hive descriptor with-all Slect out.sd
+right 'descriptor: no file is left' [ ! -e out.sd ]
+try 'descriptor: it cannot be read' 1 'refused 11 at 12' 'an offset leads to no cell in use, at offset 12' hive descriptor classed ''
+try 'descriptor: a dirty hive' 1 'refused 7 at 0' 'differ' hive descriptor dirty a
+try 'descriptor: as it is' 0 "$(hive descriptor sample a)" 'what its log held is missing' hive descriptor --as-is dirty a
+try 'descriptor: with its log' 0 "$(hive descriptor sample a)" '' hive descriptor --log log spoilt a
+try 'descriptor: a word is missing' 2 '' 'descriptor wants FILE PATH [OUT], and a word is missing' hive descriptor sample
+try 'descriptor: a word too many' 2 '' 'is a word too many' hive descriptor sample a b c
+same 'descriptor: reading changes nothing' with-all with-all.before
