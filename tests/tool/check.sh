@@ -47,7 +47,6 @@ try 'json: accepted' 0 '{"file":"minimal","answer":"accepted","bins":1,"keys":1,
 try 'json: many' 2 "$(printf '%s\n' '{"file":"nothing","answer":"trouble","words":"No such file or directory"}' \
     '{"file":"no-root","answer":"refused","number":12,"place":32,"key":null,"words":"a record in a cell is wrong or does not fit its cell, at offset 32 (0x20), which is byte 4128 (0x1020) of the file"}' \
     '{"file":"cut","answer":"refused","number":6,"place":null,"key":null,"words":"the file ends before its bins do"}')" 'nothing: No such' hive check --json nothing no-root cut
-wrong() { printf '{"file":null,"answer":"usage","words":"%s; see: hive --help"}' "$1"; }
 try 'json: a word too few' 2 "$(wrong 'key wants FILE PATH, and a word is missing')" 'hive: key wants FILE PATH, and a word is missing' hive key --json sample
 try 'json: an option that is none' 2 "$(wrong 'ls: --fast is no option (-- ends the options)')" '--fast is no option' hive ls --fast sample --json
 try 'json: no verb' 2 "$(wrong '\"chekc\" is none of check, info, key, ls, keys, value, descriptor, export, build, reg, dump, deleted, repair and explain; did you mean check?')" 'none of check' hive chekc --json sample
