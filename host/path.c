@@ -1,5 +1,6 @@
 /* The key at a path. A path that is refused as it is given, with 16 or 17, is read as other tools write it: without a root before it, without the backslash at
- * its end, with the control set that Select\Current names, and then all of that with slashes for backslashes, which a name may hold too. What is read instead is told. */
+ * its end, with the control set that Select\Current names, and then all of that with slashes for backslashes, which a name may hold too. What is read instead
+ * is told. */
 #include <stdlib.h>
 #include <string.h>
 

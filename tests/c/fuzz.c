@@ -243,7 +243,7 @@ static void make_words(void)
 {
     static const char *const verbs[][3] = {
         {"check", "f", "Lgj"}, {"check", "ff", "j"}, {"info", "f", "j"}, {"info", "ff", "j"}, {"key", "fp", "Lgjl"}, {"ls", "f", "Lgjl"}, {"ls", "fp", "Lgjl"}, {"keys", "f", "LgjA"}, {"keys", "fp", "LgjA"},
-        {"value", "fpn", "Lgjn"}, {"value", "fpno", "Lgjn"}, {"export", "f", "LgjA"}, {"export", "fo", "LgjA"}, {"build", "so", "Dj"}, {"build", "so", "Dj"},
+        {"value", "fpn", "Lgjn"}, {"value", "fpno", "Lgjn"}, {"descriptor", "fp", "Lgj"}, {"descriptor", "fpo", "Lgj"}, {"export", "f", "LgjA"}, {"export", "fo", "LgjA"}, {"build", "so", "Dj"}, {"build", "so", "Dj"},
         {"reg", "f", "LgpuA"}, {"reg", "fp", "LgpuA"}, {"dump", "f", "LgjA"}, {"dump", "fp", "LgjA"}, {"deleted", "f", "Lgj"}, {"repair", "fl", "gjdba"}, {"repair", "flm", "gjdba"}, {"explain", "#", "j"},
         {"chekc", "f", "j"}, {"--version", "", ""}, {"", "f", ""},
     };

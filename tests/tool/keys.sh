@@ -30,7 +30,7 @@ try 'keys: whatever is asked for' 1 'refused 12 at 32' 'does not fit its cell' h
 try 'keys: too deep' 1 "$(hive check chain 2>/dev/null)" 'deeper than level 512' hive keys chain
 try 'keys: json of a refusal' 1 '{"file":"cut","answer":"refused","number":6,"place":null,"key":null,"words":"the file ends before its bins do"}' '' hive keys --json cut
 try 'keys: no such key' 1 'refused 17 at 0' 'the root has no subkey nobody' hive keys sample nobody
-try 'keys: no path' 1 'refused 16 at 0' 'leave out the backslash at the end' hive keys sample 'a\\\'
+try 'keys: no path' 1 'refused 16 at 0' 'the path is not possible' hive keys sample 'a\\\'
 try 'keys: not finished' 1 'refused 7 at 0' 'give its log with --log' hive keys spoilt
 try 'keys: as its log would repair it' 0 "$every" '' hive keys --log log spoilt
 keys_input() { hive keys "$@" <sample; }
