@@ -1,4 +1,6 @@
 // The base block: tests 1 to 7, *usable*, *clean*, and the checksum.
+#![tactic(auto)]
+
 ghost use Rattle.std.specs.Prelude.{◌≡◌, ◌+◌, ◌≤◌, ◌<◌, length};
 ghost use Rattle.fields.specs.declared.Verdict.TheVariants.{Sound};
 ghost use Rattle.base.specs.Block.{is_regf, xors, as_stored, stored_checksum, is_summed, is_version, minor_of, bins_of, is_bins_size, usable as usable_as, is_settled, clean as clean_of, root_of, block_fault, base_fault, sector, bins_data};

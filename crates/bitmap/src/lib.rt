@@ -1,4 +1,6 @@
 // A bitmap, lowest bit first.
+#![tactic(auto)]
+
 ghost use Rattle.std.specs.Prelude.{◌≡◌, ◌+◌, ◌*◌, ◌/◌, ◌%◌, ◌^◌, ◌≤◌, ◌<◌, length};
 ghost use Rattle.bitmap.specs.Bits.{bit, is_marked, bits_before, next_marked, zeros, turned, with_bit};
 
@@ -86,7 +88,7 @@ pub fn bits_before(map: &[u8], index: usize) -> usize
     ones_of_words(map, words) + ones_of_bytes(map, words, whole) + ones_in_byte(map, index)
 }
 
-#[derive(Drop)]
+#[derive(Clone, Copy)]
 pub enum Next {
     At(usize),
     Nothing,

@@ -1,4 +1,6 @@
 // A hive from frames: how long it will be, or why there is none. The frames are tested and measured, and nothing is written.
+#![tactic(auto)]
+
 ghost use Rattle.std.specs.Prelude.{◌≡◌, ℕ, ◌≤◌, length};
 ghost use Rattle.fields.specs.Faults.{flaw, nowhere};
 ghost use Rattle.base.specs.Block.{bins_limit};

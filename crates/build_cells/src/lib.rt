@@ -1,5 +1,7 @@
 // The cells of a hive that is made from frames, each written at its place in a lent buffer. The buffer may hold anything before, so zeros are written too; only
 // the bytes of the cell are written, and none twice.
+#![tactic(auto)]
+
 ghost use Rattle.std.specs.Prelude.{◌≡◌, true, false, ◌+◌, ◌-◌, ◌*◌, ◌%◌, ◌≤◌, ◌<◌, ◌++◌, eqb, length};
 ghost use Rattle.std.proofs.lemmas.List.Edits.{sets};
 ghost use Rattle.fields.specs.Number.{le32, le64};
@@ -203,7 +205,7 @@ pub fn put_value(
     put_pad(out, at, len);
 }
 
-// The flags: 0x0020 if the name is stored one byte per character; of the root also 0x000_c.
+// The flags: 0x0020 if the name is stored one byte per character; of the root also 0x000C.
 pub fn key_flags(narrow: bool, parent: u32) -> u16
     ensures { result ≡ flag_of narrow 32 + flag_of (eqb parent nothing) 12 }
 {
@@ -211,7 +213,7 @@ pub fn key_flags(narrow: bool, parent: u32) -> u16
 }
 
 // What a key's record holds before its name.
-#[derive(Drop)]
+#[derive(Clone, Copy)]
 pub struct KeyFields {
     pub flags: u16,
     pub stamp: u64,

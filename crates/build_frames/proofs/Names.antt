@@ -54,9 +54,9 @@ module _ (s : List ℕ) (t : Text) (l : NameLies s t) (n : ℕ) where
   unfolding is_named
   key-empty q = rw (name-length s t l.inside, lt-leb 1 (t.len / 2) (omega arith))
 
-  pub key-long : 2 ≤ t.len → 510 < t.len → is_named (opens n (name_in s t)) ≡ false
+  pub key_long : 2 ≤ t.len → 510 < t.len → is_named (opens n (name_in s t)) ≡ false
   unfolding is_named
-  key-long p q =
+  key_long p q =
       rw (name-length s t l.inside, le-leb 1 (t.len / 2) (omega arith), lt-leb (t.len / 2) 255 (omega (arith, l.even)))
 
   pub key-by-backslash : 2 ≤ t.len → t.len ≤ 510 → is_named (opens n (name_in s t)) ≡ not (has_code backslash (name_in s t))

@@ -1,5 +1,7 @@
 // One frame of a stream, read where it stands, and its own numbers: what it says, the tests that need no other frame or one other name, and the sizes of
 // the cells that are made of it. s is the stream; its names are UTF-16LE, and nothing of it is copied.
+#![tactic(auto)]
+
 ghost use Rattle.std.specs.Prelude.{◌≡◌, true, false, ℕ, ◌+◌, ◌*◌, ◌%◌, ◌^◌, ◌≤◌, ◌<◌, List, length, get_or, take, drop};
 ghost use Rattle.names.specs.Codes.{codes};
 ghost use Rattle.names.specs.Comparison.{compare, same_name};
@@ -13,21 +15,21 @@ ghost use Rattle.build_frames.specs.Terms.{text_in, name_in, item_in, TextLies, 
 use names::Order;
 
 // Bytes of the stream: a name, or data.
-#[derive(Drop)]
+#[derive(Clone, Copy)]
 pub struct Text {
     pub at: usize,
     pub len: usize,
 }
 
 // "Kind 16 opens a key (stamp, name in UTF-16LE)"
-#[derive(Drop)]
+#[derive(Clone, Copy)]
 pub struct Opening {
     pub stamp: u64,
     pub name: Text,
 }
 
 // "17 is a value (4-byte type, 4-byte name length in bytes, name in UTF-16LE, data)"
-#[derive(Drop)]
+#[derive(Clone, Copy)]
 pub struct Held {
     pub kind: u32,
     pub name: Text,
@@ -35,7 +37,7 @@ pub struct Held {
 }
 
 // What a frame says; one that is not laid out as a frame says nothing.
-#[derive(Drop)]
+#[derive(Clone, Copy)]
 pub enum Shape {
     Unlaid,
     Opens(Opening),
@@ -146,6 +148,7 @@ pub fn part_of(s: &[u8], t: Text) -> &[u8]
 }
 
 // Whether a key may have a name: not "of 0 or over 255 characters or with a backslash". A character is two bytes.
+#[tactic(auto, using(crate::proofs::Names::key_long))]
 pub fn is_key_name(s: &[u8], t: Text) -> bool
     requires { NameLies s.now t }
     ensures { (n : ℕ) → result ≡ is_named (opens n (name_in s.now t)) }

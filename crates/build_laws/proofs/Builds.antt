@@ -153,6 +153,7 @@ module _ (d : List ℕ) (hive : Hive) (bytes : AllBelow 256 d) where
   tree-reads : (n : ℕ) (o : Offset) → TreeStands d hive n o → ((k : Offset) → Memᴰ k (keys_in d n o) → (key_of d k).subkeys ≤ 65535)
       → KeyReads d hive.minor n o
   unfolding keys_in
+  tree-reads Prim.Native.Nat.zero o x₂ few = elim x₂ [ ]
   tree-reads (suc n) o (key s a ch tree) few =
       key-reads-of d hive.minor bytes n o s a (few o (Memᴰ.head refl))
       (list-reads d hive.minor n (children d o)

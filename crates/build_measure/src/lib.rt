@@ -1,4 +1,6 @@
 // The first pass over a stream: the frames are tested and the hive that will be made of them is measured, nothing is written. s is the stream.
+#![tactic(auto)]
+
 ghost use Rattle.std.specs.Prelude.{◌≡◌, ℕ, ◌≤◌, List, length, drop};
 ghost use Rattle.forest.specs.Faults.{holds, opens, closes, shape_of, is_above};
 ghost use Rattle.fields.specs.Faults.{flaw, nowhere};
@@ -9,7 +11,7 @@ use build_frames::{Held, Opening, Shape, Text};
 use fields::{Fault, Flaw, Offset, Verdict};
 
 // Values that stand in a row: where they end, how many there are, and the sizes of their cells added.
-#[derive(Drop)]
+#[derive(Clone, Copy)]
 pub struct Values {
     pub at: usize,
     pub count: usize,
@@ -17,14 +19,14 @@ pub struct Values {
 }
 
 // Whether one of some values has an earlier namesake: where the frame of the first such starts.
-#[derive(Drop)]
+#[derive(Clone, Copy)]
 pub enum Twice {
     Nothing,
     At(usize),
 }
 
 // Where a frame comes, behind the values of a key: the key's level, how many subkeys came before, and the name of the latest.
-#[derive(Drop)]
+#[derive(Clone, Copy)]
 pub struct Here {
     pub level: usize,
     pub subkeys: usize,
@@ -32,7 +34,7 @@ pub struct Here {
 }
 
 // The next frame of a key that is open, behind its values: a subkey opens, the key closes, or something is wrong there.
-#[derive(Drop)]
+#[derive(Clone, Copy)]
 pub enum Step {
     Key(Opening),
     End,
@@ -40,7 +42,7 @@ pub enum Step {
 }
 
 // A key that was passed: where its closing frame ends, the sizes of the cells of all that is in it, and how many keys are below it.
-#[derive(Drop)]
+#[derive(Clone, Copy)]
 pub struct Tested {
     pub at: usize,
     pub size: usize,
@@ -48,7 +50,7 @@ pub struct Tested {
 }
 
 // A key that is open: where its next frame starts, the same sums so far, how many subkeys came, and the name of the latest.
-#[derive(Drop)]
+#[derive(Clone, Copy)]
 pub struct Sofar {
     pub at: usize,
     pub size: usize,
@@ -58,33 +60,33 @@ pub struct Sofar {
 }
 
 // What is wrong, and where the frame at fault starts.
-#[derive(Drop)]
+#[derive(Clone, Copy)]
 pub struct StreamFlaw {
     pub flaw: Flaw,
     pub at: usize,
 }
 
-#[derive(Drop)]
+#[derive(Clone, Copy)]
 pub enum Measured {
     Closed(Tested),
     Flawed(StreamFlaw),
 }
 
 // The first frame of a stream: the root opens, or something is wrong there.
-#[derive(Drop)]
+#[derive(Clone, Copy)]
 pub enum First {
     Root(Opening),
     Flawed(Flaw),
 }
 
 // A stream without a fault: the sizes of the cells of all its keys and values, and how many keys there are.
-#[derive(Drop)]
+#[derive(Clone, Copy)]
 pub struct Whole {
     pub size: usize,
     pub keys: usize,
 }
 
-#[derive(Drop)]
+#[derive(Clone, Copy)]
 pub enum Judged {
     Fits(Whole),
     Flawed(StreamFlaw),

@@ -1,5 +1,7 @@
 // "value with an earlier namesake in its key": the values of a key stand in a row in a stream. A key may have tens of thousands of values, so names are not
 // compared each with each: a table of their hashes, searched by chains, says which have to be, and keeps where each value's frame starts.
+#![tactic(auto)]
+
 ghost use Rattle.std.specs.Prelude.{◌≡◌, ◌+◌, ◌≤◌, ◌<◌, length};
 ghost use Rattle.chains.specs.Chains.{Chained};
 ghost use Rattle.namesake_laws.specs.Repeats.{First, Blocked, met_in};

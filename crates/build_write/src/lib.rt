@@ -1,5 +1,7 @@
 // The second pass over a stream that is known to be good: the cells of its keys and values, written into a lent buffer. s is the stream; an offset counts from
 // the first bin, so what has an offset stands 4096 bytes further in the buffer.
+#![tactic(auto)]
+
 ghost use Rattle.std.specs.Prelude.{◌≡◌, true, false, List, ℕ, ◌+◌, ◌*◌, ◌≤◌, ◌<◌, length, drop};
 ghost use Rattle.std.proofs.lemmas.List.Edits.{sets};
 ghost use Rattle.names.specs.Hashing.{hash_of};
@@ -78,7 +80,7 @@ fn put_held(s: &[u8], v: Held, out: &mut [u8], offset: usize) -> usize
 }
 
 // How far the values of a key are written: the position of the next frame, how many there are, the offset behind their cells, and the longest.
-#[derive(Drop)]
+#[derive(Clone, Copy)]
 pub struct Written {
     pub at: usize,
     pub count: usize,
@@ -124,7 +126,7 @@ pub fn put_values(s: &[u8], at: usize, out: &mut [u8], offset: usize) -> Written
 }
 
 // How far a value list is written: the position of the next frame, the offset of its `vk` cell, and where in the buffer that is written.
-#[derive(Drop)]
+#[derive(Clone, Copy)]
 struct Listing {
     at: usize,
     offset: usize,
@@ -223,7 +225,7 @@ fn key_hash(out: &[u8], offset: usize) -> u32
 }
 
 // How far a leaf is written: how many subkeys are left, the offset of the next, and where in the buffer its element is written.
-#[derive(Drop)]
+#[derive(Clone, Copy)]
 struct Elements {
     left: usize,
     offset: usize,
@@ -289,7 +291,7 @@ fn is_opening(s: &[u8], at: usize) -> bool
     fields::u16_at(s, at + 4) == 16
 }
 
-// An offset, or 0x_ffffffff where there is none.
+// An offset, or 0xFFFFFFFF where there is none.
 fn if_any(n: usize, at: usize) -> u32
     requires { at < 4294967296 }
     ensures { result ≡ if_any n at }
@@ -301,7 +303,7 @@ fn if_any(n: usize, at: usize) -> u32
 }
 
 // How far the keys below a key are written: the position of the next frame, the offset behind their cells, how many there are, and their longest name.
-#[derive(Drop)]
+#[derive(Clone, Copy)]
 pub struct SubkeysProgress {
     pub at: usize,
     pub offset: usize,
@@ -310,7 +312,7 @@ pub struct SubkeysProgress {
 }
 
 // A key whose values and value list are written: what its frame tells, whether its name is stored one byte per character, and as above of its values.
-#[derive(Drop)]
+#[derive(Clone, Copy)]
 pub struct KeyProgress {
     pub stamp: u64,
     pub name: Text,

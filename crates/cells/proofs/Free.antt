@@ -1,7 +1,7 @@
 -- The free cells of the walk are those of the bins: each lies inside one bin, apart from all cells in use, and they ascend.
 use Prim.Native.Nat.{ℕ, zero, suc, ◌+◌, ◌-◌, ◌%◌, ◌≤◌, ◌<◌}
 use native.Mathlib.Omega.{arith}
-use mathlib.Core.Path.{◌≡◌, refl, sym, ap, subst}
+use mathlib.Core.Path.{◌≡◌, refl, sym, subst}
 use mathlib.Core.Bool.{Bool, true, false, cond}
 use mathlib.Core.Logic.{◌⊎◌, inl, inr, ◌↔◌, ⊎_elim}
 use mathlib.Core.List.Memᴰ
@@ -48,15 +48,15 @@ joined (spread_end p) t = lower p t
 joined (spread-on a b s) t = spread-on a b (joined s t)
 
 module _ (d : List ℕ) where
-  pub cell_lies : {at end o : ℕ} → at % 8 ≡ 0 → FreeCell d end o at → Lies d at end o
+  pub cell_lies : {end o at : ℕ} → at % 8 ≡ 0 → FreeCell d end o at → Lies d at end o
   cell_lies a (this-free lt g u) =
       record { after = omega arith; before = omega (arith, g.inside); some = g.some; whole = g.eights; eights = a }
   cell_lies a (later-free lt g s) =
       let c = cell_lies (omega (arith, g.eights)) s in
       record { after = omega (arith, c.after); before = c.before; some = c.some; whole = c.whole; eights = c.eights }
 
-  bin-lies : {at o : ℕ} → at % 4096 ≡ 0 → FreeBin d o at → Lies d at (length d) o
-  bin-lies {at} a (in-bin n h c) =
+  bin-lies : {o at : ℕ} → at % 4096 ≡ 0 → FreeBin d o at → Lies d at (length d) o
+  bin-lies {at = at} a (in-bin n h c) =
       let i = cell_lies (omega arith) c in
       record { after = omega (arith, i.after); before = omega (arith, i.before, h.inside); some = i.some; whole = i.whole; eights = i.eights }
   bin-lies a (past-bin n h b) =
@@ -67,10 +67,10 @@ module _ (d : List ℕ) where
   free-lies b = bin-lies refl b
 
   -- the free cells of the walk are those of the bins
-  cells_free : {at end o : ℕ} → FreeCell d end o at → Memᴰ (the-span o (size_at d o).bytes) (free_in (tiling d at end))
+  cells_free : {end o at : ℕ} → FreeCell d end o at → Memᴰ (the-span o (size_at d o).bytes) (free_in (tiling d at end))
   unfolding free_in
-  cells_free {at} {end} {o} (this-free lt g u) = rw (step d o end lt (of-good g), u) (Memᴰ.head refl)
-  cells_free {at} {end} {o} (later-free lt g s) = rw (step d at end lt (of-good g)) (by (size_at d at).used (cells_free s))
+  cells_free {end = end} {o = o} {at = at} (this-free lt g u) = rw (step d o end lt (of-good g), u) (Memᴰ.head refl)
+  cells_free {end = end} {o = o} {at = at} (later-free lt g s) = rw (step d at end lt (of-good g)) (by (size_at d at).used (cells_free s))
     where
       by : (u : Bool) → Memᴰ (the-span o (size_at d o).bytes) (free_in (tiling d (at + (size_at d at).bytes) end))
           → Memᴰ (the-span o (size_at d o).bytes)
@@ -78,11 +78,11 @@ module _ (d : List ℕ) where
       by true m = m
       by false m = Memᴰ.tail m
 
-  bins-free : {at o : ℕ} → FreeBin d o at → Memᴰ (the-span o (size_at d o).bytes) (free_cells (layout d at))
+  bins-free : {o at : ℕ} → FreeBin d o at → Memᴰ (the-span o (size_at d o).bytes) (free_cells (layout d at))
   unfolding free_cells
-  bins-free {at} {o} (in-bin n h c) =
+  bins-free {o = o} {at = at} (in-bin n h c) =
       rw (bins-step d at (omega (arith, h.some, h.inside)) (of-header-some d h), of-header d h) (Memᴰ.append_left (free_cells (layout d (at + n))) (cells_free c))
-  bins-free {at} {o} (past-bin n h b) =
+  bins-free {o = o} {at = at} (past-bin n h b) =
       rw (bins-step d at (omega (arith, h.some, h.inside)) (of-header-some d h), of-header d h) (Memᴰ.append_right (free_in (tiling d (at + 32) (at + n))) (bins-free b))
 
   -- a span is that of a free cell
@@ -154,14 +154,14 @@ module _ (d : List ℕ) where
       of-free f = subst (λ (e : ℕ). Memᴰ (record { from = s.from; to = e }) (free_cells (layout d 0))) (sym f.ends) (bins-free f.at-start)
 
   -- no cell in use reaches into a free one
-  cells-apart : {at end u o : ℕ} → at % 8 ≡ 0 → InCells d end u at → FreeCell d end o at → Apart d u o
+  cells-apart : {end u o at : ℕ} → at % 8 ≡ 0 → InCells d end u at → FreeCell d end o at → Apart d u o
   cells-apart a (this-cell l g s) (this-free l' g' s') = absurd (never _ s s')
   cells-apart a (this-cell l g s) (later-free l' g' f) = inl (cell_lies (omega (arith, g.eights)) f).after
   cells-apart a (later-cell l g c) (this-free l' g' s) = inr (cell_in d (omega (arith, g.eights)) c).after
   cells-apart a (later-cell l g c) (later-free l' g' f) = cells-apart (omega (arith, g.eights)) c f
 
-  bins-apart : {at u o : ℕ} → at % 4096 ≡ 0 → InBins d u at → FreeBin d o at → Apart d u o
-  bins-apart {at} {u} {o} a (this-bin n h c) (in-bin n' h' f) =
+  bins-apart : {u o at : ℕ} → at % 4096 ≡ 0 → InBins d u at → FreeBin d o at → Apart d u o
+  bins-apart {u = u} {o = o} {at = at} a (this-bin n h c) (in-bin n' h' f) =
       cells-apart (omega arith) c (subst (λ (k : ℕ). FreeCell d (at + k) o (at + 32)) (same_size d h' h) f)
   bins-apart a (this-bin n h c) (past-bin n' h' f) =
       let e = same_size d h h' in
@@ -171,7 +171,7 @@ module _ (d : List ℕ) where
       let e = same_size d h h' in
       let l = cell_lies (omega arith) f in
       inr (omega (arith, (used-in-bin d (omega (arith, h.pages)) b).1, l.before))
-  bins-apart {at} {u} {o} a (later-bin n h b) (past-bin n' h' f) =
+  bins-apart {u = u} {o = o} {at = at} a (later-bin n h b) (past-bin n' h' f) =
       bins-apart (omega (arith, h.pages)) b (subst (λ (k : ℕ). FreeBin d o (at + k)) (same_size d h' h) f)
 
   pub free-apart : (u : Offset) {o : ℕ} → InUse d u → FreeBin d o 0 → Apart d u.0 o

@@ -17,7 +17,7 @@ use Rattle.cells.specs.declared.Row.{Row}
 use Rattle.cells.specs.declared.Row.TheVariants.{Counted, Flawed}
 use Rattle.cells.specs.declared.Tally.{Tally}
 use Rattle.cells.specs.declared.Surveyed.TheVariants.{Tiled}
-use Rattle.cells.specs.Tiling.{good_size, whole, tiling, row_of, bin_size, bin, layout, add_row, survey_of}
+use Rattle.cells.specs.Tiling.{good_size, tiling, row_of, bin_size, layout, add_row, survey_of}
 use Rattle.cells.specs.Map.{starts, starts_in}
 use Rattle.cells.specs.Tiled.{Good, CellsTile, cells-end, cell-on, Header, BinsTile, bins-end, bin-on, InCells, this-cell, later-cell, InBins, this-bin, later-bin, InUse, CellIn, InBin}
 use Rattle.cells.specs.Counts.{cells_of, cells_in, bin_count, used_bytes, free_bytes}
@@ -90,11 +90,11 @@ module _ (d : List ℕ) where
           cell-on lt g (ih lt g (rw (step d at end lt y) at e))
 
   -- and cells that tile a bin are counted: those in use and the free ones
-  pub row-sums : {at end : ℕ} (t : CellsTile d end at) (u f : ℕ)
+  pub row-sums : {end at : ℕ} (t : CellsTile d end at) (u f : ℕ)
       → row_of (tiling d at end) u f ≡ Counted (u + used_bytes (cells_of t)) (f + free_bytes (cells_of t))
   unfolding row_of cells_of used_bytes free_bytes
-  row-sums {at} {end} cells-end u f = rw (done d end end (omega arith)) (ap₂ Counted (omega arith) (omega arith))
-  row-sums {at} {end} (cell-on lt g t) u f =
+  row-sums {end = end} {at = at} cells-end u f = rw (done d end end (omega arith)) (ap₂ Counted (omega arith) (omega arith))
+  row-sums {end = end} {at = at} (cell-on lt g t) u f =
       let z = size_at d at in
       rw (step d at end lt (of-good g))
       (row-sums t (cond z.used (u + z.bytes) u) (cond z.used f (f + z.bytes))
@@ -188,10 +188,10 @@ module _ (d : List ℕ) where
       rw (← q) (omega arith, omega arith, omega arith)
 
   -- "32 x bins + used + free = bins size"
-  cells-add : {at end : ℕ} (t : CellsTile d end at) → used_bytes (cells_of t) + free_bytes (cells_of t) + at ≡ end
+  cells-add : {end at : ℕ} (t : CellsTile d end at) → used_bytes (cells_of t) + free_bytes (cells_of t) + at ≡ end
   unfolding cells_of used_bytes free_bytes
   cells-add cells-end = omega arith
-  cells-add {at} (cell-on lt g t) =
+  cells-add {at = at} (cell-on lt g t) =
       let s = cells-add t in
       let z = size_at d at in
       omega (arith, used-or-free z.used z.bytes)
@@ -209,10 +209,10 @@ module _ (d : List ℕ) where
   -- ---- the cells in use
 
   -- the walk's function says of an offset what the tiling says
-  cells-starts : {at end o : ℕ} → InCells d end o at → starts (tiling d at end) o ≡ true
+  cells-starts : {end o at : ℕ} → InCells d end o at → starts (tiling d at end) o ≡ true
   unfolding starts
-  cells-starts {at} {end} {o} (this-cell lt g u) = rw (step d o end lt (of-good g), u, eq-eqb o o refl)
-  cells-starts {at} {end} {o} (later-cell lt g s) = rw (step d at end lt (of-good g)) (or_right ((size_at d at).used && eqb at o) (cells-starts s))
+  cells-starts {end = end} {o = o} {at = at} (this-cell lt g u) = rw (step d o end lt (of-good g), u, eq-eqb o o refl)
+  cells-starts {end = end} {o = o} {at = at} (later-cell lt g s) = rw (step d at end lt (of-good g)) (or_right ((size_at d at).used && eqb at o) (cells-starts s))
 
   starts-cells : (k at end o : ℕ) → end - at ≤ k → starts (tiling d at end) o ≡ true → InCells d end o at
   unfolding starts
@@ -248,11 +248,11 @@ module _ (d : List ℕ) where
           let g = good n (end - at) y in
           pick lt g (ih lt g) (or_cases _ _ (rw (step d at end lt y) at e))
 
-  bins-starts : {at o : ℕ} → InBins d o at → starts_in (layout d at) o ≡ true
+  bins-starts : {o at : ℕ} → InBins d o at → starts_in (layout d at) o ≡ true
   unfolding starts_in
-  bins-starts {at} {o} (this-bin n h c) =
+  bins-starts {o = o} {at = at} (this-bin n h c) =
       rw (bins-step d at (omega (arith, h.some, h.inside)) (of-header-some h), of-header h, cells-starts c)
-  bins-starts {at} {o} (later-bin n h b) =
+  bins-starts {o = o} {at = at} (later-bin n h b) =
       rw (bins-step d at (omega (arith, h.some, h.inside)) (of-header-some h), of-header h) (or_right (starts (tiling d (at + 32) (at + n)) o) (bins-starts b))
 
   starts-bins : (k at o : ℕ) → length d - at ≤ k → starts_in (layout d at) o ≡ true → InBins d o at
@@ -290,15 +290,15 @@ module _ (d : List ℕ) where
   pub starts-exactly : (o : Offset) → (starts_in (layout d 0) o.0 ≡ true) ↔ InUse d o
   starts-exactly o = (starts-bins (length d) 0 o.0 (omega arith), bins-starts)
 
-  pub cell_in : {at end o : ℕ} → at % 8 ≡ 0 → InCells d end o at → CellIn d at end o
+  pub cell_in : {end o at : ℕ} → at % 8 ≡ 0 → InCells d end o at → CellIn d at end o
   cell_in a (this-cell lt g u) =
       record { after = omega arith; before = omega (arith, g.inside); some = g.some; whole = g.eights; eights = a; used = u }
   cell_in a (later-cell lt g s) =
       let c = cell_in (omega (arith, g.eights)) s in
       record { after = omega (arith, c.after); before = c.before; some = c.some; whole = c.whole; eights = c.eights; used = c.used }
 
-  pub in-bin : {at o : ℕ} → at % 4096 ≡ 0 → InBins d o at → InBin d o × (at ≤ o)
-  in-bin {at} a (this-bin n h c) =
+  pub in-bin : {o at : ℕ} → at % 4096 ≡ 0 → InBins d o at → InBin d o × (at ≤ o)
+  in-bin {at = at} a (this-bin n h c) =
       let i = cell_in (omega arith) c in
       (record { bin = at; size = n; header = h; inside = i }, omega (arith, i.after))
   in-bin a (later-bin n h b) = let r = in-bin (omega (arith, h.pages)) b in (r.0, omega (arith, r.1))
@@ -317,13 +317,13 @@ module _ (d : List ℕ) where
   same_rest : {at n n' o : ℕ} → Header d at n → Header d at n' → InBins d o (at + n') → InBins d o (at + n)
   same_rest {at} {n} {n'} {o} h h' b = subst (λ (k : ℕ). InBins d o (at + k)) (same_size h' h) b
 
-  cells-apart : {at end o p : ℕ} → at % 8 ≡ 0 → InCells d end o at → InCells d end p at → o < p → o + (size_at d o).bytes ≤ p
+  cells-apart : {end o p at : ℕ} → at % 8 ≡ 0 → InCells d end o at → InCells d end p at → o < p → o + (size_at d o).bytes ≤ p
   cells-apart a (this-cell l g u) (this-cell l' g' u') lt = absurd (omega arith)
   cells-apart a (this-cell l g u) (later-cell l' g' s) lt = (cell_in (omega (arith, g.eights)) s).after
   cells-apart a (later-cell l g s) (this-cell l' g' u) lt = absurd (let c = (cell_in (omega (arith, g.eights)) s).after in omega arith)
   cells-apart a (later-cell l g s) (later-cell l' g' s') lt = cells-apart (omega (arith, g.eights)) s s' lt
 
-  bins-apart : {at o p : ℕ} → at % 4096 ≡ 0 → InBins d o at → InBins d p at → o < p → o + (size_at d o).bytes ≤ p
+  bins-apart : {o p at : ℕ} → at % 4096 ≡ 0 → InBins d o at → InBins d p at → o < p → o + (size_at d o).bytes ≤ p
   bins-apart a (this-bin n h c) (this-bin n' h' c') lt = cells-apart (omega arith) c (same_bin h h' c') lt
   bins-apart a (this-bin n h c) (later-bin n' h' b) lt =
       let e = same_size h h' in

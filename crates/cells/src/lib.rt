@@ -1,6 +1,8 @@
 // Bins, cells and the work map. What the crates above may cite: `survey`, the bounded cell that an offset names, and the reads inside its data.
 //
 // Everything below the survey speaks of the bins data, the part of the hive from 4096 on, at offsets in it.
+#![tactic(auto)]
+
 ghost use Rattle.std.specs.Prelude.{◌≡◌, ◌+◌, ◌-◌, ◌*◌, ◌/◌, ◌%◌, ◌≤◌, ◌<◌, length};
 ghost use Rattle.fields.specs.Number.{u32_at};
 ghost use Rattle.cells.specs.Tiling.{good_size, tiling, row_of, bin_size, layout, survey_of};
@@ -36,7 +38,7 @@ fn mark(map: &mut [u8], at: usize)
 }
 
 // The cells of one bin: the bytes in use and the free bytes, or the fault.
-#[derive(Drop)]
+#[derive(Clone, Copy)]
 enum Row {
     Counted { used: usize, free: usize },
     Flawed(Flaw),
@@ -94,14 +96,14 @@ fn bin_size(bins: &[u8], at: usize) -> usize
 }
 
 // What the tiling counts.
-#[derive(Drop)]
+#[derive(Clone, Copy)]
 pub struct Tally {
     pub bins: usize,
     pub used: usize,
     pub free: usize,
 }
 
-#[derive(Drop)]
+#[derive(Clone, Copy)]
 pub enum Surveyed {
     Tiled(Tally),
     Flawed(Flaw),
@@ -155,7 +157,7 @@ pub fn count_tiles(bins: &[u8]) -> Surveyed
 }
 
 // A free cell from an offset to another, in a bin that ends at `bin`; or none, at the end of the bins data.
-#[derive(Drop)]
+#[derive(Clone, Copy)]
 pub struct Gap {
     pub at: usize,
     pub end: usize,
@@ -242,19 +244,20 @@ pub fn survey(hive: &[u8], map: &mut [u8]) -> Surveyed
 const SIZE_FIELD: usize = 4;
 
 // The bounded cell: its offset, and how many bytes of data follow its size field.
-#[derive(Drop)]
+#[derive(Clone, Copy)]
 pub struct Cell {
     pub at: Offset,
     pub len: usize,
 }
 
-#[derive(Drop)]
+#[derive(Clone, Copy)]
 pub enum Found {
     Named(Cell),
     Flawed(Flaw),
 }
 
 // How long the cell is that an offset names by its own header, or 0 where it names none. A number comes back in a register, a `Found` does not.
+#[tactic(auto, using(crate::proofs::Naming::low))]
 fn header_length(bins: &[u8], o: Offset) -> usize
     ensures { result ≡ length_named bins.now o.0 }
 {
@@ -291,7 +294,7 @@ pub fn is_marked(map: &[u8], o: Offset) -> bool
 }
 
 // By which rule an offset names a cell: the check has a map, and lookup goes by the cell's own header.
-#[derive(Drop)]
+#[derive(Clone, Copy)]
 pub enum Rule {
     Map,
     Header,

@@ -11,7 +11,7 @@ use Rattle.fields.specs.declared.Fault.TheVariants.{NotIn}
 use Rattle.fields.specs.Faults.{flaw, nowhere, no_key, refusal_of}
 use Rattle.sectors.specs.Sector.{sector_at, stored, page_place, page, Bytes}
 use Rattle.sectors.proofs.Pages.{page-same}
-use Rattle.logs.specs.Logs.{is_logged, versions_of, logged, all_in}
+use Rattle.logs.specs.Logs.{versions_of, logged, all_in}
 use Rattle.logs.specs.Small.{later, hive}
 use Rattle.logs.proofs.Laws.{logged-below, version-length, all_in_lem}
 use Rattle.logs.proofs.Later.{first_byte, second-byte, page-versions, page-logged, page-last, only-page}

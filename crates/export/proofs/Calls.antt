@@ -1,19 +1,17 @@
 -- The public calls: a law for each way out.
-use Prim.Native.Nat.{ℕ, zero, suc, ◌+◌, ◌-◌, ◌*◌, ◌≤◌, ◌<◌}
+use Prim.Native.Nat.{ℕ, zero, suc, ◌-◌, ◌*◌, ◌≤◌, ◌<◌}
 use native.Mathlib.Omega.{arith}
 use mathlib.Core.Path.{◌≡◌, refl, sym, ap, ◌∙◌}
 use mathlib.Core.Bool.{Bool, true, false}
-use mathlib.Core.List.{List, [], ◌∷◌, ◌++◌}
+use mathlib.Core.List.{List, [], ◌∷◌}
 use lib.Dec.{leb}
-use lib.ListN.{length, drop, length-append}
+use lib.ListN.{length, length-append}
 use lib.Seq.{sets}
 use borrow.Author.Tests.{leb-true, le-leb, lt-leb}
-use Rattle.fields.specs.declared.Fault.TheVariants.{OutputShort}
 use Rattle.fields.specs.declared.Flaw.{Flaw}
 use Rattle.fields.specs.declared.Offset.{Offset}
-use Rattle.fields.specs.declared.Refusal.{Refusal}
 use Rattle.fields.specs.declared.Verdict.TheVariants.{Sound, Flawed}
-use Rattle.fields.specs.Faults.{flaw, nowhere, no_key, refusal_of}
+use Rattle.fields.specs.Faults.{no_key, refusal_of}
 use Rattle.fields.proofs.Firsts.{on}
 use Rattle.base.specs.Block.{bins_data, base_fault}
 use Rattle.cells.proofs.Fronts.{front-facts}
@@ -27,14 +25,10 @@ use Rattle.export.specs.declared.Begun.TheVariants.{At, Refused as Unbegun}
 use Rattle.export.specs.declared.Cursor.{Cursor}
 use Rattle.export.specs.declared.Due.{Due}
 use Rattle.export.specs.declared.Due.TheVariants.{Comes, Over, Refused as Bad}
-use Rattle.export.specs.declared.Frame.{Frame}
 use Rattle.export.specs.declared.Passed.{Passed}
 use Rattle.export.specs.declared.Passed.TheVariants as passed
 use Rattle.export.specs.declared.Ran.TheVariants as ran
-use Rattle.export.specs.declared.Stepped.{Stepped}
-use Rattle.export.specs.declared.Stepped.TheVariants as stepped
 use Rattle.export.specs.declared.Turn.{Turn}
-use Rattle.export.specs.declared.Turn.TheVariants as turn
 use Rattle.export.specs.Due.{words, run_fault, bytes_due, due_at, words_behind, cursor_behind}
 use Rattle.export.specs.Answers.{short, start, begin_answer, begin_levels, packed, run_answer, run_out, run_levels}
 use Rattle.export.specs.Terms.{turn_of, turn_bytes, ran_in, Went, went, stepped_on, stepped_by, bytes_by, root_words, stepped_in, bytes_in}

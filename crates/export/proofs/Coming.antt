@@ -1,20 +1,19 @@
 -- In an accepted hive the frame that is due is the first of those still to come, and the move behind it leaves the others.
 use Prim.Native.Nat.{ℕ, zero, suc, ◌+◌, ◌-◌, ◌*◌, ◌≤◌, ◌<◌}
 use native.Mathlib.Omega.{arith}
-use native.Mathlib.Numerals.{add-one}
 use mathlib.Core.Path.{◌≡◌, refl, sym, ap, ap₂, ◌∙◌, subst}
-use mathlib.Core.Bool.{Bool, true, false, cond}
-use mathlib.Core.List.{List, [], ◌∷◌, ◌++◌, append_assoc, append-nil}
+use mathlib.Core.Bool.{Bool, true, false}
+use mathlib.Core.List.{List, [], ◌∷◌, ◌++◌, append_assoc}
 use lib.Dec.{eqb, leb}
 use lib.ListN.{length, get_or, drop, length-take, length-drop}
 use lib.Seq.{sets, length-sets, drop-cons}
-use borrow.Author.Tests.{eqb-true, eqb-false, eq-eqb, ne_eqb, le-leb, lt-leb, leb-true, leb-false}
+use borrow.Author.Tests.{eqb-true, eqb-false, eq-eqb, leb-true, leb-false}
 use Rattle.fields.specs.declared.Offset.{Offset}
 use Rattle.fields.specs.declared.Verdict.TheVariants.{Sound}
-use Rattle.fields.specs.Faults.{nowhere, no_key}
+use Rattle.fields.specs.Faults.{nowhere}
 use Rattle.fields.proofs.Firsts.{sound}
 use Rattle.fields.proofs.Loops.{drop_all}
-use Rattle.base.specs.Block.{bins_limit, sector, bins_of, bins_data, base_fault}
+use Rattle.base.specs.Block.{bins_limit, bins_data, base_fault}
 use Rattle.base.proofs.Laws.{facts-base, base-facts}
 use Rattle.cells.specs.declared.Rule.TheVariants.{Header}
 use Rattle.cells.proofs.Parts.{data-short}
@@ -23,7 +22,7 @@ use Rattle.records.specs.Keys.{key_fault, key_of}
 use Rattle.records.specs.Lists.{children}
 use Rattle.records.proofs.Elements.{at_in}
 use Rattle.values.specs.Records.{value_of}
-use Rattle.values.specs.Lists.{values_of, value_list_fault, whole_value_fault}
+use Rattle.values.specs.Lists.{values_of, value_list_fault}
 use Rattle.tree.specs.Tree.{hive_of, levels}
 use Rattle.tree.specs.WellFormed.{KeyStands, TreeStands, key, CleanAndWellFormed}
 use Rattle.search.proofs.Finds.{key-good}
@@ -36,18 +35,17 @@ use Rattle.walk.specs.declared.Offer.TheVariants as ahead
 use Rattle.walk.specs.declared.Walked.{Walked}
 use Rattle.walk.specs.declared.Walked.TheVariants as walked
 use Rattle.walk.specs.Answers.{key_at, step_in, answer_of, levels_after, step_answer, step_levels}
-use Rattle.walk.specs.Events.{events_over, events_in, events_of, coming, depth_after}
-use Rattle.walk.proofs.Lists.{Open, Standing, Stepped, step_gives, set_at, begun, begun-stands, begun-coming}
+use Rattle.walk.specs.Events.{events_over, events_in, coming, depth_after}
+use Rattle.walk.proofs.Lists.{Open, Standing, Stepped, step_gives, set_at, begun, begun-coming}
 use Rattle.walk.proofs.Moves.{moves-below}
 use Rattle.walk.proofs.Ways.{step-on}
 use Rattle.stream.proofs.Whole.{values-many, own-many}
 use Rattle.stream.specs.Stream.{Framed, holds, opens, closes, value_frames, own_frames, frames_over, frames_in, frames_of}
 use Rattle.export.specs.declared.Cursor.{Cursor}
-use Rattle.export.specs.declared.Due.{Due}
-use Rattle.export.specs.declared.Due.TheVariants.{Comes, Over}
+use Rattle.export.specs.declared.Due.TheVariants.{Comes}
 use Rattle.export.specs.declared.Frame.{Frame}
 use Rattle.export.specs.declared.What.TheVariants as what
-use Rattle.export.specs.Due.{bytes_due, framed_due, comes, due_where, value_due, past, walk_due, top_due, due_at, words_behind, depth_behind}
+use Rattle.export.specs.Due.{bytes_due, framed_due, value_due, past, walk_due, top_due, due_at, words_behind, depth_behind}
 use Rattle.export.specs.Answers.{no_frame}
 use Rattle.export.specs.Coming.{filled, coming_frames}
 use Rattle.export.proofs.Ways.{frame_of, due-on, value-is, walk_is}

@@ -1,18 +1,17 @@
 -- In an accepted hive: step n gives frame n, and runs give the stream in pieces.
-use Prim.Native.Nat.{ℕ, zero, suc, ◌+◌, ◌-◌, ◌*◌, ◌/◌, ◌≤◌, ◌<◌}
+use Prim.Native.Nat.{ℕ, zero, suc, ◌+◌, ◌-◌, ◌*◌, ◌≤◌, ◌<◌}
 use native.Mathlib.Omega.{arith}
 use native.Mathlib.Nat.{zero-add}
-use mathlib.Core.Path.{◌≡◌, refl, sym, ap, ap₂, ◌∙◌, subst}
-use mathlib.Core.Bool.{Bool, true, false, cond, ◌&&◌}
-use mathlib.Core.List.{List, [], ◌∷◌, ◌++◌, append_assoc, append-nil}
+use mathlib.Core.Path.{◌≡◌, refl, sym, ap, ◌∙◌, subst}
+use mathlib.Core.Bool.{Bool, true, false}
+use mathlib.Core.List.{List, [], ◌∷◌, ◌++◌, append_assoc}
 use lib.Dec.{leb}
-use lib.ListN.{length, get_or, take, drop, replicate, length-replicate, length-append}
+use lib.ListN.{length, get_or, take, drop, replicate, length-replicate}
 use lib.Seq.{sets, sets-eq, take_at, drop_at, drop-drop}
 use borrow.Author.Tests.{leb-true, leb-false, le-leb, lt-leb}
 use Rattle.fields.specs.declared.Verdict.TheVariants.{Sound}
-use Rattle.fields.specs.Faults.{flaw, unless, nowhere}
 use Rattle.fields.proofs.Firsts.{on}
-use Rattle.base.specs.Block.{sector, bins_of, bins_data, base_fault}
+use Rattle.base.specs.Block.{bins_data, base_fault}
 use Rattle.base.proofs.Laws.{facts-base}
 use Rattle.cells.proofs.Fronts.{front-facts}
 use Rattle.cells.proofs.Mapped.{surveyed}
@@ -24,9 +23,8 @@ use Rattle.tree.specs.WellFormed.{CleanAndWellFormed}
 use Rattle.tree.proofs.Exactly.{accepted-as, accepted-exactly}
 use Rattle.walk.proofs.Lists.{Standing, begun, begun-stands}
 use Rattle.stream.specs.Stream.{Framed, frames_of, stream_of, joined_frames}
-use Rattle.stream.proofs.Whole.{joined-append, joined-one, joined-none, frames-joined}
-use Rattle.export.specs.declared.Begun.{Begun}
-use Rattle.export.specs.declared.Begun.TheVariants.{At, Refused as Unbegun}
+use Rattle.stream.proofs.Whole.{joined-append, frames-joined}
+use Rattle.export.specs.declared.Begun.TheVariants.{At}
 use Rattle.export.specs.declared.Cursor.{Cursor}
 use Rattle.export.specs.declared.Due.{Due}
 use Rattle.export.specs.declared.Due.TheVariants.{Comes, Over, Refused as Bad}
@@ -34,10 +32,9 @@ use Rattle.export.specs.declared.Frame.{Frame}
 use Rattle.export.specs.declared.Passed.TheVariants as passed
 use Rattle.export.specs.declared.Progress.{Progress}
 use Rattle.export.specs.declared.Ran.TheVariants as ran
-use Rattle.export.specs.declared.Stepped.{Stepped}
-use Rattle.export.specs.declared.Stepped.TheVariants.{Written, Done, Refused}
+use Rattle.export.specs.declared.Stepped.TheVariants.{Written, Done}
 use Rattle.export.specs.Due.{words, run_fault, bytes_due, framed_due, due_at, words_behind, depth_behind, cursor_behind}
-use Rattle.export.specs.Answers.{short, no_frame, fits, step_from, on_checked, step_answer, out_after, step_out, start, begin_answer, levels_begun, begin_levels, Packed, none, more, packed, not_one, ran_of, run_packed, on_run, run_answer, run_out, run_levels}
+use Rattle.export.specs.Answers.{short, no_frame, fits, step_from, step_answer, out_after, step_out, start, begin_answer, begin_levels, Packed, more, packed, ran_of, run_packed, run_answer, run_out, run_levels}
 use Rattle.export.specs.Terms.{Went, went, stepped_by, bytes_by, root_words, stepped_in, bytes_in}
 use Rattle.export.specs.Coming.{coming_frames}
 use Rattle.export.specs.Runs.{Reached, begins, runs, Goes}

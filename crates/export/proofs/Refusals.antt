@@ -1,19 +1,19 @@
 -- Every refusal of an export says why, and leaves what was lent.
-use Prim.Native.Nat.{ℕ, zero, suc, ◌-◌, ◌*◌, ◌≤◌, ◌<◌}
+use Prim.Native.Nat.{ℕ, zero, suc, ◌-◌, ◌*◌, ◌<◌}
 use native.Mathlib.Omega.{arith}
-use mathlib.Core.Path.{◌≡◌, refl, sym, ap, ◌∙◌, subst}
+use mathlib.Core.Path.{◌≡◌, refl, sym, ap, ◌∙◌}
 use mathlib.Core.Bool.{Bool, true, false, cond, ◌&&◌}
-use mathlib.Core.List.{List, [], ◌∷◌, Memᴰ}
+use mathlib.Core.List.{List, [], ◌∷◌}
 use lib.Dec.{eqb, leb}
 use lib.ListN.{length, get_or}
-use borrow.Author.Tests.{eqb-true, eqb-false, leb-true, leb-false}
+use borrow.Author.Tests.{eqb-false, leb-true, leb-false}
 use Rattle.fields.specs.declared.Fault.TheVariants.{OutputShort}
 use Rattle.fields.specs.declared.Flaw.{Flaw}
 use Rattle.fields.specs.declared.Offset.{Offset}
 use Rattle.fields.specs.declared.Refusal.{Refusal}
 use Rattle.fields.specs.declared.Verdict.{Verdict}
 use Rattle.fields.specs.declared.Verdict.TheVariants.{Sound, Flawed}
-use Rattle.fields.specs.Faults.{flaw, unless, nowhere, no_key, refusal_of, Because}
+use Rattle.fields.specs.Faults.{flaw, nowhere, no_key, refusal_of, Because}
 use Rattle.fields.proofs.Every.{Every, every-unless, every-next}
 use Rattle.fields.proofs.Firsts.{stop}
 use Rattle.base.specs.Block.{bins_data, base_fault}
@@ -23,7 +23,6 @@ use Rattle.cells.proofs.Refusals.{Ruled, by-header}
 use Rattle.records.specs.Keys.{key_fault, key_of}
 use Rattle.records.proofs.Elements.{at_in}
 use Rattle.values.specs.Records.{value_fault, data_in}
-use Rattle.values.specs.Segments.{data_fault}
 use Rattle.values.specs.Lists.{values_of, value_list_fault, whole_value_fault}
 use Rattle.values.specs.Refused.{one_of}
 use Rattle.values.proofs.Refusals.{key-fit, key-unfit, value-fit, value-unfit, value-list-unfit, value-named, data-unfit}
@@ -43,14 +42,13 @@ use Rattle.export.specs.declared.Begun.TheVariants.{At, Refused as Unbegun}
 use Rattle.export.specs.declared.Cursor.{Cursor}
 use Rattle.export.specs.declared.Due.{Due}
 use Rattle.export.specs.declared.Due.TheVariants.{Comes, Over, Refused as Bad}
-use Rattle.export.specs.declared.Ran.{Ran}
 use Rattle.export.specs.declared.Ran.TheVariants as ran
 use Rattle.export.specs.declared.Stepped.{Stepped}
 use Rattle.export.specs.declared.Stepped.TheVariants.{Written, Done, Refused}
 use Rattle.export.specs.declared.Frame.{Frame}
 use Rattle.export.specs.declared.What.TheVariants as what
 use Rattle.export.specs.Due.{words, run_fault, comes, due_where, value_due, walk_due, top_due, due_at}
-use Rattle.export.specs.Answers.{short, no_frame, fits, step_from, on_checked, step_answer, out_after, step_out, start, begin_answer, levels_begun, begin_levels, not_one, ran_of, Packed, none, packed, run_packed, on_run, run_answer, run_out, run_levels}
+use Rattle.export.specs.Answers.{short, no_frame, step_from, step_answer, out_after, step_out, begin_answer, levels_begun, begin_levels, ran_of, Packed, none, packed, run_packed, run_answer, run_out, run_levels}
 use Rattle.export.specs.Refused.{OfFrame, OfBegun, OfRun, of-base, no_words, of-key, of_values, of-data, of-walk}
 use Rattle.export.specs.Refused as why
 use Rattle.export.proofs.Ways.{due-lies}
@@ -85,7 +83,7 @@ module _ (h m : List ℕ) where
           (b.0, b.1, b.2, why.of-check b.3)
       by (checked.Accepted s) p =
           let y = frame-from (frames_of h) n room r (rw p at e) in
-          ((get_or (frames_of h) n no_frame).key, flaw OutputShort nowhere, sym y.2, why.too_long y.0 y.1)
+          ((get_or (frames_of h) n no_frame).key, flaw OutputShort nowhere, sym y.2, why.too-long y.0 y.1)
 
   -- it leaves the buffer, and so does a step past the last frame
   out_stays : (s : Stepped) (b out : List ℕ) → ((k : ℕ) → s ≡ Written k → ⊥) → out_after s b out ≡ out
@@ -228,7 +226,7 @@ module _ (h ws : List ℕ) (c : Cursor) (room : ℕ) where
       → ran_of x fs y ≡ ran.Refused r → Because P r
   ran-why (Comes f) p [] e y r q =
       let z : short f.key ≡ r = cc in
-      (f.key, flaw OutputShort nowhere, sym z, why.too_long p (no_room f p room refl e))
+      (f.key, flaw OutputShort nowhere, sym z, why.too-long p (no_room f p room refl e))
   ran-why Over p [] e y r q = absurd (let z : ◌≡◌ {A = ℕ} 0 1 = cc in omega arith)
   ran-why (Bad s) p [] e y r q = let z : s ≡ r = cc in due-why r (p ∙ ap Bad z)
   ran-why x p (g ∷ fs) e y r q = absurd (let z : ◌≡◌ {A = ℕ} 0 1 = cc in omega arith)

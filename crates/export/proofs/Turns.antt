@@ -3,19 +3,18 @@ use Prim.Native.Nat.{ℕ, zero, suc, ◌+◌, ◌-◌, ◌*◌, ◌≤◌, ◌<�
 use native.Mathlib.Omega.{arith}
 use native.Mathlib.Nat.{zero-add}
 use mathlib.Core.Path.{◌≡◌, refl, sym, ap, ap₂, ◌∙◌, subst}
-use mathlib.Core.Bool.{Bool, true, false, cond}
+use mathlib.Core.Bool.{Bool, true, false}
 use mathlib.Core.List.{List, [], ◌∷◌, ◌++◌, append_assoc, append-nil}
-use lib.Dec.{eqb, leb}
+use lib.Dec.{leb}
 use lib.ListN.{length, length-append}
 use lib.Seq.{sets, length-sets}
-use borrow.Author.Tests.{ne_eqb, leb-true, leb-false, le-leb, lt-leb}
+use borrow.Author.Tests.{ne_eqb, leb-true, le-leb, lt-leb}
 use Rattle.fields.specs.declared.Offset.{Offset}
 use Rattle.fields.specs.declared.Refusal.{Refusal}
 use Rattle.fields.specs.declared.Verdict.TheVariants.{Sound}
 use Rattle.cells.specs.declared.Rule.TheVariants.{Header}
 use Rattle.records.specs.Keys.{key_fault}
-use Rattle.walk.specs.declared.Offer.TheVariants as ahead
-use Rattle.walk.specs.Answers.{key_at, levels_after}
+use Rattle.walk.specs.Answers.{key_at}
 use Rattle.stream.specs.Stream.{Framed, joined_frames}
 use Rattle.stream.proofs.Puts.{put_then, close-length}
 use Rattle.stream.proofs.Laws.{open-some, value-some}
@@ -27,13 +26,12 @@ use Rattle.export.specs.declared.Frame.{Frame}
 use Rattle.export.specs.declared.Passed.TheVariants as passed
 use Rattle.export.specs.declared.Ran.{Ran}
 use Rattle.export.specs.declared.Ran.TheVariants as ran
-use Rattle.export.specs.declared.Turn.{Turn}
 use Rattle.export.specs.declared.Turn.TheVariants as turn
 use Rattle.export.specs.declared.What.{What}
 use Rattle.export.specs.declared.What.TheVariants as what
 use Rattle.export.specs.Due.{bytes_due, framed_due, past, due_at, words_behind, depth_behind, cursor_behind}
 use Rattle.export.specs.Answers.{short, Packed, none, more, packed_on, packed, not_one, ran_of}
-use Rattle.export.specs.Terms.{WhatGoes, FrameLies, turn_of, turn_bytes, turn_words, ended_of, ran_in, Went, went_on, went}
+use Rattle.export.specs.Terms.{WhatGoes, FrameLies, turn_of, turn_bytes, turn_words, ended_of, ran_in, went}
 use Rattle.export.proofs.Ways.{due-lies, due-known}
 
 -- ---- a turn

@@ -10,7 +10,6 @@ use lib.Seq.{sets, length-sets}
 use borrow.Author.Tests.{eq-eqb, ne_eqb, eqb-true, eqb-false, le-leb, lt-leb}
 use Rattle.fields.specs.declared.Flaw.{Flaw}
 use Rattle.fields.specs.declared.Offset.{Offset}
-use Rattle.fields.specs.declared.Refusal.{Refusal}
 use Rattle.fields.specs.declared.Verdict.{Verdict}
 use Rattle.fields.specs.declared.Verdict.TheVariants.{Sound, Flawed}
 use Rattle.fields.specs.Faults.{nowhere, no_key, refusal_of, ◌next◌}
@@ -29,7 +28,6 @@ use Rattle.values.specs.Segments.{data_fault, length_of}
 use Rattle.values.specs.Lists.{values_of, value_list_fault, value_entries, whole_value_fault}
 use Rattle.values.specs.Terms.{Room, entered}
 use Rattle.values.proofs.LawsLists.{list-room, list-values}
-use Rattle.values.proofs.Rooms.{entries-length}
 use Rattle.values.proofs.Segment_faults.{entered-whole, entered-flawed}
 use Rattle.values.proofs.Valued_at.{is_whole, whole-stop, whole-on}
 use Rattle.listing.specs.declared.Entry.{Entry}
@@ -39,9 +37,8 @@ use Rattle.walk.specs.declared.Offer.{Offer}
 use Rattle.walk.specs.declared.Offer.TheVariants as ahead
 use Rattle.walk.specs.Answers.{key_at, step_at, step_in, levels_after}
 use Rattle.walk.proofs.Ways.{in_on}
-use Rattle.walk.proofs.Moves.{Below, moves-below}
+use Rattle.walk.proofs.Moves.{moves-below}
 use Rattle.walk.proofs.Lists.{set_at}
-use Rattle.stream.specs.Stream.{open_frame, framed_value, close_frame}
 use Rattle.stream.specs.Terms.{open_len, value_len}
 use Rattle.stream.proofs.Puts.{close-length}
 use Rattle.stream.proofs.Laws.{key-name, open-length, value-length, value-name, value-lies}
@@ -51,7 +48,7 @@ use Rattle.export.specs.declared.Due.TheVariants.{Comes, Over, Refused}
 use Rattle.export.specs.declared.Frame.{Frame}
 use Rattle.export.specs.declared.What.{What}
 use Rattle.export.specs.declared.What.TheVariants as what
-use Rattle.export.specs.Due.{bytes_due, comes, due_where, value_due, past, walk_due, top_due, due_at, words_behind, depth_behind}
+use Rattle.export.specs.Due.{comes, due_where, value_due, past, walk_due, top_due, due_at, words_behind, depth_behind}
 use Rattle.export.specs.Terms.{FrameLies}
 
 -- a frame by its parts

@@ -17,8 +17,6 @@ use Rattle.export.specs.declared.Begun.TheVariants.{At, Refused as Unbegun}
 use Rattle.export.specs.declared.Cursor.{Cursor}
 use Rattle.export.specs.declared.Due.{Due}
 use Rattle.export.specs.declared.Due.TheVariants.{Comes, Over, Refused as Bad}
-use Rattle.export.specs.declared.Frame.{Frame}
-use Rattle.export.specs.declared.Progress.{Progress}
 use Rattle.export.specs.declared.Ran.{Ran}
 use Rattle.export.specs.declared.Ran.TheVariants as ran
 use Rattle.export.specs.declared.Stepped.{Stepped}

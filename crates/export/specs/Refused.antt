@@ -1,6 +1,6 @@
 -- What a refusal of an export says: the check's own reasons, the table's rows 1 to 7, 11, 12 and 15, and 20, with the key under examination. h is the hive, m the
 -- lent work map, ws the lent words.
-use Rattle.std.specs.Prelude.{ℕ, ◌*◌, ◌≤◌, ◌<◌, ◌≡◌, length, get_or}
+use Rattle.std.specs.Prelude.{ℕ, ◌*◌, ◌<◌, ◌≡◌, length, get_or}
 use mathlib.Core.List.{List, Memᴰ}
 use Rattle.fields.specs.declared.Fault.TheVariants.{OutputShort}
 use Rattle.fields.specs.declared.Flaw.{Flaw}

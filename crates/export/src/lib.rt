@@ -1,5 +1,7 @@
 // The tree of an accepted hive as frames: one frame by its number, or runs of frames at the price of one walk. A run keeps nothing but the lent words and
 // the cursor, and no call depends on the size of a buffer.
+#![tactic(auto)]
+
 ghost use Rattle.std.specs.Prelude.{◌≡◌, [], ◌++◌, true, ltb, ◌+◌, ◌-◌, ◌*◌, ◌≤◌, ◌<◌, length, drop};
 ghost use Rattle.std.proofs.lemmas.List.Edits.{sets};
 ghost use Rattle.fields.specs.declared.Verdict.TheVariants.{Sound};
@@ -23,14 +25,14 @@ use tree::Checked;
 use values::{Entered, Value, Valued};
 use walk::{Mark, Offer};
 
-#[derive(Drop)]
+#[derive(Clone, Copy)]
 pub struct Cursor {
     pub depth: usize,
     pub due: usize,
 }
 
 // What a frame is: the top key's own opening, one of its values, the opening of its next child, or its closing.
-#[derive(Drop)]
+#[derive(Clone, Copy)]
 pub enum What {
     Own,
     Value(Value),
@@ -39,7 +41,7 @@ pub enum What {
 }
 
 // A frame, its key, how long it is, and what is due behind it.
-#[derive(Drop)]
+#[derive(Clone, Copy)]
 pub struct Frame {
     pub what: What,
     pub key: Offset,
@@ -47,7 +49,7 @@ pub struct Frame {
     pub due: usize,
 }
 
-#[derive(Drop)]
+#[derive(Clone, Copy)]
 pub enum Due {
     Comes(Frame),
     Over,
@@ -227,7 +229,7 @@ fn move_on(levels: &mut [u32], depth: usize, f: Frame) -> Cursor
 }
 
 // One frame written and the move behind it; or nothing of both.
-#[derive(Drop)]
+#[derive(Clone, Copy)]
 pub enum Turn {
     On(Cursor, usize),
     Over,
@@ -266,14 +268,14 @@ fn take_turn(
     }
 }
 
-#[derive(Drop)]
+#[derive(Clone, Copy)]
 pub struct Progress {
     pub frames: usize,
     pub bytes: usize,
     pub next: Cursor,
 }
 
-#[derive(Drop)]
+#[derive(Clone, Copy)]
 pub enum Ran {
     Written(Progress),
     Done,
@@ -353,7 +355,7 @@ pub fn run(hive: &[u8], levels: &mut [u32], c: Cursor, out: &mut [u8]) -> Ran
     }
 }
 
-#[derive(Drop)]
+#[derive(Clone, Copy)]
 pub enum Begun {
     At(Cursor),
     Refused(Refusal),
@@ -378,7 +380,7 @@ pub fn begin(hive: &[u8], map: &mut [u8], levels: &mut [u32]) -> Begun
 }
 
 // Where a walk stands that passed over frames.
-#[derive(Drop)]
+#[derive(Clone, Copy)]
 pub enum Passed {
     At(Cursor),
     Over,
@@ -411,7 +413,7 @@ fn pass(bins: &[u8], minor: u32, levels: &mut [u32], c: Cursor, n: usize) -> Pas
     Passed::At(next)
 }
 
-#[derive(Drop)]
+#[derive(Clone, Copy)]
 pub enum Stepped {
     Written(usize),
     Done,

@@ -1,4 +1,6 @@
 // Numbers and byte strings in the lent bytes, the two kinds of position, and the faults by name.
+#![tactic(auto)]
+
 ghost use Rattle.std.specs.Prelude.{◌≡◌, ◌+◌, ◌≤◌, length};
 ghost use Rattle.std.proofs.lemmas.List.Edits.{sets};
 ghost use Rattle.std.specs.Int.{w32};
@@ -10,10 +12,10 @@ ghost use Rattle.fields.specs.Position.{place_of, offset_of};
 ghost use Rattle.fields.specs.Faults.{number_of, flaw, refusal_of};
 
 // "A place in the file and an offset in the bins data are two kinds of number (place = 4096 + offset) and must not be mixable."
-#[derive(Drop)]
+#[derive(Clone, Copy)]
 pub struct Place(pub usize);
 
-#[derive(Drop)]
+#[derive(Clone, Copy)]
 pub struct Offset(pub u32);
 
 pub fn to_place(o: Offset) -> Place
@@ -22,7 +24,7 @@ pub fn to_place(o: Offset) -> Place
     Place(o.0 as usize + 4096)
 }
 
-#[derive(Drop)]
+#[derive(Clone, Copy)]
 pub enum Position {
     At(Offset),
     Outside,
@@ -100,7 +102,7 @@ pub fn i32_at(s: &[u8], i: usize) -> i32
 }
 
 // "A cell starts with a signed 32-bit size, negative when in use": whether it is, and the absolute value.
-#[derive(Drop)]
+#[derive(Clone, Copy)]
 pub struct Size {
     pub used: bool,
     pub bytes: u32,
@@ -203,11 +205,11 @@ pub fn copy_all(src: &[u8], dst: &mut [u8])
     requires { length dst.old ≡ length src.now }
     ensures { dst.new ≡ src.now }
 {
-    bytes::copy(src, dst);
+    dst.copy_from_slice(src);
 }
 
 // The refusals' names, in the order of their numbers.
-#[derive(Drop)]
+#[derive(Clone, Copy)]
 pub enum Fault {
     // 1: hive under 4096 bytes
     HiveShort,
@@ -338,13 +340,13 @@ impl Fault {
 }
 
 // What a leaf test finds: a fault and its place.
-#[derive(Drop)]
+#[derive(Clone, Copy)]
 pub struct Flaw {
     pub fault: Fault,
     pub place: Offset,
 }
 
-#[derive(Drop)]
+#[derive(Clone, Copy)]
 pub enum Verdict {
     Sound,
     Flawed(Flaw),
@@ -360,7 +362,7 @@ pub fn flawed(fault: Fault, place: Offset) -> Verdict
 pub const NO_KEY: u32 = 4294967295;
 
 // "Each refusal is a number and a place", and the key under examination: the record that every public answer carries.
-#[derive(Drop)]
+#[derive(Clone, Copy)]
 pub struct Refusal {
     pub fault: Fault,
     pub place: Offset,

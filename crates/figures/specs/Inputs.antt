@@ -50,7 +50,7 @@ with_item = base_block ++ (header ++ (root_with_item ++ (item_cell ++ (0x70 ∷ 
 unfoldable pub lowest : List ℕ
 lowest = base_block ++ (header ++ (0 ∷ 0 ∷ 0 ∷ 0x80 ∷ replicate 4060 0))
 
--- and with 0x7_ffffff8, the largest free size that the field can say
+-- and with 0x7FFFFFF8, the largest free size that the field can say
 unfoldable pub highest : List ℕ
 highest = base_block ++ (header ++ (0xf8 ∷ 0xff ∷ 0xff ∷ 0x7f ∷ replicate 4060 0))
 

@@ -82,12 +82,12 @@ table =
     ∷ is (pages_at (sized 0x00 0xd0 0x1f 0x00) ∷ []) (1536 ∷ [])
     -- `cell size 0x80000000 gives 10`
     ∷ is (check_numbers (check_answer lowest used)) (10 ∷ 32 ∷ [])
-    -- Not the paper's, but of its amendment by request 1: a XOR of 0 and one of 0x_ffffffff, and beside each the number that it is stored as.
+    -- Not the paper's, but of its amendment by request 1: a XOR of 0 and one of 0xFFFFFFFF, and beside each the number that it is stored as.
     ∷ is (stored_checksum (lone 0 0 0 0) ∷ []) (1 ∷ [])
     ∷ is (stored_checksum (lone 0xff 0xff 0xff 0xff) ∷ []) (0xfffffffe ∷ [])
     ∷ is (stored_checksum (lone 1 0 0 0) ∷ []) (1 ∷ [])
     ∷ is (stored_checksum (lone 0xfe 0xff 0xff 0xff) ∷ []) (0xfffffffe ∷ [])
-    -- Of its amendment by request 5: hashes of 0x_e9, 0x_ff, 0x_f7, and "a" with 0x_ff; 0x_e4 is before 0x_c5, 0x_ff is 0x0178, and 0x_d7 is before 0x_f7.
+    -- Of its amendment by request 5: hashes of 0xE9, 0xFF, 0xF7, and "a" with 0xFF; 0xE4 is before 0xC5, 0xFF is 0x0178, and 0xD7 is before 0xF7.
     ∷ is (hash_of (codes true (0xe9 ∷ [])) ∷ []) (201 ∷ [])
     ∷ is (hash_of (codes true (0xff ∷ [])) ∷ []) (376 ∷ [])
     ∷ is (hash_of (codes true (0xf7 ∷ [])) ∷ []) (247 ∷ [])
@@ -96,7 +96,7 @@ table =
     ∷ is (order_number (compare (codes true (0xff ∷ [])) (codes false (0x78 ∷ 1 ∷ []))) ∷ []) (order_number Same ∷ [])
     ∷ is (order_number (compare (codes true (0xd7 ∷ [])) (codes true (0xf7 ∷ []))) ∷ []) (order_number Before ∷ [])
     -- Of its amendment by request 7: the work map and the bitmap of the largest bins data; sizes at the limit and past it; the log's pages, how many and from
-    -- where, and where the last one goes; a cell of the size 0x7_ffffff8 in a bin of 4,096.
+    -- where, and where the last one goes; a cell of the size 0x7FFFFFF8 in a bin of 4,096.
     ∷ is (bins_limit / 64 ∷ bins_limit / 4096 ∷ []) (33554368 ∷ 524287 ∷ [])
     ∷ is (test_number (is_bins_size 2147479552) ∷ []) (1 ∷ [])
     ∷ is (test_number (is_bins_size 2147483648) ∷ []) (0 ∷ [])

@@ -20,6 +20,8 @@
 // value, of 28 the root, or the place where that is a key. In all calls of the repair, and where a value is asked by its offset,
 // it is HIVE_NO_KEY. In both calls that build a hive place is 0 and the key is HIVE_NO_KEY: what 30 to 38 name is a byte of the
 // stream, and stands in `at` of a HiveBuilt.
+#![tactic(auto)]
+
 ghost use Rattle.std.specs.Prelude.{◌<◌, ◌≡◌, true, length};
 ghost use Rattle.cells.specs.Survey.{map_left};
 ghost use Rattle.names.specs.Comparison.{compare};
@@ -102,7 +104,7 @@ const NO_KEY: u32 = 0xffff_ffff;
 // Where number is not 0, every other field of the answer but place, key, a walk's depth, an export's depth and due and a
 // HiveBuilt's at is 0.
 #[repr(C)]
-#[derive(Drop)]
+#[derive(Clone, Copy)]
 pub struct HiveAnswer {
     pub number: u32,
     pub place: u32,
@@ -113,7 +115,7 @@ pub struct HiveAnswer {
 // The report of the check. bins: how many bins. keys: keys reached from the root. values: elements of their value lists.
 // used, free: bytes of cells in use and of free cells, with their size fields. 32 x bins + used + free is the bins size.
 #[repr(C)]
-#[derive(Drop)]
+#[derive(Clone, Copy)]
 pub struct HiveReport {
     pub answer: HiveAnswer,
     pub bins: u64,
@@ -127,7 +129,7 @@ pub struct HiveReport {
 // HIVE_SEGMENTS. at: the place in the file where its data lie, so hive + at in memory (in segments: where the db record lies).
 // length: how many bytes the data have. Data of length 0 that are not inline have at 0.
 #[repr(C)]
-#[derive(Drop)]
+#[derive(Clone, Copy)]
 pub struct HiveValue {
     pub answer: HiveAnswer,
     pub kind: u32,
@@ -138,7 +140,7 @@ pub struct HiveValue {
 
 // length: how many bytes were written.
 #[repr(C)]
-#[derive(Drop)]
+#[derive(Clone, Copy)]
 pub struct HiveCopy {
     pub answer: HiveAnswer,
     pub length: u64,
@@ -148,7 +150,7 @@ pub struct HiveCopy {
 // file where its name stands, so hive + name in memory. length: how many bytes the name has; all of them lie in the hive,
 // whatever it holds. narrow: 1 where each byte is a character, 0 where the name is UTF-16LE.
 #[repr(C)]
-#[derive(Drop)]
+#[derive(Clone, Copy)]
 pub struct HiveMember {
     pub answer: HiveAnswer,
     pub state: u64,
@@ -160,7 +162,7 @@ pub struct HiveMember {
 // A key, as its record says; nothing is counted. written: when it was last written, in steps of 100 ns from the start of 1601 on,
 // UTC. parent: its parent's offset. subkeys, values: how many it has. name, length, narrow: as of a HiveMember.
 #[repr(C)]
-#[derive(Drop)]
+#[derive(Clone, Copy)]
 pub struct HiveKey {
     pub answer: HiveAnswer,
     pub written: u64,
@@ -175,7 +177,7 @@ pub struct HiveKey {
 // Bytes of the hive that a key names. at: the place in the file where they lie, so hive + at in memory. length: how many; all of
 // them lie in the hive, whatever it holds. A key without a class name has at 0 and length 0.
 #[repr(C)]
-#[derive(Drop)]
+#[derive(Clone, Copy)]
 pub struct HivePiece {
     pub answer: HiveAnswer,
     pub at: u64,
@@ -185,7 +187,7 @@ pub struct HivePiece {
 // A step of a walk over all keys. state: HIVE_REFUSED; HIVE_OVER: no key is open; HIVE_OPENS or HIVE_CLOSES: a key, and answer.value is its
 // offset. depth: how many keys are open after it. name, length, narrow: where a key opens as of a HiveMember, else 0.
 #[repr(C)]
-#[derive(Drop)]
+#[derive(Clone, Copy)]
 pub struct HiveWalk {
     pub answer: HiveAnswer,
     pub state: u64,
@@ -198,7 +200,7 @@ pub struct HiveWalk {
 // One frame of an export. state: HIVE_REFUSED; HIVE_NO_MORE: there is no frame of that number; HIVE_WRITTEN. length: how many bytes were
 // written, else 0.
 #[repr(C)]
-#[derive(Drop)]
+#[derive(Clone, Copy)]
 pub struct HiveFrame {
     pub answer: HiveAnswer,
     pub state: u64,
@@ -208,7 +210,7 @@ pub struct HiveFrame {
 // Where an export stands. state: HIVE_REFUSED; HIVE_NO_MORE: all frames were written; HIVE_WRITTEN. depth, due: what the next run is asked
 // with; where nothing was written they are those that were given. frames, bytes: how many this run wrote, else 0.
 #[repr(C)]
-#[derive(Drop)]
+#[derive(Clone, Copy)]
 pub struct HiveExport {
     pub answer: HiveAnswer,
     pub state: u64,
@@ -222,7 +224,7 @@ pub struct HiveExport {
 // is a position in the stream, of 64 bits, and neither an offset nor a place in a hive. length: how many bytes the hive has, 4096
 // and its bins size; 0 where number is not 0.
 #[repr(C)]
-#[derive(Drop)]
+#[derive(Clone, Copy)]
 pub struct HiveBuilt {
     pub answer: HiveAnswer,
     pub at: u64,
@@ -233,7 +235,7 @@ pub struct HiveBuilt {
 // its offset, that of the size field of the cell that it once had: the record starts 4 bytes further on. kind: HIVE_OLD_KEY or
 // HIVE_OLD_VALUE. name, length, narrow: as of a HiveMember. Nothing else of the record was judged.
 #[repr(C)]
-#[derive(Drop)]
+#[derive(Clone, Copy)]
 pub struct HiveRemnant {
     pub answer: HiveAnswer,
     pub state: u64,
@@ -245,7 +247,7 @@ pub struct HiveRemnant {
 
 // state: HIVE_REFUSED, HIVE_NO_MORE, or HIVE_THERE where rows were written; rows: how many.
 #[repr(C)]
-#[derive(Drop)]
+#[derive(Clone, Copy)]
 pub struct HiveRows {
     pub answer: HiveAnswer,
     pub state: u64,
@@ -255,7 +257,7 @@ pub struct HiveRows {
 // An answer of recovery. state: HIVE_REFUSED; HIVE_CLEAN: nothing is to be done and nothing was changed; HIVE_DONE: accepted or done.
 // pages: the number of pages that the log holds, where hive_recover_start accepts it or hive_recover_mark_pages is done, else 0.
 #[repr(C)]
-#[derive(Drop)]
+#[derive(Clone, Copy)]
 pub struct HiveRecovery {
     pub answer: HiveAnswer,
     pub state: u64,
@@ -265,7 +267,7 @@ pub struct HiveRecovery {
 // A page of a log. state: HIVE_REFUSED, HIVE_NO_MORE or HIVE_THERE. page: its number. from: where its 512 bytes lie in the log.
 // to: where they go in the hive. Both are places in the file.
 #[repr(C)]
-#[derive(Drop)]
+#[derive(Clone, Copy)]
 pub struct HivePage {
     pub answer: HiveAnswer,
     pub state: u64,
@@ -277,7 +279,7 @@ pub struct HivePage {
 // A page that a log marks. state: HIVE_REFUSED, HIVE_NO_MORE or HIVE_THERE. page: its number. to: where its 512 bytes go in the
 // hive, a place in the file.
 #[repr(C)]
-#[derive(Drop)]
+#[derive(Clone, Copy)]
 pub struct HiveMark {
     pub answer: HiveAnswer,
     pub state: u64,
@@ -289,7 +291,7 @@ pub struct HiveMark {
 // of them. end: where the last ends in the log. bins: the largest bins size, so that the hive needs 4096 + bins bytes. A log of type 1
 // or 2 has no entries: entries is 0, first and last are its own number, and end is 512.
 #[repr(C)]
-#[derive(Drop)]
+#[derive(Clone, Copy)]
 pub struct HiveLog {
     pub answer: HiveAnswer,
     pub entries: u64,
@@ -386,8 +388,8 @@ fn key_answer(k: KeyFound) -> HiveAnswer
 }
 
 // Finds a key by its path and answers its offset in `value`. The path is UTF-16 units split at backslash, with none at its
-// ends; of no units it names the root. Names are compared by code after upper-casing a to z, 0x_e0 to 0x_fe except 0x_f7 (each
-// 32 down) and 0x_ff (to 0x0178). A hive that the check refuses can be asked too. Refuses 1 to 7, 16, 11 and 12 of the
+// ends; of no units it names the root. Names are compared by code after upper-casing a to z, 0xE0 to 0xFE except 0xF7 (each
+// 32 down) and 0xFF (to 0x0178). A hive that the check refuses can be asked too. Refuses 1 to 7, 16, 11 and 12 of the
 // records on the way, 17.
 #[unsafe(no_mangle)]
 pub extern "C" fn hive_find_key(hive: &[u8], path: &[u16]) -> HiveAnswer
@@ -969,7 +971,7 @@ pub extern "C" fn hive_build_size(stream: &[u8], descriptor_len: usize) -> HiveB
 //
 // Refuses frame by frame, and of one frame the lowest number: 30, no frame is laid out there; 31, a value after a subkey; 32,
 // outside of the one root key, or the stream ends while a key is open or has no frame; 33, a subkey's name that is not above that
-// of the subkey before it (with a to z, 0x_e0 to 0x_fe except 0x_f7, and 0x_ff as capitals); 34, a value with the name of one before
+// of the subkey before it (with a to z, 0xE0 to 0xFE except 0xF7, and 0xFF as capitals); 34, a value with the name of one before
 // it in its key, compared in the same way; 35, a key's name of no characters, of more than 255 or with a backslash, or a value's of
 // more than 16,383; 36, data of more than 1,048,576 bytes; 37, a key at level 513, the root being 0; 38, subkey 65,536 of a key.
 // After all frames: 39, the bins size would be over 2,147,479,552; then 20, the hive is longer than out. A refusal leaves out as it
@@ -1325,8 +1327,8 @@ fn order_number(o: Order) -> u32
     }
 }
 
-// The order of two names, each in UTF-16 units, as the check and the lookups compare names: by code, with a to z, 0x_e0 to 0x_fe except
-// 0x_f7, and 0x_ff as capitals, and a prefix before the longer name. HIVE_BEFORE where the first comes before the second, HIVE_SAME
+// The order of two names, each in UTF-16 units, as the check and the lookups compare names: by code, with a to z, 0xE0 to 0xFE except
+// 0xF7, and 0xFF as capitals, and a prefix before the longer name. HIVE_BEFORE where the first comes before the second, HIVE_SAME
 // where they are the same name, HIVE_AFTER where it comes after. Any units will do, none too.
 #[unsafe(no_mangle)]
 pub extern "C" fn hive_name_order(a: &[u16], b: &[u16]) -> u32

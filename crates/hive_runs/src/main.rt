@@ -9,31 +9,37 @@
 //   7 asks what the value is, 8 views it
 //   9 copies it to an output of n bytes
 // Map and output keep what earlier orders left in them.
+#![tactic(auto)]
+
 mod say;
 
+use std::fs::File;
+use std::io;
+use std::io::{Read, Write};
+use std::rt::Files;
+use test_lines::read_full;
+
 // How long hive, path and name are.
-#[derive(Drop)]
+#[derive(Clone, Copy)]
 struct Lengths {
     hive: usize,
     path: usize,
     name: usize,
 }
 
-#[derive(Drop)]
+#[derive(Clone, Copy)]
 enum Went {
     On(Lengths),
     Ended,
 }
 
-fn open(name: &[u8], hive: &mut [u8]) -> usize {
-    let fd = os::open_read(name);
-    if fd < 0 {
-        os::fail(name);
-        return 0;
-    }
-    let n = io::read_full(fd, hive);
-    libc::close(fd);
-    n
+// The hive that a file has. A name is text here; another names no file.
+fn open<H: Files>(rt: &H, name: &[u8], hive: &mut [u8]) -> io::Result<usize> {
+    let Ok(name) = str::from_utf8(name) else {
+        return Ok(0);
+    };
+    let mut file = File::open(rt, name)?;
+    read_full(&mut file, hive)
 }
 
 // The units of some bytes, as far as there is room.
@@ -47,21 +53,23 @@ fn units_of(part: &[u8], units: &mut [u16]) -> usize {
 }
 
 // The orders that bytes follow.
-fn take_in(
+fn take_in<H: Files, W: Write>(
+    rt: &H,
+    to: &mut W,
     hive: &mut [u8],
     path: &mut [u16],
     name: &mut [u16],
     part: &[u8],
     l: Lengths,
     kind: u8,
-) -> Lengths {
-    match kind {
+) -> io::Result<Lengths> {
+    let after = match kind {
         0 => {
-            io::write_all(1, part);
+            to.write_all(part)?;
             l
         }
         1 => Lengths {
-            hive: open(part, hive),
+            hive: open(rt, part, hive)?,
             path: 0,
             name: 0,
         },
@@ -79,30 +87,42 @@ fn take_in(
             path: l.path,
             name: units_of(part, name),
         },
-    }
+    };
+    Ok(after)
 }
 
 // The orders that ask.
-fn ask(hive: &[u8], path: &[u16], name: &[u16], map: &mut [u8], out: &mut [u8], kind: u8) {
+fn ask<W: Write>(
+    to: &mut W,
+    hive: &[u8],
+    path: &[u16],
+    name: &[u16],
+    map: &mut [u8],
+    out: &mut [u8],
+    kind: u8,
+) -> io::Result<()> {
     match kind {
         5 => {
-            test_frames::say::line(test_frames::hive_line(hive, map));
-            say::sum(b"map ", map);
+            test_frames::say::line(to, test_frames::hive_line(hive, map))?;
+            say::sum(to, b"map ", map)
         }
-        6 => test_frames::say::line(test_frames::key_line(hive, path)),
-        7 => say::found(lookup::value_info(hive, path, name)),
+        6 => test_frames::say::line(to, test_frames::key_line(hive, path)),
+        7 => say::found(to, lookup::value_info(hive, path, name)),
         8 => {
-            say::found(lookup::view_info(hive, path, name));
-            say::sum(b"view ", lookup::value_view(hive, path, name));
+            say::found(to, lookup::view_info(hive, path, name))?;
+            say::sum(to, b"view ", lookup::value_view(hive, path, name))
         }
         _ => {
-            say::copied(lookup::value_copy(hive, path, name, out));
-            say::sum(b"output ", out);
+            say::copied(to, lookup::value_copy(hive, path, name, out))?;
+            say::sum(to, b"output ", out)
         }
     }
 }
 
-fn obey(
+fn obey<H: Files, R: Read, W: Write>(
+    rt: &H,
+    from: &mut R,
+    to: &mut W,
     hive: &mut [u8],
     path: &mut [u16],
     name: &mut [u16],
@@ -112,13 +132,14 @@ fn obey(
     l: Lengths,
     kind: u8,
     n: usize,
-) -> Went {
+) -> io::Result<Went> {
     if kind < 5 {
-        if !test_frames::payload(0, room, n) {
-            return Went::Ended;
+        if !test_frames::payload(from, room, n)? {
+            return Ok(Went::Ended);
         }
         let end = test_frames::least(n, room.len());
-        return Went::On(take_in(hive, path, name, &room[0..end], l, kind));
+        let after = take_in(rt, to, hive, path, name, &room[0..end], l, kind)?;
+        return Ok(Went::On(after));
     }
     let hive_end = test_frames::least(l.hive, hive.len());
     let path_end = test_frames::least(l.path, path.len());
@@ -126,42 +147,51 @@ fn obey(
     let map_end = test_frames::least(n, map.len());
     let out_end = test_frames::least(n, out.len());
     ask(
+        to,
         &hive[0..hive_end],
         &path[0..path_end],
         &name[0..name_end],
         &mut map[0..map_end],
         &mut out[0..out_end],
         kind,
-    );
-    Went::On(l)
+    )?;
+    Ok(Went::On(l))
 }
 
-fn turn(
+fn turn<H: Files, R: Read, W: Write>(
+    rt: &H,
+    from: &mut R,
+    to: &mut W,
     hive: &mut [u8; 2097152],
     path: &mut [u16; 4096],
     name: &mut [u16; 4096],
     map: &mut [u8; 32768],
     out: &mut [u8; 1048640],
     l: Lengths,
-) -> Went {
+) -> io::Result<Went> {
     let mut head = [0u8; 5];
     let mut room = [0u8; 8192];
-    let got = io::read_full(0, &mut head);
+    let got = read_full(from, &mut head)?;
     if got < 5 {
-        return Went::Ended;
+        return Ok(Went::Ended);
     }
     let n = fields::u32_at(&head, 1) as usize;
-    obey(hive, path, name, map, out, &mut room, l, head[0], n)
+    obey(
+        rt, from, to, hive, path, name, map, out, &mut room, l, head[0], n,
+    )
 }
 
 // Nothing says that the input ends, so the turns are counted down from a number that no run uses up.
-fn run(
+fn run<H: Files, R: Read, W: Write>(
+    rt: &H,
+    from: &mut R,
+    to: &mut W,
     hive: &mut [u8; 2097152],
     path: &mut [u16; 4096],
     name: &mut [u16; 4096],
     map: &mut [u8; 32768],
     out: &mut [u8; 1048640],
-) {
+) -> io::Result<()> {
     let mut l = Lengths {
         hive: 0,
         path: 0,
@@ -169,9 +199,9 @@ fn run(
     };
     let mut left = u64::MAX;
     while 0 < left {
-        match turn(hive, path, name, map, out, l) {
+        match turn(rt, from, to, hive, path, name, map, out, l)? {
             Went::Ended => {
-                return;
+                return Ok(());
             }
             Went::On(m) => {
                 l = m;
@@ -179,13 +209,18 @@ fn run(
         }
         left -= 1;
     }
+    Ok(())
 }
 
-fn main() {
+fn main(rt: HostRuntime) -> io::Result<()> {
     let mut hive = [0u8; 2097152];
     let mut path = [0u16; 4096];
     let mut name = [0u16; 4096];
     let mut map = [0u8; 32768];
     let mut out = [0u8; 1048640];
-    run(&mut hive, &mut path, &mut name, &mut map, &mut out);
+    let mut from = rt.reader();
+    let mut to = io::writer(&rt);
+    run(
+        &rt, &mut from, &mut to, &mut hive, &mut path, &mut name, &mut map, &mut out,
+    )
 }

@@ -18,7 +18,7 @@ item = record { kind = 1; name = 105 ∷ 116 ∷ 101 ∷ 109 ∷ []; bytes = 100
 
 -- `parent`, which holds `child`, one second later, which holds it
 abbrev two : Forest
-two = more 0x019_db1_ded53_e8000 (112 ∷ 97 ∷ 114 ∷ 101 ∷ 110 ∷ 116 ∷ []) [] (more 0x019_db1_ded5_d71680 (99 ∷ 104 ∷ 105 ∷ 108 ∷ 100 ∷ []) (item ∷ []) none none) none
+two = more 0x019DB1DED53E8000 (112 ∷ 97 ∷ 114 ∷ 101 ∷ 110 ∷ 116 ∷ []) [] (more 0x019DB1DED5D71680 (99 ∷ 104 ∷ 105 ∷ 108 ∷ 100 ∷ []) (item ∷ []) none none) none
 
 abbrev two_front : List ℕ
 two_front =

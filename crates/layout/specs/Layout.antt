@@ -171,17 +171,17 @@ unfoldable pub longest_key : Forest → ℕ
 longest_key none = 0
 longest_key (more s x vs b r) = larger (2 * length x) (longest_key r)
 
--- an offset, or 0x_ffffffff where there is none
+-- an offset, or 0xFFFFFFFF where there is none
 unfoldable pub if_any : ℕ → ℕ → ℕ
 if_any zero at = nothing
 if_any (suc n) at = at
 
--- flags: 0x0020 if the name is stored one byte per character; of the root also 0x000_c
+-- flags: 0x0020 if the name is stored one byte per character; of the root also 0x000C
 unfoldable pub key_flags : List ℕ → ℕ → ℕ
 key_flags x parent = flag_of (is_narrow x) 32 + flag_of (eqb parent nothing) 12
 
--- `nk`: flags at 2; the frame's stamp at 4, 0 at 12; the parent's offset, of the root 0x_ffffffff, at 16; the number of subkeys, 0, the offset of the leaf and
--- 0x_ffffffff at 20 to 32; the number of values, the offset of the value list, S and 0x_ffffffff (no class) at 36 to 48; the longest at 52, 60 and 64; the
+-- `nk`: flags at 2; the frame's stamp at 4, 0 at 12; the parent's offset, of the root 0xFFFFFFFF, at 16; the number of subkeys, 0, the offset of the leaf and
+-- 0xFFFFFFFF at 20 to 32; the number of values, the offset of the value list, S and 0xFFFFFFFF (no class) at 36 to 48; the longest at 52, 60 and 64; the
 -- length of the name in bytes as stored at 72; the name at 76
 unfoldable pub key_fixed : ℕ → ℕ → ℕ → ℕ → ℕ → ℕ → ℕ → ℕ → ℕ → ℕ → ℕ → ℕ → List ℕ
 key_fixed flags stamp parent subkeys leaf values list S keys names longest len =

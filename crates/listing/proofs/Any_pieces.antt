@@ -1,27 +1,25 @@
 -- On any bytes: a class name or a descriptor that is answered lies in the hive, and every refusal of the two calls says why.
 use Prim.Native.Nat.{ℕ, ◌+◌, ◌≤◌}
 use native.Mathlib.Omega.{arith}
-use mathlib.Core.Path.{◌≡◌, refl, ap, sym, ◌∙◌}
+use mathlib.Core.Path.{◌≡◌, refl, sym, ◌∙◌}
 use mathlib.Core.Bool.{Bool, true, false, cond}
 use mathlib.Core.List.{List, []}
 use lib.Dec.{eqb}
 use lib.ListN.{length}
-use borrow.Author.Tests.{ne_eqb, eqb-false}
 use Rattle.fields.specs.declared.Flaw.{Flaw}
 use Rattle.fields.specs.declared.Offset.{Offset}
 use Rattle.fields.specs.declared.Refusal.{Refusal}
 use Rattle.fields.specs.declared.Verdict.{Verdict}
 use Rattle.fields.specs.declared.Verdict.TheVariants.{Sound, Flawed}
-use Rattle.fields.specs.Faults.{no_key, refusal_of, Because, ◌next◌}
+use Rattle.fields.specs.Faults.{no_key, refusal_of, Because}
 use Rattle.fields.proofs.Every.{Every, every-next}
 use Rattle.fields.proofs.Firsts.{both}
 use Rattle.base.specs.Block.{bins_data, base_fault}
 use Rattle.base.proofs.Refusals.{base-refuses}
 use Rattle.cells.specs.declared.Rule.TheVariants.{Header}
-use Rattle.cells.specs.Named.{part_place}
 use Rattle.cells.proofs.Parts.{place-room}
 use Rattle.cells.proofs.Refusals.{Ruled, by-header}
-use Rattle.records.specs.Keys.{key_fault, security_of}
+use Rattle.records.specs.Keys.{security_of}
 use Rattle.security.specs.Items.{item_of}
 use Rattle.security.specs.Descriptor.{descriptor_fault, descriptor_place}
 use Rattle.security.proofs.Descriptor.{descriptor-stands, descriptor-refuses}
@@ -35,7 +33,7 @@ use Rattle.listing.specs.declared.KeyClass.TheVariants as class
 use Rattle.listing.specs.declared.KeySecurity.{KeySecurity}
 use Rattle.listing.specs.declared.KeySecurity.TheVariants as security
 use Rattle.listing.specs.declared.Piece.{Piece}
-use Rattle.listing.specs.Pieces.{given_fault, class_cell, class_length, class_piece, class_where, class_below, class_after, class_answer, descriptor_piece, security_where, security_below, security_after, security_answer}
+use Rattle.listing.specs.Pieces.{given_fault, class_cell, class_length, class_where, class_below, class_after, class_answer, security_where, security_below, security_after, security_answer}
 use Rattle.listing.specs.Refused.{of-base, of-record, of-named, OfFacts, OfClass, OfSecurity, as-facts, of-item}
 
 -- ---- what is answered lies in the hive, so a host may read it there

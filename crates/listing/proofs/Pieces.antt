@@ -1,7 +1,7 @@
 -- The calls for a key's class name and its descriptor: a law for each way out.
 use Prim.Native.Nat.{ℕ, ◌≤◌}
 use native.Mathlib.Omega.{arith}
-use mathlib.Core.Path.{◌≡◌, ap, ◌∙◌}
+use mathlib.Core.Path.{◌≡◌, ap}
 use mathlib.Core.List.{List, []}
 use lib.ListN.{length}
 use borrow.Author.Tests.{eq-eqb, ne_eqb}
@@ -11,7 +11,7 @@ use Rattle.fields.specs.declared.Place.{Place}
 use Rattle.fields.specs.declared.Verdict.{Verdict}
 use Rattle.fields.specs.declared.Verdict.TheVariants.{Sound, Flawed}
 use Rattle.fields.specs.Number.{u16_at, u32_at}
-use Rattle.fields.specs.Faults.{no_key, refusal_of, ◌next◌}
+use Rattle.fields.specs.Faults.{no_key, refusal_of}
 use Rattle.fields.proofs.Firsts.{on, stop, both}
 use Rattle.base.specs.Block.{bins_data, base_fault}
 use Rattle.cells.specs.declared.Rule.TheVariants.{Header}

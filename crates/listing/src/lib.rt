@@ -1,5 +1,7 @@
 // What a key holds, one by one: its subkeys and its values in the order of their lists, each with its name; the facts of a key or a
 // value by its offset, and a value's data. There is no work map: an offset names a cell by the cell's own header.
+#![tactic(auto)]
+
 ghost use Rattle.std.specs.Prelude.{◌≡◌, [], ◌≤◌, ◌<◌, length};
 ghost use Rattle.fields.specs.Number.{u64_at};
 ghost use Rattle.cells.specs.declared.Rule.TheVariants.{Header};
@@ -21,7 +23,7 @@ use security::Described;
 use values::{Entered, Entries, ValueData, Valued};
 
 // A key or a value that a list names, and where its name stands in the file: `len` bytes from `name` on, one for each character if narrow, else UTF-16LE.
-#[derive(Drop)]
+#[derive(Clone, Copy)]
 pub struct Entry {
     pub at: Offset,
     pub name: Place,
@@ -29,7 +31,7 @@ pub struct Entry {
     pub narrow: bool,
 }
 
-#[derive(Drop)]
+#[derive(Clone, Copy)]
 pub enum Member {
     At(Entry),
     NoMore,
@@ -219,7 +221,7 @@ pub fn copy_at(hive: &[u8], v: Offset, out: &mut [u8]) -> Copied
 }
 
 // What a key's record says of it. Its counts are its own: nothing is counted.
-#[derive(Drop)]
+#[derive(Clone, Copy)]
 pub struct Facts {
     pub entry: Entry,
     pub stamp: u64,
@@ -228,7 +230,7 @@ pub struct Facts {
     pub values: u32,
 }
 
-#[derive(Drop)]
+#[derive(Clone, Copy)]
 pub enum KeyFacts {
     At(Facts),
     Refused(Refusal),
@@ -272,20 +274,20 @@ pub fn key_facts(hive: &[u8], key: Offset) -> KeyFacts
 }
 
 // Bytes of the file: `len` of them from `at` on.
-#[derive(Drop)]
+#[derive(Clone, Copy)]
 pub struct Piece {
     pub at: Place,
     pub len: usize,
 }
 
-#[derive(Drop)]
+#[derive(Clone, Copy)]
 pub enum KeyClass {
     None,
     At(Piece),
     Refused(Refusal),
 }
 
-#[derive(Drop)]
+#[derive(Clone, Copy)]
 pub enum KeySecurity {
     At(Piece),
     Refused(Refusal),

@@ -1,4 +1,4 @@
--- A log of two entries, number 5 without references and number 6 with 512 bytes 0x_aa for page 1: computed, hashes and all.
+-- A log of two entries, number 5 without references and number 6 with 512 bytes 0xAA for page 1: computed, hashes and all.
 use Prim.Native.Nat.{ℕ}
 use mathlib.Core.Path.{◌≡◌, refl, ap}
 use mathlib.Core.List.{List, [], ◌∷◌, ◌++◌}

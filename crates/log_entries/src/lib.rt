@@ -1,11 +1,13 @@
 // The entries of a new-format log: the tests of one, and what one pass over those that count finds.
+#![tactic(auto)]
+
 ghost use Rattle.std.specs.Prelude.{◌≡◌, ◌+◌, ◌*◌, ◌≤◌, ◌<◌, max, length};
 ghost use Rattle.fields.specs.Number.{u32_at};
 ghost use Rattle.log_entries.specs.Entries.{number_at, ref_bytes, is_hashed, is_placed, are_apart, apart_from, are_refs, is_entry, grown as grown_by, chain_of};
 ghost use Rattle.log_entries.specs.Terms.{Whole, refs_fit, EndBy};
 
 // What the entries that count say: how many they are, where the last ends, its number and bins size, and the largest bins size of all.
-#[derive(Drop)]
+#[derive(Clone, Copy)]
 pub struct Chain {
     pub entries: usize,
     pub end: usize,

@@ -1,4 +1,6 @@
 // The pages that the counted entries of a new-format log hold, one after the other.
+#![tactic(auto)]
+
 ghost use Rattle.std.specs.Prelude.{◌≡◌, true, ◌<◌};
 ghost use Rattle.log_entries.specs.Entries.{chain_of};
 ghost use Rattle.log_versions.specs.Terms.{rest, is_between, Lies, Stands, Begins, Moves, Same};
@@ -6,7 +8,7 @@ ghost use Rattle.log_versions.specs.Terms.{rest, is_between, Lies, Stands, Begin
 use log_entries::Chain;
 
 // A page's number, and where one version of its 512 bytes lies in the log.
-#[derive(Drop)]
+#[derive(Clone, Copy)]
 pub struct Version {
     pub page: usize,
     pub place: usize,
@@ -14,7 +16,7 @@ pub struct Version {
 
 // What is left: `pages` pages from `page` on, whose bytes lie at `place`; behind these the bytes of `refs` references from `index` on, of the entry
 // at `at`; and `left` entries, the first at `end`.
-#[derive(Drop)]
+#[derive(Clone, Copy)]
 pub struct Cursor {
     pub at: usize,
     pub index: usize,

@@ -4,9 +4,7 @@ use native.Mathlib.Omega.{arith}
 use mathlib.Core.Path.{◌≡◌, refl, sym, ap, ◌∙◌}
 use mathlib.Core.Bool.{Bool, true, false, cond}
 use mathlib.Core.List.{List}
-use Rattle.fields.specs.declared.Verdict.{Verdict}
 use Rattle.fields.specs.declared.Verdict.TheVariants.{Sound}
-use Rattle.bitmap.specs.declared.Next.{Next}
 use Rattle.sectors.specs.Logged.{in_below, put_below}
 use Rattle.log_entries.specs.declared.Chain.{Chain}
 use Rattle.log_entries.specs.Entries.{chain_of}

@@ -16,7 +16,7 @@ log n = head ++ (68 ∷ 73 ∷ 82 ∷ 84 ∷ 1 ∷ 128 ∷ replicate 506 0) ++ (
 unfoldable pub hive : List ℕ
 hive = replicate 12288 0
 
--- a log of Windows 8.1 and later for it: its entries 7 and 8 have two versions of page 1, 512 bytes 0x_aa and then 0x_bb
+-- a log of Windows 8.1 and later for it: its entries 7 and 8 have two versions of page 1, 512 bytes 0xAA and then 0xBB
 unfoldable pub later : List ℕ
 later =
     (114 ∷ 101 ∷ 103 ∷ 102 ∷ 7 ∷ 0 ∷ 0 ∷ 0 ∷ 7 ∷ 0 ∷ 0 ∷ 0

@@ -1,5 +1,7 @@
 // A log, whatever its format: its own tests, its pages, what it says of a hive, and the repair's stores.
 // What the tests have read of the log is handed to each question, so that a call reads the log once.
+#![tactic(auto)]
+
 ghost use Rattle.std.specs.Prelude.{◌≡◌, true, ◌++◌, ◌+◌, ◌/◌, ◌≤◌, ◌<◌, length, drop};
 ghost use Rattle.fields.specs.declared.Verdict.TheVariants.{Sound};
 ghost use Rattle.sectors.specs.Sector.{stored};
@@ -17,21 +19,21 @@ use fields::{Flaw, Place, Verdict};
 use log_entries::Chain;
 
 // What one pass over a log finds that every question needs: its format, and the entries of a new one.
-#[derive(Drop)]
+#[derive(Clone, Copy)]
 pub enum LogFormat {
     Old,
     New(Chain),
 }
 
 // What the tests give after which the log's pages are known.
-#[derive(Drop)]
+#[derive(Clone, Copy)]
 pub enum Head {
     Good(LogFormat),
     Flawed(Flaw),
 }
 
 // What all of its own tests give: what was read, and how many pages they have counted, or its flaw.
-#[derive(Drop)]
+#[derive(Clone, Copy)]
 pub enum Tested {
     Logged { read: LogFormat, counted: usize },
     Flawed(Flaw),
@@ -39,7 +41,7 @@ pub enum Tested {
 
 // What a log says of itself: how many entries count, the first and the last number, where the last entry ends, and the bins size that 24 reads.
 // An old log has no entries: both numbers are its own, and its entries end where they would start.
-#[derive(Drop)]
+#[derive(Clone, Copy)]
 pub struct Facts {
     pub entries: usize,
     pub first: u32,

@@ -38,6 +38,7 @@ module _ (d : List ℕ) (minor : ℕ) (x : List ℕ) where
   first_found : (vs : List Offset) → ((v : Offset) → Memᴰ v vs → value_fault Header d [] v ≡ Sound) → {v : Offset} → FirstNamed d minor x vs v
       → search_values d minor x vs ≡ Found v
   unfolding first_of or_else
+  first_found [] ok {v = v} x3 = elim x3 [ ]
   first_found (u ∷ vs) ok (first p) = rw (named-is u (ok u (Memᴰ.head refl)), name-same _ _ p)
   first_found (u ∷ vs) ok (later p f) =
       rw (named-is u (ok u (Memᴰ.head refl)), not_named) (first_found vs (λ v i. ok v (Memᴰ.tail i)) f)

@@ -8,7 +8,7 @@ use Rattle.fields.specs.declared.Fault.TheVariants.{NoKey}
 use Rattle.fields.specs.declared.Flaw.{Flaw}
 use Rattle.fields.specs.declared.Offset.{Offset}
 use Rattle.fields.specs.declared.Refusal.{Refusal}
-use Rattle.fields.specs.declared.Verdict.TheVariants.{Sound, Flawed}
+use Rattle.fields.specs.declared.Verdict.TheVariants.{Sound}
 use Rattle.fields.specs.Faults.{flaw, nowhere, refusal_of}
 use Rattle.base.specs.Block.{sector, minor_of, bins_data, base_fault}
 use Rattle.cells.specs.declared.Rule.TheVariants.{Header}

@@ -1,4 +1,6 @@
 // A value's data: info, view and copy, below the key of a path. There is no work map: an offset names a cell by the cell's own header.
+#![tactic(auto)]
+
 ghost use Rattle.std.specs.Prelude.{◌≡◌, [], ◌+◌, length};
 ghost use Rattle.fields.specs.declared.Verdict.TheVariants.{Sound};
 ghost use Rattle.base.specs.Block.{bins_data, base_fault};
@@ -73,7 +75,7 @@ fn lookup_value(bins: &[u8], minor: u32, name: &[u16], k: Key) -> Look
 }
 
 // Where the search for a value ends: at its key and itself, at a key that has no value of the name, or with a refusal.
-#[derive(Drop)]
+#[derive(Clone, Copy)]
 pub enum Spot {
     Found(Offset, Offset),
     Missing(Offset),
@@ -113,7 +115,7 @@ fn value_look(hive: &[u8], path: &[u16], name: &[u16], how: How) -> Spot
 }
 
 // A value: its registry type, the case of its data, and where in the file these lie.
-#[derive(Drop)]
+#[derive(Clone, Copy)]
 pub struct Info {
     pub kind: u32,
     pub content: ValueData,
@@ -134,7 +136,7 @@ fn info_of(x: Value) -> Info
     }
 }
 
-#[derive(Drop)]
+#[derive(Clone, Copy)]
 pub enum ValueFound {
     At(Info),
     Refused(Refusal),
@@ -277,7 +279,7 @@ pub fn quick_view<'a>(hive: &'a [u8], path: &[u16], name: &[u16]) -> &'a [u8]
     view_by(hive, path, name, How::Halving)
 }
 
-#[derive(Drop)]
+#[derive(Clone, Copy)]
 pub enum Copied {
     Done(usize),
     Refused(Refusal),
@@ -371,7 +373,7 @@ fn spot_of(hive: &[u8], key: Offset, name: &[u16]) -> Spot
 }
 
 // A value by its offset.
-#[derive(Drop)]
+#[derive(Clone, Copy)]
 pub enum Spotted {
     At(Offset),
     Refused(Refusal),

@@ -55,7 +55,7 @@ pub empty-entry : map hash_of
 unfolding hash_of state_of after_words mixed half_round u32_at u16_at
 empty-entry = refl
 
--- one of 1024 bytes, number 6, with 512 bytes 0x_aa for offset 512
+-- one of 1024 bytes, number 6, with 512 bytes 0xAA for offset 512
 pub entry-with-page : map hash_of
     (((0 ∷ 2 ∷ 0 ∷ 0 ∷ 0 ∷ 2 ∷ 0 ∷ 0 ∷ []) ++ (replicate 512 170 ++ replicate 464 0))
     ∷ (72 ∷ 118 ∷ 76 ∷ 69 ∷ 0 ∷ 4 ∷ 0 ∷ 0 ∷ 0 ∷ 0 ∷ 0 ∷ 0 ∷ 6 ∷ 0 ∷ 0 ∷ 0 ∷ 0 ∷ 16 ∷ 0 ∷ 0 ∷ 1 ∷ 0 ∷ 0 ∷ 0 ∷ 149 ∷ 176 ∷ 79 ∷ 90 ∷ 235 ∷ 72 ∷ 241 ∷ 125 ∷ [])

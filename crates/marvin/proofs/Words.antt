@@ -1,10 +1,10 @@
 -- Words that a turn of a loop mixes in at once.
 use Prim.Native.Nat.{ℕ, suc, ◌+◌, ◌*◌}
 use native.Mathlib.Omega.{arith}
-use mathlib.Core.Path.{◌≡◌, refl, ap, ◌∙◌}
+use mathlib.Core.Path.{◌≡◌, ap, ◌∙◌}
 use mathlib.Core.List.{List}
 use Rattle.marvin.specs.declared.Marvin.{Marvin}
-use Rattle.marvin.specs.Hash.{mixed, after_words}
+use Rattle.marvin.specs.Hash.{after_words}
 use Rattle.marvin.specs.Terms.{four_mixed}
 
 module _ (s : Marvin) (m : List ℕ) where

@@ -33,7 +33,7 @@ unfoldable pub state_of : Marvin → List ℕ → Marvin
 state_of seed m = mixed (mixed (after_words seed m (length m / 4)) (last_word m)) 0
 
 -- "The following seed is used for calculating the *Hash-1* and *Hash-2* (hexadecimal bytes): 82 EF 4D 88 7A 4E 55 C5": these are the number
--- 0x82_ef4_d887_a4_e55_c5, and its low word is the low one. The hashes of a log that Windows wrote come out only so.
+-- 0x82EF4D887A4E55C5, and its low word is the low one. The hashes of a log that Windows wrote come out only so.
 abbrev pub seed_of_logs : Marvin
 seed_of_logs = record { low = 0x7a4e_55c5; high = 0x82ef_4d88 }
 

@@ -57,7 +57,7 @@ mixed-same : compare child-16 child-capitals ≡ Same
 unfolding codes uppers upper compare by_code
 mixed-same = refl
 
--- `ab`, one byte per character, against `a_c` and `a_a` as UTF-16LE
+-- `ab`, one byte per character, against `aC` and `aA` as UTF-16LE
 mixed-before : compare (codes true (97 ∷ 98 ∷ [])) (codes false (97 ∷ 0 ∷ 67 ∷ 0 ∷ [])) ≡ Before
 unfolding codes uppers upper compare by_code
 mixed-before = refl
@@ -66,17 +66,17 @@ mixed-after : compare (codes true (97 ∷ 98 ∷ [])) (codes false (97 ∷ 0 ∷
 unfolding codes uppers upper compare by_code
 mixed-after = refl
 
--- a code above 255 stands after every one-byte code but 0x_ff, though its low byte is 0
+-- a code above 255 stands after every one-byte code but 0xFF, though its low byte is 0
 wide-after : compare (codes false (0 ∷ 1 ∷ [])) (codes true (254 ∷ [])) ≡ After
 unfolding codes uppers upper compare by_code
 wide-after = refl
 
--- 0x_ff stands after 0x0177, and is one name with 0x0178
+-- 0xFF stands after 0x0177, and is one name with 0x0178
 y-after : compare (codes true (255 ∷ [])) (codes false (0x77 ∷ 1 ∷ [])) ≡ After
 unfolding codes uppers upper compare by_code
 y-after = refl
 
--- a one-byte 0x_e9 and a UTF-16 0x00_e9 are the same letter, and both are 0x_c9
+-- a one-byte 0xE9 and a UTF-16 0x00E9 are the same letter, and both are 0xC9
 accented-same : (compare (codes true (0xe9 ∷ [])) (codes false (0xe9 ∷ 0 ∷ [])) ≡ Same) × (compare (codes true (0xe9 ∷ [])) (codes false (0xc9 ∷ 0 ∷ [])) ≡ Same)
 unfolding codes uppers upper compare by_code
 accented-same = (refl, refl)

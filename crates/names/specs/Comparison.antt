@@ -13,7 +13,7 @@ by_code (x ∷ xs) (y ∷ ys) =
     let rest = by_code xs ys in
     cond (ltb x y) Before (cond (ltb y x) After rest)
 
--- "Names, also of values, are compared by code after upper-casing a to z, 0x_e0 to 0x_fe except 0x_f7 (each 32 down) and 0x_ff (to 0x0178), a prefix
+-- "Names, also of values, are compared by code after upper-casing a to z, 0xE0 to 0xFE except 0xF7 (each 32 down) and 0xFF (to 0x0178), a prefix
 -- before the longer name"
 unfoldable pub compare : List ℕ → List ℕ → Order
 compare xs ys = by_code (uppers xs) (uppers ys)

@@ -1,4 +1,6 @@
 // Names: the codes of a stored name, upper case, order and hash. Names are read in place and never copied.
+#![tactic(auto)]
+
 ghost use Rattle.std.specs.Prelude.{◌≡◌, ◌+◌, ◌*◌, ◌%◌, ◌≤◌, ◌<◌, ◌||◌, eqb, ltb, length, get_or, drop};
 ghost use Rattle.names.specs.Codes.{codes, characters_in, has_code, backslash};
 ghost use Rattle.names.specs.Terms.{AmongFour};
@@ -74,7 +76,7 @@ fn capital_at(s: &[u8], narrow: bool, i: usize) -> u16
     upper(code_at(s, narrow, i))
 }
 
-#[derive(Drop)]
+#[derive(Clone, Copy)]
 pub enum Order {
     Before,
     Same,
@@ -116,7 +118,7 @@ fn past_shared(a: &[u8], a_narrow: bool, b: &[u8], b_narrow: bool, end: usize) -
     0
 }
 
-// "Names, also of values, are compared by code after upper-casing a to z, 0x_e0 to 0x_fe except 0x_f7 (each 32 down) and 0x_ff (to 0x0178), a prefix before
+// "Names, also of values, are compared by code after upper-casing a to z, 0xE0 to 0xFE except 0xF7 (each 32 down) and 0xFF (to 0x0178), a prefix before
 // the longer name"
 pub fn compare_stored(a: &[u8], a_narrow: bool, b: &[u8], b_narrow: bool) -> Order
     ensures { result ≡ compare (codes a_narrow a.now) (codes b_narrow b.now) }

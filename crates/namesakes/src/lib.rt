@@ -1,5 +1,7 @@
 // Values of one key that have one name: "The check shall refuse a key that has two values with equal upper-cased names". A key may have tens of thousands
 // of values, so names are not compared each with each: a table of their hashes, searched by chains, says which have to be.
+#![tactic(auto)]
+
 ghost use Rattle.std.specs.Prelude.{◌≡◌, ◌+◌, ◌≤◌, ◌<◌, length, get_or};
 ghost use Rattle.fields.specs.Faults.{nowhere};
 ghost use Rattle.cells.specs.Named.{data_at};

@@ -1,4 +1,6 @@
 // The new-format log: its own tests, its pages, what it says of a hive, and the repair's stores.
+#![tactic(auto)]
+
 ghost use Rattle.std.specs.Prelude.{◌≡◌, not, ◌&&◌, ◌||◌, ◌++◌, ◌+◌, ◌/◌, ◌≤◌, ◌<◌, eqb, length, drop};
 ghost use Rattle.fields.specs.declared.Verdict.TheVariants.{Sound};
 ghost use Rattle.fields.specs.Number.{u64_at};
@@ -20,7 +22,7 @@ use log_entries::Chain;
 // ---- its own tests
 
 // What the log's own tests give: what one pass over its entries finds.
-#[derive(Drop)]
+#[derive(Clone, Copy)]
 pub enum Head {
     Good(Chain),
     Flawed(Flaw),

@@ -1,4 +1,6 @@
 // The old-format log: where its parts lie, its own tests, what it says of a hive, and the repair's stores.
+#![tactic(auto)]
+
 ghost use Rattle.std.specs.Prelude.{◌≡◌, true, ◌++◌, ◌+◌, ◌≤◌, ◌<◌, length, drop};
 ghost use Rattle.fields.specs.declared.Verdict.TheVariants.{Sound};
 ghost use Rattle.sectors.specs.Logged.{is_in, put_one};
@@ -9,7 +11,7 @@ use bitmap::Next;
 use fields::{Fault, Flaw, Offset, Place, Verdict};
 
 // What the log's own tests give.
-#[derive(Drop)]
+#[derive(Clone, Copy)]
 pub enum Tested {
     Logged(usize),
     Flawed(Flaw),

@@ -27,6 +27,7 @@ use Rattle.paths.proofs.Listed.{listed-named, named-holds, named-found}
 -- a tree of n levels holds nothing deeper
 held-listed : (d : List ℕ) (hive : Hive) (n : ℕ) {o e : Offset} (xs : List (List ℕ)) → TreeStands d hive n o → Holds d o xs e → Memᴰ e (keys_in d n o)
 unfolding keys_in
+held-listed d hive zero {o = o} {e = e} xs t _ = elim t [ ]
 held-listed d hive (suc n) [] t here = Memᴰ.head refl
 held-listed d hive (suc n) {o} (x ∷ xs) (key s a ch tree) (below {c = c} i q r) =
     Memᴰ.tail (joined_in (keys_in d n) (children d o) i (held-listed d hive n xs (tree c i) r))
@@ -92,6 +93,7 @@ module _ (d : List ℕ) (hive : Hive) where
   one-names : (n : ℕ) {o k k' : Offset} {xs ys : List (List ℕ)} → TreeStands d hive n o → Once (keys_in d n o) → Named d o xs k → Named d o ys k' → k ≡ k'
       → xs ≡ ys
   unfolding keys_in
+  one-names zero {o = o} {k = k} {k' = k'} {xs = xs} {ys = ys} t u _ _ e = elim t [ ]
   one-names (suc n) t u itself itself e = refl
   one-names (suc n) {o} {k} {k'} (key s a ch tree) u itself (child {c = c} i r) e =
       absurd ((once-parts u).0

@@ -27,6 +27,7 @@ module _ (d : List ℕ) (hive : Hive) (tiles : BinsTile d 0) where
   pub found-holds : (n : ℕ) (o : Offset) (xs : List (List ℕ)) {e : Offset} → TreeStands d hive n o → descend d o xs ≡ way.Found e → Holds d o xs e
   unfolding descend_by on_found below_by
   found-holds n o [] {e} t p = let q : o ≡ e = cc in subst (λ (y : Offset). Holds d o [] y) q here
+  found-holds Prim.Native.Nat.zero o (x ∷ xs) {e = e} t p = elim t [ ]
   found-holds (suc n) o (x ∷ xs) {e} (key s a ch tree) p =
       by (search_keys d x (children d o)) refl (λ c i q. found-holds n c.at xs (tree c i) q) (rw (search-below d hive tiles hive.minor o s x) at p)
     where
@@ -42,6 +43,7 @@ module _ (d : List ℕ) (hive : Hive) (tiles : BinsTile d 0) where
   pub holds-found : (n : ℕ) (o : Offset) (xs : List (List ℕ)) {e : Offset} → TreeStands d hive n o → Holds d o xs e → descend d o xs ≡ way.Found e
   unfolding descend_by on_found below_by
   holds-found n o [] t here = refl
+  holds-found Prim.Native.Nat.zero o (x ∷ xs) {e = e} t _ = elim t [ ]
   holds-found (suc n) o (x ∷ xs) (key s a ch tree) (below {c = c} i q r) =
       rw (search-below d hive tiles hive.minor o s x, find-there d x (children d o) a (λ b j. key-good d hive tiles n b.at (tree b j)) c i q)
       (holds-found n c.at xs (tree c i) r)
@@ -49,6 +51,7 @@ module _ (d : List ℕ) (hive : Hive) (tiles : BinsTile d 0) where
   pub never-faulty : (n : ℕ) (o : Offset) (xs : List (List ℕ)) {r : Refusal} → TreeStands d hive n o → descend d o xs ≡ way.Refused r → ⊥
   unfolding descend_by on_found below_by
   never-faulty n o [] t p = let z : ◌≡◌ {A = ℕ} 0 1 = cc in omega arith
+  never-faulty Prim.Native.Nat.zero o (x ∷ xs) {r = r} t p = elim t [ ]
   never-faulty (suc n) o (x ∷ xs) {r} (key s a ch tree) p =
       by (search_keys d x (children d o)) refl (λ c i q. never-faulty n c.at xs (tree c i) q) (rw (search-below d hive tiles hive.minor o s x) at p)
     where
@@ -65,6 +68,7 @@ module _ (d : List ℕ) (hive : Hive) (tiles : BinsTile d 0) where
   pub missing-deepest : (n : ℕ) (o : Offset) (xs : List (List ℕ)) {k : Offset} → TreeStands d hive n o → descend d o xs ≡ way.Missing k → Deepest d o xs k
   unfolding descend_by on_found below_by
   missing-deepest n o [] t p = absurd (let z : ◌≡◌ {A = ℕ} 0 1 = cc in omega arith)
+  missing-deepest Prim.Native.Nat.zero o (x ∷ xs) {k = k} t p = elim t [ ]
   missing-deepest (suc n) o (x ∷ xs) {k} (key s a ch tree) p =
       by (search_keys d x (children d o)) refl (λ c i q. missing-deepest n c.at xs (tree c i) q) (rw (search-below d hive tiles hive.minor o s x) at p)
     where

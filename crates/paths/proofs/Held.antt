@@ -43,11 +43,13 @@ module _ (d : List ℕ) (hive : Hive) (tiles : BinsTile d 0) where
   held-parts : (n : ℕ) {o e : Offset} (xs : List (List ℕ)) → TreeStands d hive n o → Holds d o xs e → are_parts xs ≡ true
   unfolding are_parts
   held-parts n [] t here = refl
+  held-parts Prim.Native.Nat.zero {o = o} {e = e} (x ∷ xs) t _ = elim t [ ]
   held-parts (suc n) (x ∷ xs) (key s a ch tree) (below {c = c} i q r) =
       and_both (same-part (name_at d c.at) x q (part-name d c.at (key-good d hive tiles n c.at (tree c i)))) (held-parts n xs (tree c i) r)
 
   -- there are fewer parts than levels
   pub held-few : (n : ℕ) {o e : Offset} (xs : List (List ℕ)) → TreeStands d hive n o → Holds d o xs e → length xs < n
+  held-few Prim.Native.Nat.zero {o = o} {e = e} xs t _ = elim t [ ]
   held-few (suc n) [] t here = omega arith
   held-few (suc n) (x ∷ xs) (key s a ch tree) (below {c = c} i q r) = let f = held-few n xs (tree c i) r in omega arith
 

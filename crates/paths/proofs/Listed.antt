@@ -43,6 +43,7 @@ listed-named d (suc n) at k i =
 pub listed-tree : (d : List ℕ) (hive : Hive) (n : ℕ) (at : Offset) → TreeStands d hive n at → (k : Offset) → Memᴰ k (keys_in d n at)
     → (m : ℕ) × TreeStands d hive (suc m) k
 unfolding keys_in
+listed-tree d hive zero at x₂ k i = elim x₂ [ ]
 listed-tree d hive (suc n) at (key s a ch tree) k i =
     ⊎_elim (λ e. (n, subst (λ (o : Offset). TreeStands d hive (suc n) o) (sym e) (key s a ch tree)))
     (λ j. let x = in-joined (keys_in d n) (children d at) k j in listed-tree d hive n x.0.at (tree x.0 x.1) k x.2)
@@ -56,6 +57,7 @@ named-holds {d} (child {c = c} i r) = below i (same-reflexive (name_at d c.at)) 
 module _ (d : List ℕ) (hive : Hive) (tiles : BinsTile d 0) where
   part-names : (n : ℕ) {o e : Offset} {xs : List (List ℕ)} → TreeStands d hive n o → Named d o xs e → PartNames xs
   part-names n t itself = no_names
+  part-names zero t (child {o = o} {e = e} {c = c} {xs = xs} i r) = elim t [ ]
   part-names (suc n) (key s a ch tree) (child {c = c} i r) =
       names-on (part-name d c.at (key-good d hive tiles n c.at (tree c i))) (part-names n (tree c i) r)
 

@@ -52,6 +52,7 @@ module _ (d : List ℕ) (bytes : (i : ℕ) → get_or d i 0 < 256) (hive : Hive)
   pub quick-descends : (n : ℕ) (o : Offset) (xs : List (List ℕ)) → TreeStands d hive n o → descend_by Halving d o xs ≡ descend_by InTurn d o xs
   unfolding descend_by below_by on_found
   quick-descends n o [] t = refl
+  quick-descends Prim.Native.Nat.zero o (x ∷ xs) t = elim t [ ]
   quick-descends (suc n) o (x ∷ xs) (key s a ch tree) =
       rw (quick-below d bytes hive tiles (suc n) o (key s a ch tree) x)
       (by (search_below d x (key_of d o)) refl (λ c i. quick-descends n c.at xs (tree c i)))

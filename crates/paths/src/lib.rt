@@ -1,4 +1,6 @@
 // The way to a key: a path, its parts, and the keys along it. There is no work map: an offset names a cell by the cell's own header.
+#![tactic(auto)]
+
 ghost use Rattle.std.specs.Prelude.{◌≡◌, true, [], ◌+◌, ◌≤◌, length, drop};
 ghost use Rattle.fields.specs.declared.Verdict.TheVariants.{Sound};
 ghost use Rattle.cells.specs.declared.Rule.TheVariants.{Header};
@@ -62,7 +64,7 @@ fn part_end(path: &[u16], start: usize) -> usize
 }
 
 // Where the way along a path ends: at its key, at a key that has no child of the next name, or with a refusal.
-#[derive(Drop)]
+#[derive(Clone, Copy)]
 pub enum Way {
     Found(Offset),
     Missing(Offset),
@@ -136,7 +138,7 @@ pub fn key_look(hive: &[u8], path: &[u16], how: How) -> Way
     }
 }
 
-#[derive(Drop)]
+#[derive(Clone, Copy)]
 pub enum KeyFound {
     At(Offset),
     Refused(Refusal),

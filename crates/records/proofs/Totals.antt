@@ -6,7 +6,7 @@ use mathlib.Core.List.{List}
 use lib.ListN.{length, get_or, drop}
 use Rattle.fields.specs.declared.Offset.{Offset}
 use Rattle.fields.specs.declared.Flaw.{Flaw}
-use Rattle.fields.specs.declared.Verdict.TheVariants.{Sound, Flawed}
+use Rattle.fields.specs.declared.Verdict.TheVariants.{Sound}
 use Rattle.fields.specs.Faults.{nowhere, fault_over}
 use Rattle.fields.proofs.Loops.{loop-stop, loop-on, loop-end}
 use Rattle.cells.specs.declared.Rule.{Rule}

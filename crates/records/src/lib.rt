@@ -1,5 +1,7 @@
 // Keys and their lists, in bounded cells. A record's test is a function of its cell's data alone, so that it reads only inside its cell; what is read
 // later of a record that was tested is read in its cell's data too, by way of `cells`.
+#![tactic(auto)]
+
 ghost use Rattle.std.specs.Prelude.{◌≡◌, [], ◌+◌, ◌≤◌, ◌<◌, length};
 ghost use Rattle.names.specs.Comparison.{compare, same_name};
 ghost use Rattle.names.specs.Hashing.{hash_of};
@@ -14,7 +16,7 @@ use cells::{Found, Rule};
 use fields::{Fault, Flaw, Offset};
 
 // A stored name: its bytes lie in the data of a cell, from a position on.
-#[derive(Drop)]
+#[derive(Clone, Copy)]
 pub struct Name {
     pub cell: Offset,
     pub at: usize,
@@ -23,7 +25,7 @@ pub struct Name {
 }
 
 // The fields of a key record.
-#[derive(Drop)]
+#[derive(Clone, Copy)]
 pub struct Key {
     pub parent: Offset,
     pub subkeys: u32,
@@ -34,7 +36,7 @@ pub struct Key {
 }
 
 // An element of a leaf: the key that it names, and what stands beside: in an `lh` the hash, in an `lf` the hint, in an `li` nothing.
-#[derive(Drop)]
+#[derive(Clone, Copy)]
 pub struct Child {
     pub at: Offset,
     pub hashed: bool,
@@ -122,7 +124,7 @@ fn key_in(r: &[u8], o: Offset) -> Key
     }
 }
 
-#[derive(Drop)]
+#[derive(Clone, Copy)]
 pub enum Keyed {
     Whole(Key),
     Flawed(Flaw),
@@ -147,7 +149,7 @@ pub fn key_at(bins: &[u8], map: &[u8], rule: Rule, o: Offset) -> Keyed
     }
 }
 
-#[derive(Drop)]
+#[derive(Clone, Copy)]
 pub enum Called {
     Whole(Name),
     Flawed(Flaw),
@@ -309,14 +311,14 @@ fn is_list(r: &[u8]) -> bool
 }
 
 // The leaves of a list, by its cell: those that an `ri` (index) names, "elements at 4", else the list itself.
-#[derive(Drop)]
+#[derive(Clone, Copy)]
 pub struct Leaves {
     pub cell: Offset,
     pub count: usize,
     pub index: bool,
 }
 
-#[derive(Drop)]
+#[derive(Clone, Copy)]
 pub enum Headed {
     Whole(Leaves),
     Flawed(Flaw),
@@ -381,7 +383,7 @@ pub fn leaves_fields(bins: &[u8], o: Offset) -> Leaves
 }
 
 // The elements of a leaf, by its cell: "elements at 4", of so many bytes each.
-#[derive(Drop)]
+#[derive(Clone, Copy)]
 pub struct Leaf {
     pub cell: Offset,
     pub count: usize,
@@ -390,7 +392,7 @@ pub struct Leaf {
     pub hinted: bool,
 }
 
-#[derive(Drop)]
+#[derive(Clone, Copy)]
 pub enum Leafed {
     Whole(Leaf),
     Flawed(Flaw),
@@ -469,7 +471,7 @@ pub fn child_of(bins: &[u8], leaf: Leaf, i: usize) -> Child
     }
 }
 
-#[derive(Drop)]
+#[derive(Clone, Copy)]
 pub enum Totalled {
     Total(usize),
     Flawed(Flaw),

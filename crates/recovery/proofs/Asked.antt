@@ -13,7 +13,6 @@ use Rattle.bitmap.specs.declared.Next.TheVariants as bit
 use Rattle.logs.specs.Logs.{log_fault, page_count, is_logged, next_logged}
 use Rattle.logs.proofs.Laws.{logged-below, Least, next-least, next-none}
 use Rattle.recovery.specs.declared.NextPage.{NextPage}
-use Rattle.recovery.specs.declared.NextPage.TheVariants.{At}
 use Rattle.recovery.specs.Calls.{next_of, next_tested, next_answer}
 use Rattle.recovery.specs.Finished.{given, asked, Covers}
 

@@ -1,4 +1,6 @@
 // Recovery from a log: start, one page or all of them, close; and which page comes next. No call keeps any state.
+#![tactic(auto)]
+
 ghost use Rattle.std.specs.Prelude.{◌≡◌, length};
 ghost use Rattle.fields.specs.declared.Verdict.TheVariants.{Sound};
 ghost use Rattle.fields.specs.Faults.{flaw, nowhere, no_key, refusal_of};
@@ -13,7 +15,7 @@ use bitmap::Next;
 use fields::{Fault, Flaw, Offset, Place, Refusal, Verdict};
 use logs::{Facts, Head, LogFormat, Tested};
 
-#[derive(Drop)]
+#[derive(Clone, Copy)]
 pub enum Started {
     // The hive needs no repair.
     Clean,
@@ -22,7 +24,7 @@ pub enum Started {
     Refused(Refusal),
 }
 
-#[derive(Drop)]
+#[derive(Clone, Copy)]
 pub enum Stepped {
     // The hive needs no repair, and nothing has changed.
     Clean,
@@ -31,7 +33,7 @@ pub enum Stepped {
     Refused(Refusal),
 }
 
-#[derive(Drop)]
+#[derive(Clone, Copy)]
 pub enum NextPage {
     // A logged page, where its bytes lie in the log, and where they go in the hive.
     At { page: usize, from: Place, to: Place },
@@ -39,7 +41,7 @@ pub enum NextPage {
     Refused(Refusal),
 }
 
-#[derive(Drop)]
+#[derive(Clone, Copy)]
 pub enum NextMark {
     // A logged page, and where its bytes go in the hive.
     At { page: usize, to: Place },
@@ -47,7 +49,7 @@ pub enum NextMark {
     Refused(Refusal),
 }
 
-#[derive(Drop)]
+#[derive(Clone, Copy)]
 pub enum Marked {
     // The log's logged pages are marked in the map, and there are this many.
     Pages(usize),
@@ -55,14 +57,14 @@ pub enum Marked {
     Refused(Refusal),
 }
 
-#[derive(Drop)]
+#[derive(Clone, Copy)]
 pub enum LogFacts {
     Of(Facts),
     Refused(Refusal),
 }
 
 // What the tests that every call makes first give to the rest of the call.
-#[derive(Drop)]
+#[derive(Clone, Copy)]
 enum Begun {
     Clean,
     Ready { read: LogFormat, counted: usize },
@@ -281,6 +283,7 @@ pub fn log_facts(log: &[u8]) -> LogFacts
 }
 
 // Without a log: for a dirty hive that is to be read as it is, in private memory. Where 7 is the only fault of 1 to 7 it is clean afterwards.
+#[tactic(auto, unfolding(crate::specs::Settling::settle_answer, crate::specs::Settling::settle_hive))]
 pub fn settle(hive: &mut [u8]) -> Stepped
     ensures value { result ≡ settle_answer hive.old }
     ensures hive_after { hive.new ≡ settle_hive hive.old }

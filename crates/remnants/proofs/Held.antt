@@ -3,8 +3,8 @@ use Prim.Native.Nat.{ℕ, ◌≤◌}
 use native.Mathlib.Omega.{arith}
 use mathlib.Core.Path.{◌≡◌, refl, sym, ap, ◌∙◌}
 use mathlib.Core.Bool.{Bool, true, false, cond}
-use mathlib.Core.List.{List, [], ◌∷◌}
-use lib.ListN.{length, take, get_or}
+use mathlib.Core.List.{List, []}
+use lib.ListN.{length, get_or}
 use lib.Seq.{get_or-take}
 use Rattle.records.specs.Keys.{is_key}
 use Rattle.records.specs.Facts.{Signed}

@@ -112,8 +112,8 @@ first_past from (z ∷ xs) {x} {ys} e = by (λ q. first_past from xs q) (leb fro
 -- past it come those behind it
 pub rest_of : {low : ℕ} (from : ℕ) (xs : List Remain) → Rises low xs → {x : Remain} {ys : List Remain} → not_below from xs ≡ x ∷ ys
     → not_below (x.at.0 + 1) xs ≡ ys
-rest_of from [] r e = absurd (let q = sym (below-nil from) ∙ e in let z : ◌≡◌ {A = ℕ} 0 1 = cc in omega arith)
-rest_of from (z ∷ xs) (rises-on l r) {x} {ys} e = by (λ q. rest_of from xs r q) (leb from z.at.0) refl
+rest_of {low = low} from [] r e = absurd (let q = sym (below-nil from) ∙ e in let z : ◌≡◌ {A = ℕ} 0 1 = cc in omega arith)
+rest_of {low = low} from (z ∷ xs) (rises-on l r) {x = x} {ys = ys} e = by (λ q. rest_of {low = z.at.0 + 1} from xs r q) (leb from z.at.0) refl
   where
     by : (not_below from xs ≡ x ∷ ys → not_below (x.at.0 + 1) xs ≡ ys) → (t : Bool) → leb from z.at.0 ≡ t → not_below (x.at.0 + 1) (z ∷ xs) ≡ ys
     by ih true p =

@@ -9,7 +9,6 @@ use lib.ListN.{length}
 use Rattle.cells.specs.declared.Gap.{Gap}
 use Rattle.cells.specs.Terms.{Stands, free_from, NextFree}
 use Rattle.cells.proofs.Gaps.{free-start, free-end}
-use Rattle.remnants.specs.declared.Kind.TheVariants as kind
 use Rattle.remnants.specs.declared.Hit.{Hit}
 use Rattle.remnants.specs.declared.Cursor.{Cursor}
 use Rattle.remnants.specs.declared.Remain.{Remain}

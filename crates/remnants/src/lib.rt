@@ -1,4 +1,6 @@
 // What deletion left behind: the key and value records that still lie in the free cells of a hive. The tree is not walked and there is no work map.
+#![tactic(auto)]
+
 ghost use Rattle.std.specs.Prelude.{◌≡◌, cond, ◌+◌, ◌%◌, ◌≤◌, length};
 ghost use Rattle.std.proofs.lemmas.List.Edits.{sets};
 ghost use Rattle.base.specs.Block.{bins_limit};
@@ -10,7 +12,7 @@ use cells::Surveyed;
 use fields::{Fault, Flaw, Offset, Place, Refusal, Verdict};
 
 // What a position of a free cell holds.
-#[derive(Drop)]
+#[derive(Clone, Copy)]
 pub enum Kind {
     Key,
     Value,
@@ -19,7 +21,7 @@ pub enum Kind {
 
 // A record that was left: the offset of its cell that was, its kind, and where its name stands in the file: `len` bytes from `name` on, one for each
 // character if narrow, else UTF-16LE.
-#[derive(Drop)]
+#[derive(Clone, Copy)]
 pub struct Remain {
     pub at: Offset,
     pub kind: Kind,
@@ -28,14 +30,14 @@ pub struct Remain {
     pub narrow: bool,
 }
 
-#[derive(Drop)]
+#[derive(Clone, Copy)]
 pub enum Remnant {
     At(Remain),
     Done,
     Refused(Refusal),
 }
 
-#[derive(Drop)]
+#[derive(Clone, Copy)]
 pub enum Filled {
     With(usize),
     Done,
@@ -131,7 +133,7 @@ fn remain_at(bins: &[u8], at: usize, end: usize, kind: Kind) -> Remain
 }
 
 // A position of a free cell and what it holds, or the cell's end.
-#[derive(Drop)]
+#[derive(Clone, Copy)]
 struct Hit {
     at: usize,
     kind: Kind,
@@ -176,7 +178,7 @@ fn find(bins: &[u8], at: usize, end: usize, from: usize) -> Hit
 }
 
 // A position of a survey: in a free cell that ends at `cell`, in a bin that ends at `bin`.
-#[derive(Drop)]
+#[derive(Clone, Copy)]
 struct Cursor {
     at: usize,
     cell: usize,

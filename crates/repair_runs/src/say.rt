@@ -1,93 +1,75 @@
 // What is written of each answer.
 use recovery::{Marked, NextMark, NextPage, Started, Stepped};
+use std::io;
+use std::io::Write;
 use test_lines::{end, number};
 
-pub fn started(a: Started) {
+pub fn started<W: Write>(to: &mut W, a: Started) -> io::Result<()> {
     match a {
-        Started::Clean => {
-            io::write_all(1, b"clean\n");
-        }
+        Started::Clean => to.write_all(b"clean\n"),
         Started::Pages(n) => {
-            number(b"pages ", n as u64);
-            end();
+            number(to, b"pages ", n as u64)?;
+            end(to)
         }
-        Started::Refused(r) => {
-            test_lines::refused(r);
-        }
+        Started::Refused(r) => test_lines::refused(to, r),
     }
 }
 
-pub fn stepped(a: Stepped) {
+pub fn stepped<W: Write>(to: &mut W, a: Stepped) -> io::Result<()> {
     match a {
-        Stepped::Clean => {
-            io::write_all(1, b"clean\n");
-        }
-        Stepped::Done => {
-            io::write_all(1, b"done\n");
-        }
-        Stepped::Refused(r) => {
-            test_lines::refused(r);
-        }
+        Stepped::Clean => to.write_all(b"clean\n"),
+        Stepped::Done => to.write_all(b"done\n"),
+        Stepped::Refused(r) => test_lines::refused(to, r),
     }
 }
 
-pub fn next(a: NextPage) {
+pub fn next<W: Write>(to: &mut W, a: NextPage) -> io::Result<()> {
     match a {
-        NextPage::NoMore => {
-            io::write_all(1, b"no more\n");
+        NextPage::NoMore => to.write_all(b"no more\n"),
+        NextPage::At { page, from, to: goal } => {
+            number(to, b"page ", page as u64)?;
+            number(to, b" from ", from.0 as u64)?;
+            number(to, b" to ", goal.0 as u64)?;
+            end(to)
         }
-        NextPage::At { page, from, to } => {
-            number(b"page ", page as u64);
-            number(b" from ", from.0 as u64);
-            number(b" to ", to.0 as u64);
-            end();
-        }
-        NextPage::Refused(r) => {
-            test_lines::refused(r);
-        }
+        NextPage::Refused(r) => test_lines::refused(to, r),
     }
 }
 
-pub fn mark(a: NextMark) {
+pub fn mark<W: Write>(to: &mut W, a: NextMark) -> io::Result<()> {
     match a {
-        NextMark::NoMore => {
-            io::write_all(1, b"no more\n");
+        NextMark::NoMore => to.write_all(b"no more\n"),
+        NextMark::At { page, to: goal } => {
+            number(to, b"page ", page as u64)?;
+            number(to, b" to ", goal.0 as u64)?;
+            end(to)
         }
-        NextMark::At { page, to } => {
-            number(b"page ", page as u64);
-            number(b" to ", to.0 as u64);
-            end();
-        }
-        NextMark::Refused(r) => {
-            test_lines::refused(r);
-        }
+        NextMark::Refused(r) => test_lines::refused(to, r),
     }
 }
 
-pub fn all_marked(a: Marked) {
+pub fn all_marked<W: Write>(to: &mut W, a: Marked) -> io::Result<()> {
     match a {
         Marked::Pages(n) => {
-            number(b"marked ", n as u64);
-            end();
+            number(to, b"marked ", n as u64)?;
+            end(to)
         }
-        Marked::Refused(r) => {
-            test_lines::refused(r);
-        }
+        Marked::Refused(r) => test_lines::refused(to, r),
     }
 }
 
-fn next_number(n: usize) {
-    number(b" ", n as u64);
+fn next_number<W: Write>(to: &mut W, n: usize) -> io::Result<()> {
+    number(to, b" ", n as u64)
 }
 
 // A line of numbers: the set bits before each of the pages 0 to n - 1.
-pub fn before(map: &[u8], n: usize) {
+pub fn before<W: Write>(to: &mut W, map: &[u8], n: usize) -> io::Result<()> {
     let mut page: usize = 0;
     while page < n {
-        next_number(bitmap::bits_before(map, page));
+        next_number(to, bitmap::bits_before(map, page))?;
         page += 1;
     }
-    end();
+    end(to)
 }
 
 fn mix(sum: u32, b: u8) -> u32 {
@@ -105,12 +87,12 @@ fn sum(s: &[u8]) -> u32 {
     sum
 }
 
-pub fn map(s: &[u8]) {
-    number(b"map ", sum(s) as u64);
-    end();
+pub fn map<W: Write>(to: &mut W, s: &[u8]) -> io::Result<()> {
+    number(to, b"map ", sum(s) as u64)?;
+    end(to)
 }
 
-pub fn disk(s: &[u8]) {
-    number(b"disk ", sum(s) as u64);
-    end();
+pub fn disk<W: Write>(to: &mut W, s: &[u8]) -> io::Result<()> {
+    number(to, b"disk ", sum(s) as u64)?;
+    end(to)
 }

@@ -133,6 +133,7 @@ module _ (d x : List ℕ) where
 
 module _ (d : List ℕ) (hive : Hive) (tiles : BinsTile d 0) where
   pub key-good : (n : ℕ) (o : Offset) → TreeStands d hive n o → key_fault Header d [] o ≡ Sound
+  key-good Prim.Native.Nat.zero o x' = elim x' [ ]
   key-good (suc n) o (key s a ch tree) = of-key Header d [] (header-sound d tiles []) o s.in_use ((key-exactly (data_at d o)).1 s.record-good)
 
   -- a list that stands, leaf by leaf

@@ -335,6 +335,7 @@ module _ (d : List ℕ) (bytes : (i : ℕ) → get_or d i 0 < 256) where
   module _ (hive : Hive) (tiles : BinsTile d 0) where
     pub quick-below : (n : ℕ) (o : Offset) → TreeStands d hive n o → (x : List ℕ) → quick_below d x (key_of d o) ≡ search_below d x (key_of d o)
     unfolding quick_below search_below children_below leaves_below
+    quick-below Prim.Native.Nat.zero o x3 x = elim x3 [ ]
     quick-below (suc n) o (key s a ch tree) x = by (eqb (key_of d o).subkeys 0) refl
       where
         by : (t : Bool) → eqb (key_of d o).subkeys 0 ≡ t → quick_below d x (key_of d o) ≡ search_below d x (key_of d o)

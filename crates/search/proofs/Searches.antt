@@ -6,7 +6,7 @@ use mathlib.Core.List.{List, []}
 use borrow.Author.Tests.{eq-eqb, ne_eqb}
 use Rattle.fields.specs.declared.Flaw.{Flaw}
 use Rattle.fields.specs.declared.Offset.{Offset}
-use Rattle.fields.specs.declared.Verdict.TheVariants.{Sound, Flawed}
+use Rattle.fields.specs.declared.Verdict.TheVariants.{Sound}
 use Rattle.cells.specs.declared.Rule.TheVariants.{Header}
 use Rattle.names.specs.Comparison.{same_name}
 use Rattle.records.specs.declared.Headed.TheVariants as head

@@ -1,4 +1,6 @@
 // The child of a key by its name. There is no work map: an offset names a cell by the cell's own header.
+#![tactic(auto)]
+
 ghost use Rattle.std.specs.Prelude.{◌≡◌, ◌<◌};
 ghost use Rattle.fields.specs.Faults.{nowhere};
 ghost use Rattle.records.specs.Terms.{ElementsLie, elements_of, LeavesLie, leaves_named};
@@ -12,7 +14,7 @@ use names::Order;
 use records::{Called, Headed, Key, Leaf, Leafed, Leaves};
 
 // What a search for a key or a value by its name meets.
-#[derive(Drop)]
+#[derive(Clone, Copy)]
 pub enum Look {
     Found(Offset),
     Missing,
@@ -108,7 +110,7 @@ fn search_below(bins: &[u8], name: &[u16], k: Key) -> Look
 const TURNS: usize = 16;
 
 // One turn of a halving: on with what stands before, with what stands behind, or an answer.
-#[derive(Drop)]
+#[derive(Clone, Copy)]
 pub enum Turn {
     Left,
     Right,
@@ -260,7 +262,7 @@ fn quick_below(bins: &[u8], name: &[u16], k: Key) -> Look
 }
 
 // How a child is searched: all in turn, by the definition that holds for every hive, or by halves, which is right where the names ascend.
-#[derive(Drop)]
+#[derive(Clone, Copy)]
 pub enum How {
     InTurn,
     Halving,

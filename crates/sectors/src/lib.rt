@@ -1,4 +1,6 @@
 // A file's 512-byte sectors: the pages of the bins data, the store of one sector, and the closing sector.
+#![tactic(auto)]
+
 ghost use Rattle.std.specs.Prelude.{◌≡◌, ◌+◌, ◌*◌, ◌≤◌, ◌<◌, length};
 ghost use Rattle.sectors.specs.Sector.{sector_at, stored, page_place};
 ghost use Rattle.sectors.specs.Closing.{closing_sector};

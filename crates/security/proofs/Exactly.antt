@@ -1,5 +1,5 @@
 -- The security items are charged with nothing exactly when they stand, on bins data that are tiled, with their map.
-use Prim.Native.Nat.{ℕ, zero, suc, ◌+◌, ◌<◌, ◌≤◌}
+use Prim.Native.Nat.{ℕ, zero, suc, ◌≤◌}
 use native.Mathlib.Omega.{arith}
 use mathlib.Core.Path.{◌≡◌, refl, sym, ap, ◌∙◌, subst}
 use mathlib.Core.Bool.{Bool, true, false, cond, ◌||◌}
@@ -13,7 +13,7 @@ use Rattle.fields.specs.declared.Fault.TheVariants.{Security}
 use Rattle.fields.specs.declared.Offset.{Offset}
 use Rattle.fields.specs.declared.Verdict.TheVariants.{Sound}
 use Rattle.fields.specs.Faults.{flaw, unless, ◌next◌}
-use Rattle.fields.specs.Charges.{Free, charge_of, ◌after◌}
+use Rattle.fields.specs.Charges.{Free, charge_of}
 use Rattle.fields.proofs.Bools.{never}
 use Rattle.fields.proofs.Firsts.{both, sound, held, holds}
 use Rattle.fields.proofs.Charges.{both-free, free, clear_of}
@@ -21,10 +21,10 @@ use Rattle.cells.specs.Tiled.{BinsTile, Mapped}
 use Rattle.records.specs.Keys.{security_of}
 use Rattle.records.specs.Listed.{Once, cons}
 use Rattle.records.proofs.Listed.{same-offset, pigeonhole}
-use Rattle.security.specs.Items.{is_item, item_of, has_room, is_linked, is_joined, named_by, link_fault, count_fault, item_fault, closes_at, ring_fault, ring_of, ring_steps, is_among, off_charge, root_fault, root_ring, security_charge}
-use Rattle.security.specs.Stands.{Counted, ItemStands, Link, Ring, closes, goes_on, SecurityStands}
+use Rattle.security.specs.Items.{is_item, item_of, is_joined, named_by, link_fault, count_fault, item_fault, closes_at, ring_fault, ring_of, ring_steps, is_among, off_charge, root_fault, root_ring, security_charge}
+use Rattle.security.specs.Stands.{ItemStands, Link, Ring, closes, goes_on, SecurityStands}
 use Rattle.security.proofs.Items.{item-exactly, item-below, room-facts, facts-room, facts-link, joined-facts, facts-joined}
-use Rattle.security.proofs.Ring.{start, whole-ring, Closes}
+use Rattle.security.proofs.Ring.{whole-ring}
 
 -- an offset is one of some items
 pub among_in : (o : Offset) (is : List Offset) → is_among o is ≡ true → Memᴰ o is

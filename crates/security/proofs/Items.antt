@@ -2,13 +2,13 @@
 use Prim.Native.Nat.{ℕ, ◌+◌, ◌<◌, ◌≤◌}
 use native.Mathlib.Nat.{zero-add}
 use native.Mathlib.Omega.{arith}
-use mathlib.Core.Path.{◌≡◌, refl, sym, ap, ◌∙◌}
-use mathlib.Core.Bool.{Bool, true, false, ◌&&◌}
+use mathlib.Core.Path.{◌≡◌, ap, ◌∙◌}
+use mathlib.Core.Bool.{true, false}
 use mathlib.Core.Logic.{◌↔◌}
 use mathlib.Core.List.{List, [], ◌∷◌}
 use lib.Dec.{eqb, leb}
 use lib.ListN.{length}
-use borrow.Author.Tests.{le-leb, lt-leb, leb-true, eqb-true, eq-eqb, ne_eqb}
+use borrow.Author.Tests.{le-leb, leb-true, eqb-true, eq-eqb}
 use Rattle.fields.specs.declared.Flaw.{Flaw}
 use Rattle.fields.specs.declared.Offset.{Offset}
 use Rattle.fields.specs.declared.Verdict.TheVariants.{Sound}
@@ -29,7 +29,6 @@ use Rattle.records.proofs.Facts.{signed-exactly}
 use Rattle.records.proofs.Listed.{same-offset}
 use Rattle.security.specs.Items.{is_sk, is_item, item_in, item_of, has_room, is_linked, is_joined}
 use Rattle.security.specs.Stands.{IsItem, Roomy}
-use Rattle.security.specs.Refused.{LinkStands}
 
 -- the fields stand in the first 20 bytes of the cell's data
 module _ (d : List ℕ) (o : Offset) where

@@ -1,31 +1,30 @@
 -- Why the security items are charged, on bins data that are tiled, with their map.
 use Prim.Native.Nat.{ℕ, zero, suc}
-use mathlib.Core.Path.{◌≡◌, refl, sym, ap, ◌∙◌, subst}
-use mathlib.Core.Bool.{Bool, true, false, cond, ◌&&◌}
+use mathlib.Core.Path.{◌≡◌, refl, ap, ◌∙◌}
+use mathlib.Core.Bool.{Bool, true, false, ◌&&◌}
 use mathlib.Core.Logic.{◌⊎◌, inl, inr, ⊎_elim}
 use mathlib.Core.List.Memᴰ
 use mathlib.Core.List.{List, [], ◌∷◌, Memᴰ}
 use lib.Dec.{eqb}
-use lib.ListN.{length}
 use native.Mathlib.Omega.{arith}
 use borrow.Author.Tests.{eq-eqb}
 use Rattle.fields.specs.declared.Fault.TheVariants.{Security}
 use Rattle.fields.specs.declared.Flaw.{Flaw}
 use Rattle.fields.specs.declared.Offset.{Offset}
 use Rattle.fields.specs.declared.Verdict.TheVariants.{Sound}
-use Rattle.fields.specs.Faults.{flaw, unless, ◌next◌}
-use Rattle.fields.specs.Charges.{Free, charge_of, ◌after◌}
+use Rattle.fields.specs.Faults.{flaw, unless}
+use Rattle.fields.specs.Charges.{charge_of}
 use Rattle.fields.proofs.Bools.{never}
 use Rattle.fields.proofs.Every.{Every, every-sound, every-unless, every-next, every-cond}
 use Rattle.fields.proofs.Firsts.{both, held}
 use Rattle.fields.proofs.Charges.{clear_of, Charges, after-charges, flaw-charges}
 use Rattle.cells.specs.Tiled.{BinsTile, Mapped}
 use Rattle.records.specs.Keys.{security_of}
-use Rattle.security.specs.Items.{is_item, item_of, has_room, is_linked, is_joined, named_by, link_fault, count_fault, item_fault, closes_at, ring_fault, ring_of, ring_steps, is_among, off_charge, root_fault, root_ring, security_charge}
+use Rattle.security.specs.Items.{is_item, item_of, has_room, is_linked, is_joined, named_by, link_fault, count_fault, item_fault, closes_at, ring_fault, ring_steps, is_among, off_charge, root_fault, root_ring, security_charge}
 use Rattle.security.specs.Stands.{IsItem, Ring, closes, goes_on}
 use Rattle.security.specs.Refused.{LinkStands, OnRing, the-first, the-next, OfSecurity, no_item, no_room, no-link, other-count, off-ring}
-use Rattle.security.proofs.Items.{item-exactly, item-below, room-facts, facts-room, facts-link, link-facts, joined-facts}
-use Rattle.security.proofs.Ring.{Closes, sound-joined, whole-ring}
+use Rattle.security.proofs.Items.{item-exactly, item-below, facts-room, facts-link, link-facts, joined-facts}
+use Rattle.security.proofs.Ring.{sound-joined, whole-ring}
 use Rattle.security.proofs.Exactly.{in-among, begun}
 
 -- along a ring

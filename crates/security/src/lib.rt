@@ -1,4 +1,6 @@
 // The ring of security items: "Read `sk` records as source document 003 lays them out".
+#![tactic(auto)]
+
 ghost use Rattle.std.specs.Prelude.{◌≡◌, true, ◌≤◌, length};
 ghost use Rattle.cells.specs.Named.{data_at};
 ghost use Rattle.chains.specs.Chains.{Chained};
@@ -10,7 +12,7 @@ use cells::{Found, Rule};
 use fields::{Fault, Flaw, Offset, Place};
 
 // "forward and backward offsets, reference count, descriptor size": the fields of an item.
-#[derive(Drop)]
+#[derive(Clone, Copy)]
 pub struct Item {
     pub forward: Offset,
     pub backward: Offset,
@@ -98,7 +100,7 @@ fn is_joined(bins: &[u8], map: &[u8], o: Offset, item: Item) -> bool
 
 // How far a batch of items came, with how many stand in the table: to the ring's end, to the item whose room or link is at fault, or, the table being
 // full, to the item that is next.
-#[derive(Drop)]
+#[derive(Clone, Copy)]
 pub enum Batch {
     Closed(usize),
     Broken(usize, Offset),
@@ -139,7 +141,7 @@ pub fn gather(
     Batch::More(n, at)
 }
 
-#[derive(Drop)]
+#[derive(Clone, Copy)]
 pub enum Described {
     Whole(Item),
     Flawed(Flaw),

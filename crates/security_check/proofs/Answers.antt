@@ -1,5 +1,5 @@
 -- What the entry's ways out come to.
-use Rattle.std.proofs.Common.{◌≡◌, ℕ, ◌+◌, ◌*◌, ◌/◌, ◌%◌, ◌^◌, ◌<◌, ◌≤◌, true, false, List, [], ◌∷◌, length, drop, replicate, sym, refl, ap, ◌∙◌, arith, length-append, length-drop, drop_at}
+use Rattle.std.proofs.Common.{◌≡◌, ℕ, ◌*◌, ◌/◌, ◌%◌, ◌^◌, ◌<◌, ◌≤◌, true, false, List, [], ◌∷◌, length, drop, replicate, sym, refl, ap, ◌∙◌, arith, length-append, length-drop, drop_at}
 use mathlib.Core.List.{Memᴰ}
 use lib.ListN.{length-replicate}
 use Rattle.fields.specs.declared.Fault.TheVariants.{Security}
@@ -8,12 +8,12 @@ use Rattle.fields.specs.declared.Offset.{Offset}
 use Rattle.fields.specs.declared.Refusal.{Refusal}
 use Rattle.fields.specs.declared.Verdict.{Verdict}
 use Rattle.fields.specs.declared.Verdict.TheVariants.{Sound, Flawed}
-use Rattle.fields.specs.Faults.{flaw, unless, ◌next◌, refusal_of}
-use Rattle.fields.specs.Charges.{Charge, Free, Of, charge_of, ◌after◌}
+use Rattle.fields.specs.Faults.{flaw, ◌next◌, refusal_of}
+use Rattle.fields.specs.Charges.{Charge, Free, ◌after◌}
 use Rattle.bitmap.specs.Bits.{zeros}
 use Rattle.cells.specs.declared.Surveyed.{Surveyed}
 use Rattle.cells.specs.Map.{map_after}
-use Rattle.cells.specs.Terms.{Pages, Data}
+use Rattle.cells.specs.Terms.{Data}
 use Rattle.cells.specs.Tiling.{layout, survey_of}
 use Rattle.cells.proofs.Cleared.{over}
 use Rattle.cells.proofs.Naming.{sound-names}
@@ -24,14 +24,14 @@ use Rattle.security_pass.specs.declared.Sought.TheVariants as sought
 use Rattle.security_pass.specs.Counting.{sought_in}
 use Rattle.security.specs.declared.Batch.{Batch}
 use Rattle.security.specs.declared.Batch.TheVariants.{Closed, Broken, More}
-use Rattle.security.specs.Items.{is_item, ring_fault, ring_of, ring_steps, is_among, off_charge, root_fault, root_ring, security_charge}
+use Rattle.security.specs.Items.{is_item, ring_fault, ring_of, ring_steps, off_charge, security_charge}
 use Rattle.security.proofs.Items.{item-facts, item-below}
 use Rattle.security.proofs.Ring.{whole-ring}
 use Rattle.security_check.specs.declared.Added.{Added}
 use Rattle.security_check.specs.declared.Added.TheVariants as added
 use Rattle.security_check.specs.declared.Secured.TheVariants as secured
 use Rattle.security_check.specs.declared.Turn.TheVariants as turn
-use Rattle.security_check.specs.Terms.{turn_by, summed, sum_over, tree_keys, Rung, marked, Complete, Asked, refused_at, answer_of, seeking, sought_charge}
+use Rattle.security_check.specs.Terms.{turn_by, summed, sum_over, Rung, marked, Complete, refused_at, answer_of, seeking, sought_charge}
 use Rattle.security_check.proofs.Counts.{sum_is, within-most, within, first-in, rest_in}
 use Rattle.security_check.proofs.Bits.{marked-length, marked-beyond, Placed, sought-off}
 

@@ -1,21 +1,20 @@
 -- One batch: the table that was gathered and the counts of the pass give what the definition says.
-use Rattle.std.proofs.Common.{◌≡◌, ℕ, ◌+◌, ◌<◌, ◌≤◌, true, false, List, length, get_or, sym, refl, ap, ◌∙◌, subst, ap₂, arith}
+use Rattle.std.proofs.Common.{◌≡◌, ℕ, ◌<◌, ◌≤◌, true, false, List, length, get_or, sym, ap, ◌∙◌, subst, ap₂, arith}
 use mathlib.Core.List.{Memᴰ}
 use Rattle.fields.specs.declared.Offset.{Offset}
-use Rattle.fields.specs.Faults.{fault_over}
 use Rattle.cells.specs.Named.{data_at}
 use Rattle.chains.specs.Chains.{Chained}
 use Rattle.records.specs.Listed.{Once}
 use Rattle.security_pass.specs.declared.Pass.{Pass}
 use Rattle.security_pass.specs.Counting.{counted_all}
 use Rattle.security.specs.declared.Batch.{Batch}
-use Rattle.security.specs.Items.{is_item, named_by, count_fault}
+use Rattle.security.specs.Items.{is_item, named_by}
 use Rattle.security.specs.Terms.{along, onward, gathered, taken, HoldsFrom}
 use Rattle.security.proofs.Items.{item-facts}
 use Rattle.security_check.specs.declared.Added.{Added}
-use Rattle.security_check.specs.Terms.{tree_keys, row_of, unequal, added_from, summed, sum_over, turn_by, turned, Turning, Rows}
+use Rattle.security_check.specs.Terms.{tree_keys, row_of, unequal, added_from, summed, turn_by, turned, Turning, Rows}
 use Rattle.security_check.proofs.Counts.{named-most, counted-exactly, onward-in, row_is, table-distinct, unequal-is, added_is}
-use Rattle.security_check.proofs.Turns.{went, items, taken-along, items-item}
+use Rattle.security_check.proofs.Turns.{went, taken-along, items-item}
 
 module _ (d m : List ℕ) (root first from : Offset) (room : ℕ) (g : Turning d m root first room from) {b : Batch} {n : ℕ} (bq : b ≡ gathered d m first room 0 from)
     (nq : n ≡ taken b) (table : List ℕ) (held : HoldsFrom d table (taken b) from) where

@@ -1,13 +1,13 @@
 -- The map with the bits of the ring's items set: a key's item has its bit exactly when it is one of them.
-use Rattle.std.proofs.Common.{◌≡◌, ℕ, zero, suc, ◌+◌, ◌*◌, ◌/◌, ◌%◌, ◌^◌, ◌<◌, ◌≤◌, Bool, true, false, cond, not, ◌&&◌, ◌||◌, eqb, ltb, List, [], ◌∷◌, length, get_or, drop, set, sym, refl, ap, ◌∙◌, arith, drop-set-lt, ltb-false, ltb-true, eq-eqb, ne_eqb, eqb-true}
+use Rattle.std.proofs.Common.{◌≡◌, ℕ, ◌*◌, ◌/◌, ◌%◌, ◌^◌, ◌<◌, ◌≤◌, Bool, true, false, cond, not, ◌||◌, eqb, ltb, List, [], ◌∷◌, length, get_or, drop, set, sym, refl, ap, ◌∙◌, arith, drop-set-lt, ltb-false, ltb-true, ne_eqb, eqb-true}
 use mathlib.Core.List.{Memᴰ}
 use lib.Bits.{bit_xor}
 use borrow.Author.Tests.{eqb-false}
 use Rattle.fields.specs.declared.Fault.TheVariants.{Security}
 use Rattle.fields.specs.declared.Offset.{Offset}
-use Rattle.fields.specs.Faults.{flaw, unless, refusal_of}
-use Rattle.fields.specs.Charges.{Charge, Free, Of, charge_of, ◌after◌}
-use Rattle.bitmap.specs.Bits.{zeros, turned, with_bit, bit, is_marked as is_set}
+use Rattle.fields.specs.Faults.{flaw, unless}
+use Rattle.fields.specs.Charges.{charge_of, ◌after◌}
+use Rattle.bitmap.specs.Bits.{zeros, turned, with_bit, is_marked as is_set}
 use Rattle.bitmap.proofs.Marks.{with-bit, with-length, eqb-cong}
 use Rattle.cells.specs.Map.{is_marked}
 use Rattle.cells.proofs.Marked.{marked-odd, marked-set}

@@ -1,16 +1,14 @@
 -- The counts of a pass are those of the listing, and their sum tells whether every key names an item of the ring: no second pass is needed for that.
-use Rattle.std.proofs.Common.{◌≡◌, ℕ, zero, suc, ◌+◌, ◌-◌, ◌%◌, ◌^◌, ◌<◌, ◌≤◌, Bool, true, false, cond, ◌||◌, eqb, List, [], ◌∷◌, length, get_or, set, replicate, sym, refl, ap, ◌∙◌, subst, ap₂, arith, get_or-set_other, get_or-set_same, eq-eqb, ne_eqb, eqb-true}
+use Rattle.std.proofs.Common.{◌≡◌, ℕ, zero, suc, ◌+◌, ◌%◌, ◌<◌, ◌≤◌, Bool, true, false, cond, ◌||◌, eqb, List, [], ◌∷◌, length, get_or, set, sym, refl, ap, ◌∙◌, subst, ap₂, arith, get_or-set_other, get_or-set_same, eq-eqb, ne_eqb, eqb-true}
 use mathlib.Core.List.{Memᴰ}
 use borrow.Author.Tests.{eqb-false}
 use Rattle.fields.specs.declared.Fault.TheVariants.{Security}
 use Rattle.fields.specs.declared.Offset.{Offset}
-use Rattle.fields.specs.declared.Verdict.{Verdict}
-use Rattle.fields.specs.declared.Verdict.TheVariants.{Sound}
 use Rattle.fields.specs.Faults.{flaw, unless, nowhere, ◌next◌, fault_over}
 use Rattle.chains.specs.Chains.{find_in}
 use Rattle.chains.proofs.Laws.{find-most}
 use Rattle.records.specs.Keys.{security_of}
-use Rattle.records.specs.Listed.{Once, nil, cons}
+use Rattle.records.specs.Listed.{Once, cons}
 use Rattle.records.proofs.Listed.{same-offset}
 use Rattle.records.proofs.Elements.{at_in}
 use Rattle.security_pass.specs.declared.Pass.{Pass}
@@ -34,6 +32,7 @@ found-is ks x (suc n) i e = by (found-is ks x n i) (eqb (get_or ks n 0) x) refl 
 -- and what is there is found
 is_found : (ks : List ℕ) (x n j : ℕ) → j < n → get_or ks j 0 ≡ x → find_in ks x n ≡ 0 → ⊥
 unfolding find_in
+is_found ks x zero j l e = elim l [ ]
 is_found ks x (suc n) j l e = by (is_found ks x n j) (eqb (get_or ks n 0) x) refl
   where
     by : (j < n → get_or ks j 0 ≡ x → find_in ks x n ≡ 0 → ⊥) → (t : Bool) → eqb (get_or ks n 0) x ≡ t → cond t (suc n) (find_in ks x n) ≡ 0 → ⊥

@@ -1,12 +1,11 @@
 -- The loop that sets the bits of the ring's items: what is left of the ring, set on the map as it is, comes to the whole.
-use Rattle.std.proofs.Common.{◌≡◌, ℕ, zero, suc, ◌+◌, ◌-◌, ◌*◌, ◌/◌, ◌<◌, ◌≤◌, Bool, true, false, cond, List, [], ◌∷◌, length, sym, refl, ap, ◌∙◌, subst, arith}
+use Rattle.std.proofs.Common.{◌≡◌, ℕ, suc, ◌+◌, ◌-◌, ◌*◌, ◌/◌, ◌<◌, ◌≤◌, Bool, true, false, cond, List, [], ◌∷◌, length, sym, refl, ap, ◌∙◌, arith}
 use Rattle.fields.specs.declared.Offset.{Offset}
 use Rattle.fields.specs.declared.Verdict.TheVariants.{Sound}
 use Rattle.bitmap.specs.Bits.{with_bit}
 use Rattle.bitmap.proofs.Marks.{with-length}
 use Rattle.cells.specs.Named.{data_at}
-use Rattle.cells.specs.Terms.{Data}
-use Rattle.security.specs.Items.{is_item, item_of, is_joined, closes_at, ring_fault, ring_of, ring_steps}
+use Rattle.security.specs.Items.{is_item, item_of, closes_at, ring_fault, ring_of, ring_steps}
 use Rattle.security.proofs.Items.{item-facts, item-below}
 use Rattle.security.proofs.Ring.{Trail, start, step, trail-item, trail-few}
 use Rattle.security_check.specs.Terms.{Rung, marked}

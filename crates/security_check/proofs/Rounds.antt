@@ -5,12 +5,12 @@ use Rattle.fields.specs.declared.Flaw.{Flaw}
 use Rattle.fields.specs.declared.Offset.{Offset}
 use Rattle.fields.specs.declared.Verdict.{Verdict}
 use Rattle.fields.specs.declared.Verdict.TheVariants.{Sound, Flawed}
-use Rattle.fields.specs.Faults.{flaw, unless, ◌next◌, fault_over}
+use Rattle.fields.specs.Faults.{flaw, ◌next◌, fault_over}
 use Rattle.fields.proofs.Firsts.{both, held}
 use Rattle.records.specs.Listed.{Once}
 use Rattle.security.specs.declared.Batch.{Batch}
 use Rattle.security.specs.declared.Batch.TheVariants.{Closed, Broken, More}
-use Rattle.security.specs.Items.{is_item, item_of, is_joined, link_fault, named_by, count_fault, item_fault, closes_at, ring_fault, ring_of, ring_steps}
+use Rattle.security.specs.Items.{is_item, item_of, is_joined, link_fault, count_fault, item_fault, closes_at, ring_fault, ring_of, ring_steps}
 use Rattle.security.specs.Terms.{along, gathered, taken}
 use Rattle.security.proofs.Ring.{Trail, start, trail-few}
 use Rattle.security_check.specs.declared.Added.TheVariants as added

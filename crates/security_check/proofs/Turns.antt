@@ -1,12 +1,12 @@
 -- What a batch of items comes to: the items that it took, and what is left of the ring.
-use Rattle.std.proofs.Common.{◌≡◌, ℕ, zero, suc, ◌+◌, ◌-◌, ◌<◌, ◌≤◌, Bool, true, false, cond, List, [], ◌∷◌, ◌++◌, length, sym, refl, ap, ◌∙◌, subst, ⊎_elim, arith}
+use Rattle.std.proofs.Common.{◌≡◌, ℕ, zero, suc, ◌+◌, ◌-◌, Bool, true, false, cond, List, [], ◌∷◌, ◌++◌, length, sym, refl, ap, ◌∙◌, subst, ⊎_elim, arith}
 use mathlib.Core.List.Memᴰ
 use mathlib.Core.List.{Memᴰ}
 use Rattle.fields.specs.declared.Fault.TheVariants.{Security}
 use Rattle.fields.specs.declared.Offset.{Offset}
 use Rattle.fields.specs.declared.Verdict.{Verdict}
 use Rattle.fields.specs.declared.Verdict.TheVariants.{Sound, Flawed}
-use Rattle.fields.specs.Faults.{flaw, unless, ◌next◌, fault_over}
+use Rattle.fields.specs.Faults.{flaw, ◌next◌, fault_over}
 use Rattle.records.specs.Listed.{Once, nil, cons}
 use Rattle.security.specs.declared.Batch.{Batch}
 use Rattle.security.specs.declared.Batch.TheVariants.{Closed, Broken, More}

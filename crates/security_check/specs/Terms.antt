@@ -19,7 +19,7 @@ use Rattle.security_pass.specs.declared.Sought.{Sought}
 use Rattle.security_pass.specs.declared.Sought.TheVariants as sought
 use Rattle.security.specs.declared.Batch.{Batch}
 use Rattle.security.specs.declared.Batch.TheVariants.{Closed, Broken, More}
-use Rattle.security.specs.Items.{is_item, item_of, named_by, count_fault, ring_fault, ring_of, ring_steps}
+use Rattle.security.specs.Items.{is_item, item_of, named_by, count_fault, ring_fault, ring_steps}
 use Rattle.security.specs.Terms.{along, gathered, taken}
 use Rattle.security_check.specs.declared.Added.{Added}
 use Rattle.security_check.specs.declared.Added.TheVariants as added

@@ -1,5 +1,7 @@
 // The security items of a hive whose tree was accepted: "each count must equal the number of reached keys that name the item", and every key's item
 // lies on the ring. Items are taken in batches, and each batch costs one pass over the keys.
+#![tactic(auto)]
+
 ghost use Rattle.std.specs.Prelude.{◌≡◌, ◌/◌, ◌%◌, ◌^◌, ◌≤◌, true, length};
 ghost use Rattle.fields.specs.Charges.{◌after◌};
 ghost use Rattle.bitmap.specs.Bits.{zeros};
@@ -19,21 +21,21 @@ const ITEMS: usize = 2048;
 const CHAINS: usize = 2039;
 
 // A sum of counts, or the first fault.
-#[derive(Drop)]
+#[derive(Clone, Copy)]
 enum Added {
     Sum(u64),
     Flawed(Flaw),
 }
 
 // How a batch ended: at a fault, with the ring closed, or with items left.
-#[derive(Drop)]
+#[derive(Clone, Copy)]
 enum Turn {
     Flawed(Flaw),
     Ended(u64),
     Next(u64, Offset),
 }
 
-#[derive(Drop)]
+#[derive(Clone, Copy)]
 pub enum Secured {
     Stands,
     Refused(Refusal),

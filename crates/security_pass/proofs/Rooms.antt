@@ -1,5 +1,5 @@
 -- What a legible tree lets a pass read.
-use Rattle.std.proofs.Common.{◌≡◌, ℕ, zero, suc, ◌+◌, ◌-◌, ◌<◌, ◌≤◌, List, [], ◌∷◌, ◌++◌, length, get_or, sym, refl, ap, ◌∙◌, subst, ⊎_elim, arith}
+use Rattle.std.proofs.Common.{◌≡◌, ℕ, ◌+◌, ◌-◌, ◌<◌, ◌≤◌, List, [], ◌∷◌, length, get_or, sym, refl, ap, ◌∙◌, subst, ⊎_elim, arith}
 use mathlib.Core.List.Memᴰ
 use mathlib.Core.List.{Memᴰ}
 use Rattle.fields.specs.declared.Offset.{Offset}
@@ -11,7 +11,7 @@ use Rattle.records.specs.declared.Key.{Key}
 use Rattle.records.specs.declared.Leaf.{Leaf}
 use Rattle.records.specs.declared.Leaves.{Leaves}
 use Rattle.records.specs.Keys.{key_of}
-use Rattle.records.specs.Lists.{leaf_children, children_in, children_below, children, leaf_fault, head_fault, lists_fault}
+use Rattle.records.specs.Lists.{leaf_children, children_in, children, lists_fault}
 use Rattle.records.specs.Terms.{leaves_at, leaves_named, LeavesLie, leaf_of, child_named, elements_of, ElementsLie, no_child}
 use Rattle.records.proofs.LawsPlaces.{leaf-tested, elements_lie, leaves-lie}
 use Rattle.records.proofs.LawsElements.{elements-length, element-at, elements-are}

@@ -1,5 +1,7 @@
 // A pass over the tree of a hive that the check has accepted, which repeats no test: it counts how often the keys name each item of a table, or seeks
 // the first key whose item is not marked. Recursion goes over levels alone, lists are walked in loops.
+#![tactic(auto)]
+
 ghost use Rattle.std.specs.Prelude.{◌≡◌, ◌+◌, ◌≤◌, length};
 ghost use Rattle.cells.specs.Named.{data_at};
 ghost use Rattle.chains.specs.Chains.{find_in};
@@ -10,13 +12,13 @@ ghost use Rattle.security_pass.specs.Counting.{Legible, LegibleLeaf, Ready, bump
 use fields::Offset;
 
 // Which pass it is: one that seeks, or one that counts for a table of so many items.
-#[derive(Drop)]
+#[derive(Clone, Copy)]
 pub struct Pass {
     pub seek: bool,
     pub items: usize,
 }
 
-#[derive(Drop)]
+#[derive(Clone, Copy)]
 pub enum Sought {
     Nothing,
     At(Offset),

@@ -1,9 +1,9 @@
 -- Names in UTF-16LE, and how long the frames are that open a key and that hold a value.
-use Prim.Native.Nat.{ℕ, suc, ◌+◌, ◌-◌, ◌*◌, ◌/◌, ◌%◌, ◌<◌, ◌≤◌}
+use Prim.Native.Nat.{ℕ, suc, ◌+◌, ◌*◌, ◌/◌, ◌%◌, ◌<◌, ◌≤◌}
 use native.Mathlib.Omega.{arith}
 use native.Mathlib.Numerals.{add-one}
 use mathlib.Core.Path.{◌≡◌, refl, sym, ap, ap₂, ◌∙◌}
-use mathlib.Core.Bool.{Bool, true, false, cond}
+use mathlib.Core.Bool.{Bool, true, false}
 use mathlib.Core.List.{List, [], ◌∷◌, ◌++◌, append_assoc, append-nil}
 use lib.Dec.{leb}
 use lib.ListN.{length, get_or, take, drop, set, length-append}
@@ -23,7 +23,7 @@ use Rattle.records.specs.declared.Name.{Name}
 use Rattle.records.specs.Keys.{is_whole, key_fault, key_in, key_of, NameIn, name_bytes, codes_of}
 use Rattle.records.proofs.LawsKey.{key-facts, key-room, name-room, name-codes}
 use Rattle.values.specs.declared.Value.{Value}
-use Rattle.values.specs.Records.{top_bit, is_value_name, is_data_size, value_fault, is_segmented, content_of, data_in, fields_of, value_of, is_value, value_narrow}
+use Rattle.values.specs.Records.{top_bit, is_value_name, value_fault, is_segmented, content_of, data_in, fields_of, value_of, is_value, value_narrow}
 use Rattle.values.specs.Segments.{data_fault, bytes_of, length_of}
 use Rattle.values.proofs.Cell_tests.{says}
 use Rattle.values.proofs.Tests.{Kept, kept}

@@ -12,7 +12,7 @@ use Rattle.fields.specs.declared.Offset.{Offset}
 use Rattle.fields.specs.Number.{u16_at}
 use Rattle.base.specs.Block.{bins_data}
 use Rattle.records.specs.declared.Child.{Child}
-use Rattle.records.specs.Keys.{key_of, codes_of}
+use Rattle.records.specs.Keys.{key_of}
 use Rattle.records.specs.Lists.{children}
 use Rattle.records.specs.Listed.{joined, keys_in}
 use Rattle.records.proofs.LawsSequence.{offsets-length}
@@ -21,7 +21,7 @@ use Rattle.tree.specs.declared.Hive.{Hive}
 use Rattle.tree.specs.Tree.{values_in, levels, hive_of, keys_of}
 use Rattle.tree.specs.WellFormed.{TreeStands, key, CleanAndWellFormed}
 use Rattle.fields.specs.Number.{le16, le32}
-use Rattle.stream.specs.Stream.{frame, open_frame, framed_value, close_frame, Framed, holds, opens, closes, value_frames, own_frames, frames_over, frames_in, frames_of, value_stream, stream_over, stream_in, stream_of, joined_frames}
+use Rattle.stream.specs.Stream.{frame, open_frame, framed_value, close_frame, Framed, holds, closes, value_frames, own_frames, frames_over, frames_in, frames_of, value_stream, stream_over, stream_in, stream_of, joined_frames}
 use Rattle.stream.specs.Balanced.{kind_of, opened_by, values, subkeys, a_key, Balanced, no-values, value, no-subkeys, subkey, opened}
 use Rattle.fields.proofs.Little.{length-le32, u16-le}
 
@@ -206,6 +206,7 @@ module _ (d : List ℕ) (hive : Hive) where
 
   balanced-in : (n : ℕ) {k : Offset} → TreeStands d hive n k → Balanced a_key (stream_in d hive.minor n k)
   unfolding stream_in open_frame close_frame
+  balanced-in zero {k = k} x' = elim x' [ ]
   balanced-in (suc n) {k} (key s a ch tree) =
       opened _ (balanced-values (values_of d (key_of d k))) (balanced-over n (children d k) (λ c i. balanced-in n (tree c i)))
 

@@ -1,4 +1,6 @@
 // Frames written into a lent buffer, each at a position: "4-byte payload length, 2-byte kind, payload". Only the bytes of the frame are written.
+#![tactic(auto)]
+
 ghost use Rattle.std.specs.Prelude.{◌≡◌, [], true, ◌+◌, ◌*◌, ◌≤◌, length};
 ghost use Rattle.std.proofs.lemmas.List.Edits.{sets};
 ghost use Rattle.fields.specs.declared.Verdict.TheVariants.{Sound};

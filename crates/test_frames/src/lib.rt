@@ -1,7 +1,8 @@
 // The test program's frames: what each one is, the line that answers it, and the run over a whole input.
+#![tactic(auto)]
 pub mod say;
 
-ghost use Rattle.std.specs.Prelude.{◌≡◌, ◌≤◌, ◌/◌, min, true, false, length, take, drop};
+ghost use Rattle.std.specs.Prelude.{◌≡◌, ◌≤◌, ◌/◌, min, true, false, length, take, drop, IfOk};
 ghost use Rattle.cells.specs.Survey.{map_left};
 ghost use Rattle.names.specs.Codes.{codes};
 ghost use Rattle.tree.specs.Tree.{check_answer};
@@ -12,13 +13,16 @@ ghost use Rattle.test_frames.specs.Frames.{framed, frame_of, checked_line, repai
 use fields::{Offset, Refusal};
 use paths::KeyFound;
 use recovery::Started;
+use std::io;
+use std::io::{Read, Write};
+use test_lines::read_full;
 use tree::{Checked, Report};
 
 // "payload up to 20,480 bytes"
 const PAYLOAD_MOST: u32 = 20480;
 
 // "kind (1 hive, 2 log, 3 path)"
-#[derive(Drop)]
+#[derive(Clone, Copy)]
 pub enum Kind {
     Hive,
     Log,
@@ -26,14 +30,14 @@ pub enum Kind {
 }
 
 // A frame by its header: its kind, and how long its payload is.
-#[derive(Drop)]
+#[derive(Clone, Copy)]
 pub enum Frame {
     Good { kind: Kind, len: usize },
     Bad,
 }
 
 // What is written for a frame.
-#[derive(Drop)]
+#[derive(Clone, Copy)]
 pub enum Line {
     NoHive,
     Accepted(Report),
@@ -143,14 +147,14 @@ pub fn least(a: usize, b: usize) -> usize
 }
 
 // What is held between frames: no hive yet, or the last hive frame's bytes as they then stand, so many from the start of the hive's room.
-#[derive(Drop)]
+#[derive(Clone, Copy)]
 pub enum Held {
     Nothing,
     Hive(usize),
 }
 
 // A frame's line, and what is held after it.
-#[derive(Drop)]
+#[derive(Clone, Copy)]
 pub struct Answer {
     pub line: Line,
     pub held: Held,
@@ -231,28 +235,30 @@ fn turned(
     }
 }
 
-#[derive(Drop)]
+#[derive(Clone, Copy)]
 enum Went {
     On(Held),
     Ended,
 }
 
 // Reads a payload; false where the input is cut. A longer payload than there is room for is no frame.
-pub fn payload(fd: i32, room: &mut [u8], n: usize) -> bool
-    ensures { result ≡ true → n ≤ length room.new }
+pub fn payload<R: Read>(from: &mut R, room: &mut [u8], n: usize) -> io::Result<bool>
+    ensures { IfOk result (λ whole. whole ≡ true → n ≤ length room.new) }
 {
     let end = least(n, room.len());
-    io::read_full(fd, &mut room[0..end]) == n
+    let got = read_full(from, &mut room[0..end])?;
+    Ok(got == n)
 }
 
-fn bad_frame() -> Went {
-    say::bad_frame();
-    Went::Ended
+fn bad_frame<W: Write>(to: &mut W) -> io::Result<Went> {
+    say::bad_frame(to)?;
+    Ok(Went::Ended)
 }
 
 // The payload of a frame whose header is good, and its line.
-fn good_frame(
-    fd: i32,
+fn good_frame<R: Read, W: Write>(
+    from: &mut R,
+    to: &mut W,
     hive: &mut [u8],
     room: &mut [u8],
     units: &mut [u16],
@@ -260,59 +266,61 @@ fn good_frame(
     held: Held,
     kind: Kind,
     len: usize,
-) -> Went
+) -> io::Result<Went>
     requires room_in_bounds { length room.old ≤ length hive.old }
     requires room_in_bounds_2 { length room.old / 2 ≤ length units.old }
 {
-    if !payload(fd, room, len) {
-        return bad_frame();
+    if !payload(from, room, len)? {
+        return bad_frame(to);
     }
     let end = least(len, room.len());
     let answer = turned(kind, held, hive, &room[0..end], units, map);
     let line = answer.line;
     let after = answer.held;
-    say::line(line);
-    Went::On(after)
+    say::line(to, line)?;
+    Ok(Went::On(after))
 }
 
 // One frame: "`bad frame`, before all else", then its line.
-fn turn(
-    fd: i32,
+fn turn<R: Read, W: Write>(
+    from: &mut R,
+    to: &mut W,
     hive: &mut [u8; 20480],
     room: &mut [u8; 20480],
     units: &mut [u16; 10240],
     map: &mut [u8; 320],
     held: Held,
-) -> Went {
+) -> io::Result<Went> {
     let mut head = [0u8; 6];
-    let got = io::read_full(fd, &mut head);
+    let got = read_full(from, &mut head)?;
     if got == 0 {
-        return Went::Ended;
+        return Ok(Went::Ended);
     }
     if got < 6 {
-        return bad_frame();
+        return bad_frame(to);
     }
     match frame_of(&head) {
-        Frame::Bad => bad_frame(),
-        Frame::Good { kind, len } => good_frame(fd, hive, room, units, map, held, kind, len),
+        Frame::Bad => bad_frame(to),
+        Frame::Good { kind, len } => good_frame(from, to, hive, room, units, map, held, kind, len),
     }
 }
 
 // "First the line `hive`, then one per frame." Nothing says that the input ends, so the turns are counted down from a number that no run uses up.
-pub fn run(
-    fd: i32,
+pub fn run<R: Read, W: Write>(
+    from: &mut R,
+    to: &mut W,
     hive: &mut [u8; 20480],
     room: &mut [u8; 20480],
     units: &mut [u16; 10240],
     map: &mut [u8; 320],
-) {
-    say::hive();
+) -> io::Result<()> {
+    say::hive(to)?;
     let mut held = Held::Nothing;
     let mut left = u64::MAX;
     while 0 < left {
-        match turn(fd, hive, room, units, map, held) {
+        match turn(from, to, hive, room, units, map, held)? {
             Went::Ended => {
-                return;
+                return Ok(());
             }
             Went::On(h) => {
                 held = h;
@@ -320,4 +328,5 @@ pub fn run(
         }
         left -= 1;
     }
+    Ok(())
 }

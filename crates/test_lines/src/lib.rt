@@ -1,23 +1,44 @@
-// What the test programs share: numbers and refusals as they are written, and bytes that are put at a place.
+// What the test programs share: input and output, numbers and refusals as they are written, and bytes that are put at a place.
+#![tactic(auto)]
+
+ghost use Rattle.std.specs.Prelude.{◌≤◌, IfOk, length};
+
 use fields::Refusal;
+use std::io;
+use std::io::{Read, Write};
 
 // "All numbers are decimal"
-pub fn number(before: &[u8], n: u64) {
-    io::write_all(1, before);
-    io::print_decimal(1, n);
+pub fn number<W: Write>(to: &mut W, before: &[u8], n: u64) -> io::Result<()> {
+    to.write_all(before)?;
+    write!(to, "{n}")
 }
 
 // Every line ends with one newline.
-pub fn end() {
-    io::write_all(1, b"\n");
+pub fn end<W: Write>(to: &mut W) -> io::Result<()> {
+    to.write_all(b"\n")
 }
 
-pub fn refused(r: Refusal) {
+pub fn refused<W: Write>(to: &mut W, r: Refusal) -> io::Result<()> {
     let fault = r.fault;
     let place = r.place;
-    number(b"refused ", fault.number() as u64);
-    number(b" at ", place.0 as u64);
-    end();
+    number(to, b"refused ", fault.number() as u64)?;
+    number(to, b" at ", place.0 as u64)?;
+    end(to)
+}
+
+// Fills a buffer as far as the input goes, and says how far that was.
+pub fn read_full<R: Read>(from: &mut R, buf: &mut [u8]) -> io::Result<usize>
+    ensures { IfOk result (λ n. n ≤ length buf.new) }
+{
+    let mut got = 0usize;
+    while got < buf.len() {
+        let n = from.read(&mut buf[got..])?;
+        if n == 0 {
+            return Ok(got);
+        }
+        got += n;
+    }
+    Ok(got)
 }
 
 // Puts a part of one file at a place of another; what does not fit there is not put.
@@ -29,7 +50,7 @@ pub fn put_part(dst: &mut [u8], part: &[u8], at: usize) {
     if dst.len() - n < at {
         return;
     }
-    bytes::copy(part, &mut dst[at..at + n]);
+    dst[at..at + n].copy_from_slice(part);
 }
 
 // src is a 4-byte place and what goes there.

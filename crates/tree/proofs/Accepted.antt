@@ -232,6 +232,7 @@ module _ (d m : List ℕ) (hive : Hive) (tiles : BinsTile d 0) (mapped : Mapped 
 
   stands-free : (n : ℕ) (c : Child) (l : Arrival) → place_fault d hive.root (key_of d c.at) c.at l ≡ Sound
       → beside_fault d (key_of d c.at) c ≡ Sound → TreeStands d hive n c.at → tree_charge d m hive n c l ≡ Free
+  stands-free zero c l p h x3 = elim x3 [ ]
   stands-free (suc n) c l p h (key s a ch tree) =
       tree_free d m hive n c l (of-stands n c l s p h)
       (lists-of-stands n c.at (children d c.at) a ch (λ e i x q g. stands-free n e x q g (tree e i)))

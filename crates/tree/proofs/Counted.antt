@@ -1,5 +1,5 @@
 -- The counts that the walk adds in 64 bits are those of the list: a list with no key twice is no longer than the bins data.
-use Rattle.std.proofs.Common.{◌≡◌, ℕ, suc, ◌+◌, ◌*◌, ◌%◌, ◌^◌, ◌<◌, ◌≤◌, Bool, true, false, eqb, List, [], ◌∷◌, length, sym, refl, ap, ◌∙◌, subst, ap₂, ⊎_elim, arith, eqb-true}
+use Rattle.std.proofs.Common.{◌≡◌, ℕ, suc, ◌+◌, ◌*◌, ◌%◌, ◌^◌, ◌<◌, ◌≤◌, Bool, true, false, eqb, List, [], ◌∷◌, length, sym, refl, ◌∙◌, subst, ap₂, ⊎_elim, arith, eqb-true}
 use mathlib.Core.List.Memᴰ
 use mathlib.Core.List.{Memᴰ}
 use borrow.Author.Tests.{eqb-false}
@@ -25,6 +25,7 @@ module _ (d : List ℕ) (hive : Hive) where
   -- every listed key stands
   listed-stands : (n : ℕ) (at : Offset) → TreeStands d hive n at → (k : Offset) → Memᴰ k (keys_in d n at) → KeyStands d hive.minor k
   unfolding keys_in
+  listed-stands Prim.Native.Nat.zero at x₂ k i = elim x₂ [ ]
   listed-stands (suc n) at (key s a ch tree) k i =
       ⊎_elim (λ e. subst (λ (o : Offset). KeyStands d hive.minor o) (sym e) s)
       (λ j. let x = in-joined (keys_in d n) (children d at) k j in listed-stands n x.0.at (tree x.0 x.1) k x.2)

@@ -45,6 +45,7 @@ module _ (d : List ℕ) (hive : Hive) where
 
   under : (n : ℕ) (at : Offset) (e : ℕ) → TreeStands d hive n at → Deep at e → (k : Offset) → Memᴰ k (keys_in d n at) → Under at e k
   unfolding keys_in climb
+  under Prim.Native.Nat.zero at e x3 p k i = elim x3 [ ]
   under (suc n) at e (key s a ch tree) p k i =
       ⊎_elim here
       (λ j. let x = in-joined (keys_in d n) (children d at) k j in
@@ -66,6 +67,7 @@ module _ (d : List ℕ) (hive : Hive) where
 
   once : (n : ℕ) (at : Offset) (e : ℕ) → TreeStands d hive n at → Deep at e → Once (keys_in d n at)
   unfolding keys_in
+  once Prim.Native.Nat.zero at e x₂ p = elim x₂ [ ]
   once (suc n) at e (key s a ch tree) p =
       cons not-here
       (once-joined (keys_in d n) (children d at) (ascends-apart d _ a)

@@ -6,8 +6,7 @@ use Rattle.fields.specs.declared.Fault.TheVariants as named
 use Rattle.fields.specs.declared.Offset.{Offset}
 use Rattle.fields.specs.declared.Flaw.{Flaw}
 use Rattle.fields.specs.declared.Refusal.{Refusal}
-use Rattle.fields.specs.declared.Verdict.{Verdict}
-use Rattle.fields.specs.declared.Verdict.TheVariants.{Sound, Flawed}
+use Rattle.fields.specs.declared.Verdict.TheVariants.{Sound}
 use Rattle.fields.specs.Faults.{number_of, flaw, unless, ◌next◌, no_key, refusal_of, Because}
 use Rattle.fields.specs.Charges.{Charge, charge_of, ◌after◌}
 use Rattle.fields.proofs.Charges.{clear_of, because, Charges, after-charges, flaw-charges}

@@ -23,7 +23,7 @@ use Rattle.namesakes.specs.Namesakes.{namesake_fault}
 use Rattle.tree.specs.declared.Arrival.{Arrival}
 use Rattle.tree.specs.declared.Arrival.TheVariants.{Start, First, After}
 use Rattle.tree.specs.declared.Checked.{Checked}
-use Rattle.tree.specs.Tree.{total_fault, hive_of, keys_of, report_of, keys_charge, answer}
+use Rattle.tree.specs.Tree.{total_fault, keys_of, report_of, keys_charge, answer}
 
 -- a key's name lies in its cell
 abbrev pub NameLies : List ℕ → Key → Type 0

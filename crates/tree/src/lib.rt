@@ -1,4 +1,6 @@
 // The check: the tree walked from the root, the security items, and the report.
+#![tactic(auto)]
+
 ghost use Rattle.std.specs.Prelude.{◌≡◌, ◌<◌, slice_index_or};
 ghost use Rattle.cells.specs.Survey.{map_left};
 ghost use Rattle.cells.specs.Named.{data_at};
@@ -18,7 +20,7 @@ use records::{Child, Key, Keyed, Leaf, Totalled};
 use security_check::Secured;
 
 // "The check reports bins, keys reached, values (one for each value list element of those keys), used bytes and free bytes"
-#[derive(Drop)]
+#[derive(Clone, Copy)]
 pub struct Report {
     pub bins: usize,
     pub keys: u64,
@@ -27,21 +29,21 @@ pub struct Report {
     pub free: usize,
 }
 
-#[derive(Drop)]
+#[derive(Clone, Copy)]
 pub enum Checked {
     Accepted(Report),
     Refused(Refusal),
 }
 
 // What the walk knows of the whole hive.
-#[derive(Drop)]
+#[derive(Clone, Copy)]
 pub struct Hive {
     pub minor: u32,
     pub root: Offset,
 }
 
 // Where a key was found: at the start, first below a key, or below a key after a sibling.
-#[derive(Drop)]
+#[derive(Clone, Copy)]
 pub enum Arrival {
     Start,
     First(Offset),
@@ -49,13 +51,13 @@ pub enum Arrival {
 }
 
 // Keys and values counted so far.
-#[derive(Drop)]
+#[derive(Clone, Copy)]
 pub struct Count {
     pub keys: u64,
     pub values: u64,
 }
 
-#[derive(Drop)]
+#[derive(Clone, Copy)]
 pub enum Subtree {
     Counted(Count),
     Refused(Refusal),

@@ -1,5 +1,5 @@
 -- Both sides of the bounds on a value's data, by computation. The figures that the paper has run are in crates/hive_runs.
-use Prim.Native.Nat.{ℕ, ◌+◌}
+use Prim.Native.Nat.{ℕ}
 use mathlib.Core.Path.{◌≡◌, refl}
 use mathlib.Core.Bool.{true, false}
 use mathlib.Core.List.{List, [], ◌∷◌, ◌++◌}

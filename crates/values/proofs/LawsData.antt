@@ -83,7 +83,7 @@ module _ (d : List ℕ) (o : Offset) (size : ℕ) (l : Lies d (Segments o size))
 
   pub db-room : 8 ≤ length (data_at d o)
   unfolding segment_list_fault db_fault
-  db-room = db-long (data_at d o) size (says (λ r. is_db r size) Header d [] o (both (db_fault Header d [] o size) _ (faults .0)).0)
+  db-room = db-long (data_at d o) size (says (λ r. is_db r size) Header d [] o (both (db_fault Header d [] o size) _ (faults.0)).0)
 
   module _ (e : Entries) (is : e ≡ entries_at (segment_list d o) (segments_for size)) where
     segments-are : segments_of d o size ≡ segments_in d e size
@@ -92,9 +92,9 @@ module _ (d : List ℕ) (o : Offset) (size : ℕ) (l : Lies d (Segments o size))
     pub segments-lie : SegmentsLie d e size
     segments-lie =
         record {
-          room = rw is (list-roomy Header d [] o size (faults .0));
+          room = rw is (list-roomy Header d [] o size (faults.0));
           enough = rw is (enough-segments size);
-          sound = rw (← segments-are) (faults .1);
+          sound = rw (← segments-are) (faults.1);
         }
 
     pub segments-bytes : joined_bytes d (segments_in d e size) ≡ bytes_of d (Segments o size)
@@ -103,7 +103,7 @@ module _ (d : List ℕ) (o : Offset) (size : ℕ) (l : Lies d (Segments o size))
 
   segments-length : length (bytes_of d (Segments o size)) ≡ size
   unfolding bytes_of
-  segments-length = joined_length Header d [] (segments_of d o size) (faults .1) ∙ lengths-sum d o size
+  segments-length = joined_length Header d [] (segments_of d o size) (faults.1) ∙ lengths-sum d o size
 
 -- the bytes are as many as the record says
 pub bytes-length : (d : List ℕ) (x : ValueData) → Lies d x → length (bytes_of d x) ≡ length_of x

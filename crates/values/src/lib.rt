@@ -1,4 +1,6 @@
 // Values and their data, in bounded cells. A record's tests read the data of its cell and nothing else.
+#![tactic(auto)]
+
 ghost use Rattle.std.specs.Prelude.{◌≡◌, ◌+◌, ◌*◌, ◌<◌, ◌≤◌, ◌++◌, length, get_or, drop};
 ghost use Rattle.std.proofs.Math.Seq.{paste};
 ghost use Rattle.fields.specs.Faults.{nowhere, fault_over};
@@ -72,7 +74,7 @@ fn is_value(r: &[u8]) -> bool
 
 // "data are inline, in one cell or in segments": value data as an enum with three cases carrying offset and length, read by view and copy. Each names a
 // cell: inline data lie in the value's own.
-#[derive(Drop)]
+#[derive(Clone, Copy)]
 pub enum ValueData {
     Inline { cell: Offset, len: u32 },
     OneCell { cell: Offset, len: u32 },
@@ -80,14 +82,14 @@ pub enum ValueData {
 }
 
 // The fields of a value record.
-#[derive(Drop)]
+#[derive(Clone, Copy)]
 pub struct Value {
     pub kind: u32,
     pub content: ValueData,
     pub name: records::Name,
 }
 
-#[derive(Drop)]
+#[derive(Clone, Copy)]
 pub enum Valued {
     Whole(Value),
     Flawed(Flaw),
@@ -180,13 +182,13 @@ fn room_flaw(bins: &[u8], map: &[u8], rule: Rule, o: Offset, n: usize) -> Verdic
 }
 
 // Offsets that stand one after the other from the start of a cell's data on: the elements of a value list or of a segment list.
-#[derive(Drop)]
+#[derive(Clone, Copy)]
 pub struct Entries {
     pub cell: Offset,
     pub count: usize,
 }
 
-#[derive(Drop)]
+#[derive(Clone, Copy)]
 pub enum Entered {
     Whole(Entries),
     Flawed(Flaw),
@@ -215,7 +217,7 @@ pub fn entry(bins: &[u8], e: Entries, i: usize) -> Offset
 }
 
 // A segment, of which the definitions speak: its cell, and how many bytes of the data it holds.
-#[derive(Drop)]
+#[derive(Clone, Copy)]
 pub struct Segment {
     pub at: Offset,
     pub len: usize,
@@ -382,7 +384,7 @@ pub fn values_flaw(bins: &[u8], map: &[u8], rule: Rule, minor: u32, k: records::
 }
 
 // A part of a cell's data: so many bytes from a position on.
-#[derive(Drop)]
+#[derive(Clone, Copy)]
 pub struct Part {
     pub cell: Offset,
     pub at: usize,

@@ -22,7 +22,6 @@ use Rattle.walk.specs.declared.Offer.TheVariants as ahead
 use Rattle.walk.specs.declared.Mark.{Mark}
 use Rattle.walk.specs.declared.Next.{Next}
 use Rattle.walk.specs.declared.Next.TheVariants.{Comes, End, Flawed as Faulty}
-use Rattle.walk.specs.declared.Walked.TheVariants.{Over}
 use Rattle.walk.specs.Answers.{key_at, mark_at, next_below, step_where, step_on, room_fault, entering, opening, step_at, step_in, step_of, answer_of, step_answer, begin_fault, begun_where, begin_answer}
 use Rattle.walk.specs.Events.{keeps_count}
 

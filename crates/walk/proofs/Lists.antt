@@ -157,7 +157,7 @@ module _ (d ws : List ℕ) (n : ℕ) where
         → coming d ws (suc n)
         ≡ Opens (entry_of c.at (key_of d c.at).name) ∷ (((inner ++ (Closes c.at ∷ [])) ++ rest) ++ (Closes (key_at ws (suc n)) ∷ coming d ws n))
     unfolding coming events_over events_in inner rest
-    before e = rw (e, lv)
+    before e = rw (lv, e)
 
     after : Moved ws ws' n c.at m → coming d ws' (suc (suc n)) ≡ inner ++ (Closes c.at ∷ (rest ++ (Closes (key_at ws (suc n)) ∷ coming d ws n)))
     unfolding coming children_below inner rest
@@ -213,9 +213,11 @@ module _ (h : List ℕ) (w : CleanAndWellFormed h) where
   base = facts-base h w.is-clean w.inside
 
   key-stands : (m : ℕ) {o : Offset} → TreeStands (bins_data h) (hive_of h) m o → KeyStands (bins_data h) (hive_of h).minor o
+  key-stands zero {o = o} x' = elim x' [ ]
   key-stands (suc m) (key s a ch tree) = s
 
   some_level : (m : ℕ) {o : Offset} → TreeStands (bins_data h) (hive_of h) m o → (b : ℕ) × (m ≡ suc b)
+  some_level zero {o = o} x' = elim x' [ ]
   some_level (suc b) (key s a ch tree) = (b, refl)
 
   child-stands : (m : ℕ) {o : Offset} → TreeStands (bins_data h) (hive_of h) (suc m) o → (c : Child) → Memᴰ c (children (bins_data h) o)

@@ -23,7 +23,6 @@ use Rattle.walk.specs.declared.Offer.TheVariants as ahead
 use Rattle.walk.specs.declared.Mark.{Mark}
 use Rattle.walk.specs.declared.Next.{Next}
 use Rattle.walk.specs.declared.Next.TheVariants.{Comes, End, Flawed as Faulty}
-use Rattle.walk.specs.declared.Walked.TheVariants.{Over}
 use Rattle.walk.specs.Answers.{key_at, mark_at, next_below, step_where, step_on, room_fault, entering, opening, step_at, step_in}
 
 where-moves : (k : Offset) (v : Verdict) (s : Offer) {e : Entry} {m : Mark} → step_where k v s ≡ ahead.Opens e m → (v ≡ Sound) × (s ≡ ahead.Opens e m)

@@ -1,5 +1,5 @@
 -- Every refusal of a walk says why, and leaves the words.
-use Prim.Native.Nat.{ℕ, ◌+◌, ◌*◌, ◌≤◌, ◌<◌}
+use Prim.Native.Nat.{ℕ, ◌+◌, ◌*◌, ◌<◌}
 use native.Mathlib.Omega.{arith}
 use mathlib.Core.Path.{◌≡◌, refl, sym, ap, subst}
 use mathlib.Core.Bool.{Bool, true, false, cond}
@@ -36,8 +36,7 @@ use Rattle.walk.specs.declared.Offer.TheVariants as ahead
 use Rattle.walk.specs.declared.Mark.{Mark}
 use Rattle.walk.specs.declared.Next.{Next}
 use Rattle.walk.specs.declared.Next.TheVariants.{Comes, End, Flawed as Faulty}
-use Rattle.walk.specs.declared.Walked.{Walked}
-use Rattle.walk.specs.declared.Walked.TheVariants.{Over, Refused}
+use Rattle.walk.specs.declared.Walked.TheVariants.{Refused}
 use Rattle.walk.specs.Answers.{key_at, mark_at, next_where, next_of, next_in, next_below, step_where, step_on, room_fault, entering, opening, step_at, step_in, step_of, answer_of, levels_after, step_answer, step_levels, root_fault, begin_fault, begun_where, begun_levels, begin_answer, begin_levels}
 use Rattle.walk.specs.Refused.{OfBegin, begin-base, of-root, no_start, OfStep, of-base, no_words, of-key, of-named, too-deep, no_room}
 

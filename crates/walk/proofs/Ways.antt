@@ -34,7 +34,7 @@ use Rattle.listing.specs.Members.{entry_of}
 use Rattle.walk.specs.declared.Offer.TheVariants as ahead
 use Rattle.walk.specs.declared.Mark.{Mark}
 use Rattle.walk.specs.declared.Next.TheVariants.{Comes, End, Flawed as Faulty}
-use Rattle.walk.specs.declared.Walked.TheVariants.{Closes, Over, Refused}
+use Rattle.walk.specs.declared.Walked.TheVariants.{Refused}
 use Rattle.walk.specs.Answers.{key_at, mark_at, mark_after, next_of, next_in, next_below, room_fault, entering, opening, step_at, step_in, step_of, answer_of, levels_after, step_answer, step_levels, root_fault, begin_fault, begun_where, begun_levels, begin_answer, begin_levels}
 
 -- words that are set one after the other

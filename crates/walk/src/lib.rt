@@ -1,6 +1,8 @@
 // All keys of a hive, one by one in pre-order, by a cursor that the caller lends: three words for each open key, and how many are open. A step opens
 // the next child of the last open key, or closes that key, so it has no loop. The words and the depth are the caller's: whatever they are, no step
 // reads outside.
+#![tactic(auto)]
+
 ghost use Rattle.std.specs.Prelude.{◌≡◌, [], ◌∷◌, ◌+◌, ◌*◌, ◌≤◌, ◌<◌, length};
 ghost use Rattle.std.proofs.lemmas.List.Edits.{sets};
 ghost use Rattle.fields.specs.declared.Verdict.TheVariants.{Sound};
@@ -16,7 +18,7 @@ use fields::{Fault, Flaw, Offset, Refusal, Verdict};
 use listing::Entry;
 use records::{Called, Headed, Key, Leaf, Leafed, Leaves};
 
-#[derive(Drop)]
+#[derive(Clone, Copy)]
 pub enum Walked {
     Opens(Entry),
     Closes(Offset),
@@ -25,7 +27,7 @@ pub enum Walked {
 }
 
 // What a step would do: of a child that it opens, with the mark behind it; all else leaves the words.
-#[derive(Drop)]
+#[derive(Clone, Copy)]
 pub enum Offer {
     Opens(Entry, Mark),
     Closes(Offset),
@@ -34,14 +36,14 @@ pub enum Offer {
 }
 
 // What comes next of an open key: the number of a leaf of its list, and of an element of that leaf.
-#[derive(Drop)]
+#[derive(Clone, Copy)]
 pub struct Mark {
     pub leaf: u32,
     pub element: u32,
 }
 
 // The child that a mark stands at, and the mark behind it.
-#[derive(Drop)]
+#[derive(Clone, Copy)]
 pub enum Next {
     Comes(Offset, Mark),
     End,

@@ -1,0 +1,17 @@
+use mathlib.Core.Path.{refl}
+use Rattle.forest.specs.Parse.{forest_in}
+use Rattle.build.proofs.Calls.{planned, hive-put}
+use Rattle.build.proofs.put_hive.Goals as goal
+
+pub put_hive-requires : goal.put_hive-requires
+put_hive-requires c =
+    let a = c.args in
+    (forest_in a.stream.now, planned a.stream.now a.descriptor.now c.requires)
+
+pub returns : goal.returns
+returns c =
+    let a = c.args in
+    let x = c.requires in
+    let s = a.stream.now in
+    let sd = a.descriptor.now in
+    hive-put s sd x a.out.now refl (c.put_hive.ensures (forest_in s) (planned s sd x))

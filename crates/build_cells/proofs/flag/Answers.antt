@@ -1,0 +1,10 @@
+use Rattle.layout.specs.Layout.{flag_of}
+use Rattle.build_cells.proofs.flag.Goals as goal
+
+pub returns-then-told : goal.returns-then-told
+unfolding flag_of
+returns-then-told c = rw c.if-told.true
+
+pub returns : goal.returns
+unfolding flag_of
+returns c = rw c.if-told.false

@@ -1,0 +1,13 @@
+use mathlib.Core.Path.{sym, ◌∙◌}
+use Rattle.build_measure.proofs.Faulty.{first_key, later-key}
+use Rattle.build_measure.proofs.is_in_order.Goals as goal
+
+pub returns-then-h-eq0 : goal.returns-then-h-eq0
+returns-then-h-eq0 c =
+    λ ys e. sym (first_key _ _ _ ys e c.if-h-eq0.true)
+
+pub is_above-requires : goal.is_above-requires
+is_above-requires c = (c.requires.1.elder, c.requires.0)
+
+pub returns : goal.returns
+returns c = λ ys e. c.is_above.ensures ∙ sym (later-key _ _ _ ys e c.if-h-eq0.false)

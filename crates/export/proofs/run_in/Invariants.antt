@@ -1,0 +1,19 @@
+use mathlib.Core.Path.{◌≡◌}
+use Prim.Native.Nat.{◌-◌}
+use lib.ListN.{length}
+use mathlib.Core.Bool.{true}
+use mathlib.Core.List.{[]}
+use Rattle.fields.specs.declared.Verdict.TheVariants.{Sound}
+use Rattle.cells.specs.declared.Rule.TheVariants.{Header}
+use Rattle.records.specs.Keys.{key_fault}
+use Rattle.walk.specs.Answers.{key_at}
+use Rattle.export.proofs.Turns.{Running}
+use Rattle.export.proofs.run_in.Given as goal
+
+abbrev pub invariant-loop-r : goal.invariant-loop-r
+invariant-loop-r l =
+    Running l.bins l.minor l.initial.levels l.initial.next l.initial.out l.levels l.next l.out l.at l.frames
+    × (l.known ≡ true → key_fault Header l.bins [] (key_at l.levels l.next.depth) ≡ Sound)
+
+abbrev pub decreases-loop-r : goal.decreases-loop-r
+decreases-loop-r l = length l.initial.out - l.at

@@ -1,9 +1,0 @@
-use Rattle.hive_c.specs.Flat.{value_in}
-use mathlib.Core.Path.{ap, ◌∙◌}
-use borrow.Author.Rules.{rules}
-use Rattle.hive_c.proofs.hive_value_at.Statement.{statement}
-use Rattle.hive_c.proofs.hive_value_at.Tie as tie
-
-pub hive-value-at-spec : {M : Type 1} → statement M
-hive-value-at-spec =
-    tie.close (tie.spec (λ c κs. search rules) (λ c κs. search rules) (λ c. c.value-answer.ensures ∙ ap value_in c.before.info-at.ensures))

@@ -1,0 +1,25 @@
+use Rattle.lookup.proofs.Value_answers.{info-found, info-missing, info-faulty}
+use Rattle.lookup.proofs.Value_searches.{value-facts}
+use Rattle.lookup.specs.declared.ValueFound.TheVariants.{Refused}
+use mathlib.Core.Path.{sym, ap, ◌∙◌}
+use Rattle.lookup.proofs.info_by.Goals as goal
+
+pub bins_of-requires : goal.bins_of-requires
+bins_of-requires c = (value-facts _ _ _ _ (sym c.value_look.ensures ∙ c.in-Found.is)).0
+
+pub minor_of-requires : goal.minor_of-requires
+minor_of-requires c = (value-facts _ _ _ _ (sym c.value_look.ensures ∙ c.in-Found.is)).0
+
+pub returns-in-Found : goal.returns-in-Found
+returns-in-Found c =
+    c.whole_info.ensures
+    ∙ rw (c.bins_of.ensures, c.minor_of.ensures)
+    (sym (info-found _ _ _ _ (sym c.value_look.ensures ∙ c.in-Found.is)))
+
+pub returns-in-Missing : goal.returns-in-Missing
+returns-in-Missing c =
+    ap Refused c.no_value.ensures
+    ∙ sym (info-missing _ _ _ _ (sym c.value_look.ensures ∙ c.in-Missing.is))
+
+pub returns-in-Refused : goal.returns-in-Refused
+returns-in-Refused c = sym (info-faulty _ _ _ _ (sym c.value_look.ensures ∙ c.in-Refused.is))

@@ -1,0 +1,33 @@
+use native.Mathlib.Omega.{arith}
+use mathlib.Core.Path.{refl, sym, ap, ◌∙◌}
+use borrow.Author.Tests.{eq-eqb, eqb-true}
+use Rattle.fields.proofs.Bools.{never}
+use Rattle.names.specs.Upper_case.{upper}
+use Rattle.names.specs.Comparison.{is_same, same_name}
+use Rattle.names.proofs.LawsOrder.{unequal-length}
+use Rattle.names.proofs.Turns.{turn-apart, turn_level, turn-ended}
+use Rattle.names.proofs.is_named.Goals as goal
+
+pub returns-then-count-name : goal.returns-then-count-name
+returns-then-count-name c = sym (unequal-length _ _ (λ e. c.if-count-name.true (c.count.ensures ∙ e)))
+
+pub loop-i-init : goal.loop-i-init
+unfolding same_name
+loop-i-init c = refl
+
+pub returns-then-not-same_letter : goal.returns-then-not-same_letter
+returns-then-not-same_letter c =
+    let l = c.loop-i in
+    sym (l.invariant ∙ turn-apart _ _ l.i (omega arith) (omega arith)
+    (λ e. never c.same_letter.result (c.same_letter.ensures ∙ eq-eqb _ _ (ap upper c.code_at.ensures ∙ e))
+    (c.if-not-same_letter.true)))
+
+pub loop-i-preserved : goal.loop-i-preserved
+loop-i-preserved c =
+    let l = c.loop-i in
+    l.invariant ∙ ap is_same (turn_level _ _ l.i (omega arith) (omega arith)
+    (sym (ap upper c.code_at.ensures)
+    ∙ eqb-true _ _ (sym c.same_letter.ensures ∙ c.if-not-same_letter.false)))
+
+pub returns : goal.returns
+returns c = let l = c.loop-i in sym (l.invariant ∙ ap is_same (turn-ended _ _ l.i (omega arith) (omega arith)))

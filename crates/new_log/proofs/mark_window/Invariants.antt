@@ -1,0 +1,12 @@
+use Rattle.log_versions.specs.Versions.{versions}
+use Rattle.log_versions.specs.Terms.{rest, Stands}
+use Rattle.new_log.specs.Windows.{always}
+use Rattle.new_log.proofs.Windows.{Left}
+use lib.ListN.{length}
+use Rattle.new_log.proofs.mark_window.Given as goal
+
+abbrev pub invariant-loop-c : goal.invariant-loop-c
+invariant-loop-c l = Left always l.base l.initial.map (versions l.log) l.map (rest l.log l.c) × Stands l.log l.c
+
+abbrev pub decreases-loop-c : goal.decreases-loop-c
+decreases-loop-c l = length (rest l.log l.c)
