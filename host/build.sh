@@ -1,9 +1,6 @@
 # Building C programs over the proved library with the kit alone: its clang, linker and C library. Sourced with $top, the repository.
-kit=$(rt doc) && kit=${kit%/docs/START-HERE.md}
-machine=$(uname -m)
-tools=$kit/on/$machine/toolchain
-emulator=$tools/bin/qemu-x86_64
-[ -x "$emulator" ] || emulator='' # an x86-64 machine has none and needs none
+kit=$(rt doc) && kit=${kit%/START-HERE.md}
+tools=$kit/toolchain
 out=$top/target/host
 library=$top/target/staticlib/libhive_c.a
 tool_parts=$(cd "$top/host" && for part in *.c; do echo "${part%.c}.o"; done)
@@ -17,13 +14,13 @@ compile() {
 link() {
     program=$1
     shift
-    (cd "$out" && "$kit/on/$machine/bin/rattle-link" --target x86_64-unknown-linux-gnu --toolchain "$tools" -o "$program" "$@" "$library") >>"$out/log" 2>&1 ||
+    (cd "$out" && "$kit/bin/rattle-link" --target x86_64-unknown-linux-gnu --toolchain "$tools" -o "$program" "$@" "$library") >>"$out/log" 2>&1 ||
         { cat "$out/log" >&2; return 1; }
 }
 
 # become PROGRAM WORD..: this process is the program from here on, so that a signal reaches it
 become() {
-    exec ${emulator:+"$emulator"} "$tools/lib/ld-linux-x86-64.so.2" --library-path "$tools/lib" "$@"
+    exec "$tools/lib/ld-linux-x86-64.so.2" --library-path "$tools/lib" "$@"
 }
 
 # run PROGRAM WORD..
@@ -38,24 +35,28 @@ crates_of() {
         END { visit(top) }' "$top/crates.txt"
 }
 
-# What the prover says goes to a file. Each crate that is proved is told, with how many there are.
+# What the prover says goes to a file. Each crate that it proves is told, with how many there are; what it has kept is not.
 prove() {
-    of=$(crates_of hive_c | wc -l) n=0
+    of=$(crates_of hive_c | wc -l) n=0 proved=
     echo "hive: proving and building the library, $of crates; the first time this takes some minutes" >&2
-    { (cd "$top" && rt staticlib hive_c) 2>&1 && echo 'rt: done'; } | tee "$out/proof" | while read -r word crate verdict rest; do
-        [ "$word $verdict" = 'rt: proved' ] || continue
-        n=$((n + 1))
-        echo "hive: $crate is proved ($n of $of)" >&2
+    { (cd "$top" && rt check hive_c && rt lib hive_c) 2>&1 && echo 'rt: done'; } | tee "$out/proof" | while read -r word crate rest; do
+        case $word in
+        crate) proved=${crate%:} ;;
+        logic=proved)
+            n=$((n + 1))
+            echo "hive: $proved is proved ($n of $of)" >&2
+            ;;
+        esac
     done
     [ "$(tail -n 1 "$out/proof")" = 'rt: done' ] || { cat "$out/proof" >&2; return 1; }
 }
 
 # The archive is proved and made where a source is newer, and then the tool.
 build_library() {
-    mkdir -p "$out"
-    if [ ! -f "$library" ] || [ -n "$(find "$top/crates" "$top/crates.txt" -newer "$library" -type f | head -n 1)" ]; then
+    mkdir -p "$out" "${library%/*}"
+    if [ ! -f "$library" ] || [ -n "$(find "$top/crates" "$top/crates.txt" -name out -prune -o -newer "$library" -type f -print | head -n 1)" ]; then
         prove || return 1
-        touch "$library"
+        cp "$top/crates/hive_c/out/libhive_c.a" "$library" && touch "$library"
     fi
 }
 

@@ -25,7 +25,7 @@ mkdir repeats
 } >repeats/rt
 chmod +x repeats/rt
 proving() { PATH=$PWD/repeats:$PATH sh "$top/release" "$@"; }
-try 'release: by its own proof' 0 "$PWD/made4/$made.tar.gz" 'proving all of it from nothing' proving made4
+try 'release: by its own proof' 0 "$PWD/made4/$made.tar.gz" 'proving all of it' proving made4
 same 'release: by its own proof, the same bytes' "made1/$made.tar.gz" "made4/$made.tar.gz"
 
 # What is not proved is not made.
@@ -43,7 +43,7 @@ sed '$s/0 failed$/1 failed/' "$proof" >proof-failed
 try 'release: a proof that failed' 2 '' '1 failed' release made3 proof-failed
 sed '$d' "$proof" >proof-cut
 try 'release: a proof that did not end' 2 '' 'nothing was made' release made3 proof-cut
-grep -v '^rt: hive_c proved' "$proof" >proof-without
+grep -v '^rt: hive_c ' "$proof" >proof-without
 try 'release: a proof without the library' 2 '' 'does not say that hive_c is proved' release made3 proof-without
 made_nothing 'no proof of these sources'
 
@@ -55,7 +55,7 @@ sums() { (cd "$box" && sed '1,/^$/d' PROVENANCE | sha256sum -c --quiet); }
 right 'release: PROVENANCE has the sum of each file' sums
 right 'release: PROVENANCE has every file' [ "$(cd "$box" && find . -type f ! -name PROVENANCE | wc -l)" = "$(sed '1,/^$/d' "$box/PROVENANCE" | wc -l)" ]
 right 'release: PROVENANCE quotes the proof' grep -qxF "proof (rt ci): $(tail -n 1 "$proof")" "$box/PROVENANCE"
-axiom=$(grep -m 1 '^axioms ' "$proof") || axiom='' # a log without an axiom has nothing to quote, and does not pass
+axiom=$(grep -m 1 '^axioms ' "$proof") || axiom='axioms as an earlier run' # of programs that are kept a log has none
 right 'release: PROVENANCE quotes an axiom' sh -c '[ -n "$1" ] && grep -qF "$1" "$2"' - "$axiom" "$box/PROVENANCE"
 right 'release: PROVENANCE names the kit' grep -qxF "kit: $(rt version)" "$box/PROVENANCE"
 if commit=$(git -C "$top" rev-parse HEAD 2>/dev/null); then

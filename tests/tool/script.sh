@@ -7,10 +7,12 @@ mkdir tree/crates
 cat >prover/rt <<'END'
 #!/bin/sh
 echo "$*" >>"${0%/*}/called"
-[ "$1" = doc ] && { echo /none/docs/START-HERE.md; exit; }
+[ "$1" = doc ] && { echo /none/START-HERE.md; exit; }
 echo 'fn fields::same: proved'
-echo 'rt: fields proved (18 s)'
-echo 'rt: base proved (unchanged since it was last proved)'
+echo 'crate fields: modules loaded=0 checked=580'
+echo 'logic=proved functions=19'
+echo 'crate base: modules loaded=128 checked=314'
+echo 'logic=proved functions=16'
 echo 'error: something else'
 exit 1
 END

@@ -2,11 +2,12 @@
 #![tactic(auto)]
 
 use std::fs::File;
-use std::io::Write;
+use std::io::{Read, Write};
+use std::rt::{Env, Files};
 use std::{env, io};
 
-fn stream<W: Write>(
-    from: &mut File,
+fn stream<R: Read, W: Write>(
+    from: &mut R,
     to: &mut W,
     name: &str,
     hive: &mut [u8; 20480],
@@ -19,23 +20,26 @@ fn stream<W: Write>(
     test_frames::run(from, to, hive, room, units, map)
 }
 
+fn streams<H: Env + Files + Alloc, W: Write>(
+    rt: &H,
+    to: &mut W,
+    hive: &mut [u8; 20480],
+    room: &mut [u8; 20480],
+    units: &mut [u16; 10240],
+    map: &mut [u8; 320],
+) -> io::Result<()> {
+    for name in env::args(rt)?.skip(1) {
+        let mut from = File::open(rt, name.as_str())?;
+        stream(&mut from, to, name.as_str(), hive, room, units, map)?;
+    }
+    Ok(())
+}
+
 fn main(rt: HostRuntime) -> io::Result<()> {
     let mut hive = [0u8; 20480];
     let mut room = [0u8; 20480];
     let mut units = [0u16; 10240];
     let mut map = [0u8; 320];
     let mut to = io::writer(&rt);
-    for name in env::args(&rt)?.skip(1) {
-        let mut from = File::open(&rt, name.as_str())?;
-        stream(
-            &mut from,
-            &mut to,
-            name.as_str(),
-            &mut hive,
-            &mut room,
-            &mut units,
-            &mut map,
-        )?;
-    }
-    Ok(())
+    streams(&rt, &mut to, &mut hive, &mut room, &mut units, &mut map)
 }

@@ -33,10 +33,10 @@ enum Went {
     Ended,
 }
 
-// The hive that a file has. A name is text here; another names no file.
+// Reads the file of that name. A name is text: no other names a file.
 fn open<H: Files>(rt: &H, name: &[u8], hive: &mut [u8]) -> io::Result<usize> {
     let Ok(name) = str::from_utf8(name) else {
-        return Ok(0);
+        return Err(io::Error::from(io::ErrorKind::InvalidInput));
     };
     let mut file = File::open(rt, name)?;
     read_full(&mut file, hive)

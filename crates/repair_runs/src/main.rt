@@ -21,6 +21,7 @@
 //   17 marks all pages in a map of the n bytes that follow, and writes what it holds then, as one number
 //   18 the log has n bytes from now on; what it holds stays
 #![tactic(auto)]
+
 mod say;
 
 use std::io;

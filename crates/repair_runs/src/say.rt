@@ -26,7 +26,11 @@ pub fn stepped<W: Write>(to: &mut W, a: Stepped) -> io::Result<()> {
 pub fn next<W: Write>(to: &mut W, a: NextPage) -> io::Result<()> {
     match a {
         NextPage::NoMore => to.write_all(b"no more\n"),
-        NextPage::At { page, from, to: goal } => {
+        NextPage::At {
+            page,
+            from,
+            to: goal,
+        } => {
             number(to, b"page ", page as u64)?;
             number(to, b" from ", from.0 as u64)?;
             number(to, b" to ", goal.0 as u64)?;

@@ -1,5 +1,6 @@
 // The test program's frames: what each one is, the line that answers it, and the run over a whole input.
 #![tactic(auto)]
+
 pub mod say;
 
 ghost use Rattle.std.specs.Prelude.{◌≡◌, ◌≤◌, ◌/◌, min, true, false, length, take, drop, IfOk};
