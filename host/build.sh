@@ -39,7 +39,7 @@ crates_of() {
 prove() {
     of=$(crates_of hive_c | wc -l) n=0 proved=
     echo "hive: proving and building the library, $of crates; the first time this takes some minutes" >&2
-    { (cd "$top" && rt check hive_c && rt lib hive_c) 2>&1 && echo 'rt: done'; } | tee "$out/proof" | while read -r word crate rest; do
+    { (cd "$top/crates/hive_c" && rt check && rt lib) 2>&1 && echo 'rt: done'; } | tee "$out/proof" | while read -r word crate rest; do
         case $word in
         crate) proved=${crate%:} ;;
         logic=proved)

@@ -1,6 +1,6 @@
 # Prints the C header of what a crate exports: awk -f tools/header.awk VERSION crates/fields/src/lib.rt crates/hive_c/src/lib.rt >include/kiweamotu.h
 # The first file is the version. Of the second the faults are read, and their numbers. Of the third, comments at the top of the file, above a block of constants, above a
-# #[repr(C)] struct and above a #[no_mangle] function become C comments. The layout that the C rules give each struct is asserted.
+# #[repr(C)] struct and above a #[unsafe(no_mangle)] function become C comments. The layout that the C rules give each struct is asserted.
 function trim(s) { gsub(/^[ \t]+|[ \t]+$/, "", s); return s }
 function number(t) {
     if (t == "usize") return "size_t"
@@ -85,13 +85,14 @@ part == 2 { next }
 }
 /^const / { constant($0) }
 !/^const / && NF > 0 { enum_ends() }
+/^#\[derive/ { next }
 /^#\[repr\(C\)\]/ { repr = 1; next }
 repr && /^pub struct/ { struct = $3; body = ""; inside = 1; print ""; comment() }
 inside {
     line = $0; sub(/\/\/.*/, "", line); body = body " " line
     if (index(line, "}")) { inside = 0; repr = 0; sub(/^[^{]*\{/, "", body); sub(/\}.*/, "", body); structure(body) }
 }
-/^#\[no_mangle\]/ { export = 1; next }
+/^#\[unsafe\(no_mangle\)\]/ { export = 1; next }
 export && /extern "C" fn/ { sig = ""; reading = 1; print ""; comment() }
 reading {
     sig = sig " " $0

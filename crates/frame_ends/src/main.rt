@@ -2,12 +2,12 @@
 #![tactic(auto)]
 
 use std::fs::File;
-use std::io::{Read, Write};
+use std::io::Write;
 use std::rt::{Env, Files};
 use std::{env, io};
 
-fn stream<R: Read, W: Write>(
-    from: &mut R,
+fn stream<H: Files, W: Write>(
+    rt: &H,
     to: &mut W,
     name: &str,
     hive: &mut [u8; 20480],
@@ -17,7 +17,8 @@ fn stream<R: Read, W: Write>(
 ) -> io::Result<()> {
     to.write_all(name.as_bytes())?;
     to.write_all(b"\n")?;
-    test_frames::run(from, to, hive, room, units, map)
+    let mut from = File::open(rt, name)?;
+    test_frames::run(&mut from, to, hive, room, units, map)
 }
 
 fn streams<H: Env + Files + Alloc, W: Write>(
@@ -29,8 +30,7 @@ fn streams<H: Env + Files + Alloc, W: Write>(
     map: &mut [u8; 320],
 ) -> io::Result<()> {
     for name in env::args(rt)?.skip(1) {
-        let mut from = File::open(rt, name.as_str())?;
-        stream(&mut from, to, name.as_str(), hive, room, units, map)?;
+        stream(rt, to, name.as_str(), hive, room, units, map)?;
     }
     Ok(())
 }
