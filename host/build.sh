@@ -30,7 +30,7 @@ run() {
 
 # The crates that a crate is built of, itself too.
 crates_of() {
-    awk -v top="$1" '/^[a-z_]+:/ { name = $1; sub(/:/, "", name); uses[name] = $0 }
+    awk -v top="$1" '/^[a-z_]+( staticlib)?:/ { name = $1; sub(/:/, "", name); uses[name] = $0 }
         function visit(c,   n, w, k) { if (seen[c]++ || !(c in uses)) return; print c; n = split(uses[c], w, " "); for (k = 2; k <= n; k++) visit(w[k]) }
         END { visit(top) }' "$top/crates.txt"
 }

@@ -47,7 +47,7 @@ mkfifo beside/S.LOG1
 mkdir beside/S.LOG2
 cp new-log elsewhere
 ln -s ../elsewhere beside/S.LOG
-try 'beside: no pipe and no folder, but a link' 0 "$repairs" 'its log beside it: beside/S.LOG' timeout 10 ${emulator:-} $loader "$out/hive" repair --dry-run beside/S
+try 'beside: no pipe and no folder, but a link' 0 "$repairs" 'its log beside it: beside/S.LOG' timeout 10 $loader "$out/hive" repair --dry-run beside/S
 lay S new-log - -
 from_standard() { hive check --logs - <beside/S; }
 try 'beside: standard input has none' 1 'refused 7 at 0' 'differ' from_standard

@@ -53,76 +53,72 @@ closed_as() {
 
 cp log log.before
 never=-
-if [ -n "$emulator" ] && ! closed_as; then
-    echo 'left out: closed descriptors, for the emulator opens them'
-else
-    right 'closed: the program has them so' closed_as
-    closed 'check' 0 '*1*' spoilt check sample
-    closed 'check, refused' 1 '*1*' spoilt check file
-    closed 'check, json' 1 '*1*' spoilt check --json file
-    closed 'check, standard input' 1 '*[01]*' spoilt check -
-    closed 'check, no file' 2 $never spoilt check nothing
-    closed 'check, with its log' 0 '*1*' spoilt check --log log file
-    closed 'check, as it is' 1 '*1*' spoilt check --as-is dirty
-    closed 'keys, as it is' 0 '*1*' spoilt keys --as-is dirty
-    closed 'export, as it is' 0 '*1*' spoilt export --as-is dirty made
-    closed 'info' 0 '*1*' spoilt info sample
-    closed 'info, broken' 0 '*1*' spoilt info file
-    closed 'info, json' 0 '*1*' spoilt info --json file
-    closed 'info, no base block' 1 '*1*' spoilt info empty
-    closed 'info, standard input' 1 '*[01]*' spoilt info -
-    closed 'key' 0 '*1*' spoilt key -l sample "$print"
-    closed 'ls' 0 '*1*' spoilt ls sample
-    closed 'keys' 0 '*1*' spoilt keys sample
-    closed 'value' 0 '*1*' spoilt value sample "$print" Big
-    closed 'value, a note' 0 '*1*' spoilt value texts '' odd
-    closed 'value, to a file' 0 $never spoilt value sample "$print" Large made
-    closed 'value, raw' 0 '*1*' spoilt value sample "$print" Large -
-    closed 'value, raw, refused' 1 '*[12]*' spoilt value sample "$print" nobody -
-    closed 'export' 0 '*1*' spoilt export sample
-    closed 'export, refused' 1 '*[12]*' spoilt export file
-    closed 'export, to a file' 0 '*1*' spoilt export sample made
-    closed 'export, to -' 0 '*[12]*' spoilt export sample -
-    closed 'build' 0 '*1*' spoilt build smallest made
-    closed 'build, to -' 0 '*[12]*' spoilt build smallest -
-    closed 'build, refused' 1 '*1*' spoilt build sample made
-    closed 'descriptor' 0 '*1*' spoilt descriptor sample a
-    closed 'descriptor, to a file' 0 $never spoilt descriptor sample a made
-    closed 'descriptor, raw' 0 '*1*' spoilt descriptor sample a -
-    closed 'descriptor, raw, refused' 1 '*[12]*' spoilt descriptor sample nobody -
-    closed 'reg' 0 '*1*' spoilt reg sample
-    closed 'reg, not all of it' 4 '*1*' spoilt reg --utf8 reg
-    closed 'reg, refused' 1 '*[12]*' spoilt reg file
-    closed 'dump' 0 '*1*' spoilt dump sample
-    closed 'dump, json' 0 '*1*' spoilt dump --json sample
-    closed 'dump, refused' 1 '*1*' spoilt dump file
-    closed 'deleted' 0 '*1*' spoilt deleted left
-    closed 'repair' 0 '*1*' sample repair --no-backup file log
-    closed 'repair, json' 0 '*1*' sample repair --no-backup --json file log
-    closed 'repair, with a backup' 0 '*1*' sample repair --backup made file log
-    closed 'repair, dry run' 0 '*1*' spoilt repair --dry-run file log
-    closed 'repair, refused' 1 '*1*' spoilt repair --no-backup file sample
-    closed 'repair, not sound' 3 '*1*' spoilt repair --no-backup file bad-log
-    closed 'repair, no log' 2 $never spoilt repair --no-backup file nothing
-    closed 'explain' 0 '*1*' spoilt explain 17
-    closed '--help' 0 '*1*' spoilt --help
-    closed '--version' 0 '*1*' spoilt --version
-    closed 'wrong usage' 2 $never spoilt chekc file
-    closed 'nothing' 2 $never spoilt
+right 'closed: the program has them so' closed_as
+closed 'check' 0 '*1*' spoilt check sample
+closed 'check, refused' 1 '*1*' spoilt check file
+closed 'check, json' 1 '*1*' spoilt check --json file
+closed 'check, standard input' 1 '*[01]*' spoilt check -
+closed 'check, no file' 2 $never spoilt check nothing
+closed 'check, with its log' 0 '*1*' spoilt check --log log file
+closed 'check, as it is' 1 '*1*' spoilt check --as-is dirty
+closed 'keys, as it is' 0 '*1*' spoilt keys --as-is dirty
+closed 'export, as it is' 0 '*1*' spoilt export --as-is dirty made
+closed 'info' 0 '*1*' spoilt info sample
+closed 'info, broken' 0 '*1*' spoilt info file
+closed 'info, json' 0 '*1*' spoilt info --json file
+closed 'info, no base block' 1 '*1*' spoilt info empty
+closed 'info, standard input' 1 '*[01]*' spoilt info -
+closed 'key' 0 '*1*' spoilt key -l sample "$print"
+closed 'ls' 0 '*1*' spoilt ls sample
+closed 'keys' 0 '*1*' spoilt keys sample
+closed 'value' 0 '*1*' spoilt value sample "$print" Big
+closed 'value, a note' 0 '*1*' spoilt value texts '' odd
+closed 'value, to a file' 0 $never spoilt value sample "$print" Large made
+closed 'value, raw' 0 '*1*' spoilt value sample "$print" Large -
+closed 'value, raw, refused' 1 '*[12]*' spoilt value sample "$print" nobody -
+closed 'export' 0 '*1*' spoilt export sample
+closed 'export, refused' 1 '*[12]*' spoilt export file
+closed 'export, to a file' 0 '*1*' spoilt export sample made
+closed 'export, to -' 0 '*[12]*' spoilt export sample -
+closed 'build' 0 '*1*' spoilt build smallest made
+closed 'build, to -' 0 '*[12]*' spoilt build smallest -
+closed 'build, refused' 1 '*1*' spoilt build sample made
+closed 'descriptor' 0 '*1*' spoilt descriptor sample a
+closed 'descriptor, to a file' 0 $never spoilt descriptor sample a made
+closed 'descriptor, raw' 0 '*1*' spoilt descriptor sample a -
+closed 'descriptor, raw, refused' 1 '*[12]*' spoilt descriptor sample nobody -
+closed 'reg' 0 '*1*' spoilt reg sample
+closed 'reg, not all of it' 4 '*1*' spoilt reg --utf8 reg
+closed 'reg, refused' 1 '*[12]*' spoilt reg file
+closed 'dump' 0 '*1*' spoilt dump sample
+closed 'dump, json' 0 '*1*' spoilt dump --json sample
+closed 'dump, refused' 1 '*1*' spoilt dump file
+closed 'deleted' 0 '*1*' spoilt deleted left
+closed 'repair' 0 '*1*' sample repair --no-backup file log
+closed 'repair, json' 0 '*1*' sample repair --no-backup --json file log
+closed 'repair, with a backup' 0 '*1*' sample repair --backup made file log
+closed 'repair, dry run' 0 '*1*' spoilt repair --dry-run file log
+closed 'repair, refused' 1 '*1*' spoilt repair --no-backup file sample
+closed 'repair, not sound' 3 '*1*' spoilt repair --no-backup file bad-log
+closed 'repair, no log' 2 $never spoilt repair --no-backup file nothing
+closed 'explain' 0 '*1*' spoilt explain 17
+closed '--help' 0 '*1*' spoilt --help
+closed '--version' 0 '*1*' spoilt --version
+closed 'wrong usage' 2 $never spoilt chekc file
+closed 'nothing' 2 $never spoilt
 
-    # Where nothing can be put in the place of one that is closed, nothing else is opened.
-    nowhere() { HIVE_NOWHERE=1 HIVE_TRACE=trace shut "$@"; }
-    for which in 0 1 2 12; do
-        cp spoilt file
-        rm -f trace
-        status=0
-        nowhere $which "$out/hive-cut" repair --backup made file log || status=$?
-        right "closed: $which, and no place" [ "$status $(sed 's/.* //' trace)" = '2 /' ]
-        same "closed: $which, and no place, nothing was changed" file spoilt
-    done
-    nowhere 1 "$out/hive-cut" repair file log || true
-    right 'closed: no place, and it is said' grep -qF 'hive: standard input, output or error is closed' stderr
-fi
+# Where nothing can be put in the place of one that is closed, nothing else is opened.
+nowhere() { HIVE_NOWHERE=1 HIVE_TRACE=trace shut "$@"; }
+for which in 0 1 2 12; do
+    cp spoilt file
+    rm -f trace
+    status=0
+    nowhere $which "$out/hive-cut" repair --backup made file log || status=$?
+    right "closed: $which, and no place" [ "$status $(sed 's/.* //' trace)" = '2 /' ]
+    same "closed: $which, and no place, nothing was changed" file spoilt
+done
+nowhere 1 "$out/hive-cut" repair file log || true
+right 'closed: no place, and it is said' grep -qF 'hive: standard input, output or error is closed' stderr
 same 'closed: the hive is as it was' sample sample.before
 same 'closed: the log is as it was' log log.before
 rm -f made open.made open.stdout

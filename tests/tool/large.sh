@@ -1,6 +1,6 @@
 # The longest hive, 2^31 bytes in a file that is nearly all a hole: in less than 10 seconds and 300 MiB of memory each time.
 
-within() { run "$out/peak" 10 307200 ${emulator:-} $loader "$out/hive" "$@"; }
+within() { run "$out/peak" 10 307200 $loader "$out/hive" "$@"; }
 longest='accepted bins 1 keys 1 values 1 used 168 free 2147479352'
 try 'large: check' 0 "$longest" '' within check longest
 try 'large: a value at the end' 0 'the en' '' within value longest '' v

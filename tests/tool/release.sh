@@ -105,7 +105,7 @@ mkdir nothing
 bare_tool() {
     (
         cd nothing
-        if [ "$machine" = x86_64 ] && [ -e /lib64/ld-linux-x86-64.so.2 ]; then
+        if [ -e /lib64/ld-linux-x86-64.so.2 ]; then
             exec env -i PATH=/nowhere "$box/bin/hive" "$@"
         fi
         become "$box/bin/hive" "$@"
@@ -143,7 +143,7 @@ right 'C: it builds with the archive' build with-archive $(pc --cflags) $(pc --l
 try 'C: with the archive' 0 "$shown" '' run "$PWD/with-archive" sample Print
 right 'C: it asks for no library of ours' [ "$(run "$out/facts" with-archive | grep -c '^needs libkiweamotu')" = 0 ]
 right 'C: it builds with the shared library' build with-shared $(pc --cflags) $(pc --variable=shared)
-with_shared() { (exec ${emulator:+"$emulator"} "$tools/lib/ld-linux-x86-64.so.2" --library-path "$tools/lib:$box/lib" "$PWD/with-shared" "$@"); }
+with_shared() { (exec "$tools/lib/ld-linux-x86-64.so.2" --library-path "$tools/lib:$box/lib" "$PWD/with-shared" "$@"); }
 try 'C: with the shared library' 0 "$shown" '' with_shared sample Print
 right 'C: it asks for the shared library by its number' grep -qxF "needs $shared" <<END
 $(run "$out/facts" with-shared)
@@ -179,9 +179,7 @@ else
 fi
 
 # Python, which loads the shared library into its own process.
-if [ "$machine" != x86_64 ]; then
-    echo "left out: the Python binding, for this machine is $machine and the library x86-64"
-elif ! command -v python3 >/dev/null || ! python3 -c 'import sys; sys.exit(sys.version_info < (3, 8))'; then
+if ! command -v python3 >/dev/null || ! python3 -c 'import sys; sys.exit(sys.version_info < (3, 8))'; then
     echo 'left out: the Python binding, for there is no python3 of 3.8 or later'
 else
     python3 "$top/tests/python/run.py" "$box" "$tools/lib/ld-linux-x86-64.so.2" --library-path "$tools/lib" "$out/hive" >python.log 2>&1 || true

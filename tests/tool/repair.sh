@@ -62,7 +62,7 @@ same 'repair: exchanged, the hive is as it was' file spoilt
 
 # A pipe is not waited for: neither at its other end, nor for what comes out of it.
 mkfifo fifo
-soon() { timeout 10 ${emulator:-} $loader "$out/hive" "$@"; }
+soon() { timeout 10 $loader "$out/hive" "$@"; }
 try 'repair: a pipe by its name' 2 '' 'fifo: it is a pipe or a terminal; repair wants files that stay' soon repair fifo log
 try 'repair: a pipe by its name, dry run' 2 '' 'fifo: it is a pipe or a terminal; repair wants files that stay' soon repair --dry-run fifo log
 try 'repair: a pipe for a log' 2 '' 'fifo: it is a pipe or a terminal; repair wants files that stay' soon repair file fifo
@@ -96,5 +96,5 @@ right 'repair: clean is synced before it is told' [ "$(stores | tr '\n' ' ')" = 
 same 'repair: clean, each byte as it was' file sample
 
 cp spoilt file
-try 'repair: a locked file' 2 '' 'another program has locked it' run "$out/hold" file ${emulator:-} $loader "$out/hive" repair file log
+try 'repair: a locked file' 2 '' 'another program has locked it' run "$out/hold" file $loader "$out/hive" repair file log
 same 'repair: a locked file is not changed' file spoilt

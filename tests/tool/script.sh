@@ -3,7 +3,7 @@
 # A copy that is not built, a prover that only notes that it was called, and a folder with no prover.
 mkdir tree prover bare
 cp -r "$top/hive" "$top/host" "$top/crates.txt" "$top/VERSION" tree
-mkdir tree/crates
+mkdir -p tree/crates/hive_c
 cat >prover/rt <<'END'
 #!/bin/sh
 echo "$*" >>"${0%/*}/called"

@@ -242,9 +242,10 @@ enum Went {
     Ended,
 }
 
-// Reads a payload; false where the input is cut. A longer payload than there is room for is no frame.
+// Reads a payload; false where the input is cut. A longer payload than there is room for is no frame. Where a read fails, the room keeps its length.
 pub fn payload<R: Read>(from: &mut R, room: &mut [u8], n: usize) -> io::Result<bool>
-    ensures { IfOk result (λ whole. whole ≡ true → n ≤ length room.new) }
+    ensures whole { IfOk result (λ whole. whole ≡ true → n ≤ length room.new) }
+    ensures len { length room.new ≡ length room.old }
 {
     let end = least(n, room.len());
     let got = read_full(from, &mut room[0..end])?;

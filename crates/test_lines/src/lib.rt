@@ -1,7 +1,7 @@
 // What the test programs share: input and output, numbers and refusals as they are written, and bytes that are put at a place.
 #![tactic(auto)]
 
-ghost use Rattle.std.specs.Prelude.{◌≤◌, IfOk, length};
+ghost use Rattle.std.specs.Prelude.{◌≡◌, ◌≤◌, IfOk, length};
 
 use fields::Refusal;
 use std::io;
@@ -26,9 +26,10 @@ pub fn refused<W: Write>(to: &mut W, r: Refusal) -> io::Result<()> {
     end(to)
 }
 
-// Fills a buffer as far as the input goes, and says how far that was.
+// Fills a buffer as far as the input goes, and says how far that was. Where a read fails, what was read before it stands in the buffer.
 pub fn read_full<R: Read>(from: &mut R, buf: &mut [u8]) -> io::Result<usize>
-    ensures { IfOk result (λ n. n ≤ length buf.new) }
+    ensures got { IfOk result (λ n. n ≤ length buf.new) }
+    ensures len { length buf.new ≡ length buf.old }
 {
     let mut got = 0usize;
     while got < buf.len() {
