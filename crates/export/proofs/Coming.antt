@@ -70,7 +70,7 @@ module _ (d : List ℕ) (minor : ℕ) where
   filled-over f g e (c ∷ cs) =
       filled-append (f c.at) (events_over f cs) ∙ ap₂ (λ (x y : List Framed). x ++ y) (e c.at) (filled-over f g e cs)
 
-  -- "`framesIn` is the walk's events with the values put in"
+  -- "`frames_in` is the walk's events with the values put in"
   pub filled_in : (n : ℕ) (k : Offset) → filled d minor (events_in d n k) ≡ frames_in d minor n k
   unfolding events_in frames_in filled entry_of
   filled_in zero k = refl

@@ -337,6 +337,6 @@ module _ (h : List ℕ) (w : CleanAndWellFormed h) where
     comes (begins ws e) = begun-comes ws e
     comes (runs out r e) = come-on _ _ _ out (comes r) e
 
-    -- "begin on an accepted hive, then runs [..] give streamOf h in pieces and then Done; never another refusal"
+    -- "begin on an accepted hive, then runs [..] give stream_of h in pieces and then Done; never another refusal"
     pub run-law : {ws : List ℕ} {c : Cursor} {s : List ℕ} → Reached h m ws c s → Goes h ws c s
     run-law {ws} {c} {s} r = goes_on ws c.depth c.due s (comes r)

@@ -70,7 +70,7 @@ module _ (d : List ℕ) (minor : ℕ) where
       (joined-append xs (closes k ∷ []) ∙ ap₂ (λ (x y : List ℕ). x ++ y) (joined-over (frames_in d minor n) (stream_in d minor n) (joined_in n) (children d k)) (joined-one (closes k)))
       ∙ append_assoc (open_frame d k) vs (ss ++ close_frame)
 
--- "the bytes of framesOf h joined are streamOf h"
+-- "the bytes of frames_of h joined are stream_of h"
 pub frames-joined : (h : List ℕ) → joined_frames (frames_of h) ≡ stream_of h
 frames-joined h = joined_in (bins_data h) (hive_of h).minor levels (hive_of h).root
 
@@ -210,6 +210,6 @@ module _ (d : List ℕ) (hive : Hive) where
   balanced-in (suc n) {k} (key s a ch tree) =
       opened _ (balanced-values (values_of d (key_of d k))) (balanced-over n (children d k) (λ c i. balanced-in n (tree c i)))
 
--- "streamOf h is one balanced root key, values before subkeys"
+-- "stream_of h is one balanced root key, values before subkeys"
 pub stream-balanced : (h : List ℕ) → CleanAndWellFormed h → Balanced a_key (stream_of h)
 stream-balanced h w = balanced-in (bins_data h) (hive_of h) levels w.formed.tree

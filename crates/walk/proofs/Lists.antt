@@ -428,7 +428,7 @@ module _ (h : List ℕ) (w : CleanAndWellFormed h) where
           set_at us ws 0 2 (place 0 + 2) (omega arith) (omega arith) (omega arith),
         )
 
-    -- "begin and then steps give exactly `eventsOf h` [..]; then Over"
+    -- "begin and then steps give exactly `events_of h` [..]; then Over"
     pub events : (x : ℕ) → walk_of h (length (events_of h) + x) ws ≡ events_of h ++ replicate x Over
     unfolding walk_of
     events x =
