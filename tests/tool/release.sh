@@ -28,6 +28,15 @@ proving() { PATH=$PWD/repeats:$PATH sh "$top/release" "$@"; }
 try 'release: by its own proof' 0 "$PWD/made4/$made.tar.gz" 'proving all of it' proving made4
 same 'release: by its own proof, the same bytes' "made1/$made.tar.gz" "made4/$made.tar.gz"
 
+# Of crates that an earlier run proved the log says only that: a check of them says what they stand on.
+{
+    sed '$d; /^logic=/d; /^axioms /d; /^rt: hive_c /d; /^rt: hive_frames /d' "$proof"
+    printf '%s\n' 'rt: hive_c is kept: an earlier run proved the same files' 'rt: hive_frames is kept: an earlier run proved the same files' '2 passed, 0 failed'
+} >proof-kept
+try 'release: a proof that is kept' 0 "$PWD/made5/$made.tar.gz" '' release made5 proof-kept
+right 'release: a proof that is kept: what the library stands on' grep -q '^library (lib/): logic=proved ' "made5/$made/PROVENANCE"
+right 'release: a proof that is kept: the axioms' grep -q '^programs of the proof: axioms libc: libc::' "made5/$made/PROVENANCE"
+
 # What is not proved is not made.
 mkdir made3
 made_nothing() { right "release: $1, nothing was made" [ -z "$(ls -A made3)" ]; }
