@@ -71,9 +71,8 @@ function constant(s,   name, n) {
 }
 FNR == 1 { part++ }
 part == 1 { version = $1; next }
-part == 2 && /^    \/\/ [0-9]+: / { said = $0; sub(/^[^:]*: /, "", said) }
-part == 2 && /^    [A-Za-z]+,$/ && said != "" { x = $1; sub(/,/, "", x); meaning[x] = said; said = "" }
-part == 2 && /^ *Fault::[A-Za-z]+ => [0-9]+,$/ { x = $1; sub(/^Fault::/, "", x); fault[$3 + 0] = x; if ($3 + 0 > fault_count) fault_count = $3 + 0 }
+part == 2 && /^    \/\/ / { said = $0; sub(/^    \/\/ /, "", said) }
+part == 2 && /^    [A-Za-z]+ = [0-9]+,$/ { fault[$3 + 0] = $1; meaning[$1] = said; if ($3 + 0 > fault_count) fault_count = $3 + 0 }
 part == 2 { next }
 /^\/\// { x = $0; sub(/^\/\/ ?/, "", x); text[++lines] = x; next }
 !begun {

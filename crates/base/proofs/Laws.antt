@@ -5,16 +5,15 @@ use mathlib.Core.Path.{◌≡◌, refl, ap}
 use mathlib.Core.Bool.{Bool, true, false, cond, not}
 use mathlib.Core.List.{List}
 use lib.Dec.{eqb, leb, lit<}
-use lib.ListN.{length}
+use lib.ListN.{length, length-take}
 use borrow.Author.Tests.{le-leb, leb-true, eqb-true, eqb-false, eq-eqb, ne_eqb, not-true}
 use Rattle.fields.specs.declared.Flaw.{Flaw}
-use Rattle.fields.specs.declared.Verdict.{Verdict}
 use Rattle.fields.specs.declared.Fault.TheVariants.{HiveShort, NoRegf, Checksum, Version, BinsCut, Sequences}
-use Rattle.fields.specs.declared.Verdict.TheVariants.{Sound, Flawed}
-use Rattle.fields.specs.Faults.{flaw, nowhere, unless, is_sound}
+use Rattle.fields.specs.Faults.{flaw, nowhere, unless, is_sound, Verdict}
 use Rattle.fields.proofs.Firsts.{both, held, holds, sound, is-sound}
 use Rattle.fields.proofs.Bools.{and-inv, and_both, never}
 use Rattle.base.specs.Block.{sector, is_regf, as_stored, is_summed, is_version, bins_of, bins_limit, is_bins_size, usable, is_settled, clean, block_fault, base_fault}
+use Rattle.std.specs.Prelude.{Err, Ok}
 
 -- what is stored for a 32-bit XOR is a 32-bit number
 pub as_stored-lt : (x : ℕ) → x < 2 ^ 32 → as_stored x < 2 ^ 32
@@ -47,11 +46,11 @@ sized-bins {n} f =
 
 module _ (s : List ℕ) (type : ℕ) where
   -- the tests 2 to 5 pass exactly when the block is usable
-  usable-block : usable s type ≡ true → block_fault s type ≡ Sound
+  usable-block : usable s type ≡ true → block_fault s type ≡ Ok tt
   unfolding usable
   usable-block e = is-sound (block_fault s type) e
 
-  block-usable : block_fault s type ≡ Sound → usable s type ≡ true
+  block-usable : block_fault s type ≡ Ok tt → usable s type ≡ true
   unfolding usable
   block-usable e = ap is_sound e
 
@@ -83,7 +82,7 @@ pub record Base (h : List ℕ) : Type 0 where
   pub inside : 4096 + bins_of (sector h) ≤ length h
 
 module _ (h : List ℕ) where
-  pub base-facts : base_fault h ≡ Sound → Base h
+  pub base-facts : base_fault h ≡ Ok tt → Base h
   unfolding base_fault clean
   base-facts e =
       let a = both (unless (leb 4096 (length h)) (flaw HiveShort nowhere)) _ e in
@@ -96,8 +95,15 @@ module _ (h : List ℕ) where
         inside = leb-true _ _ (held (leb (4096 + bins_of (sector h)) (length h)) (flaw BinsCut nowhere) d.0);
       }
 
+  -- so the bins end inside the file
+  pub bins_inside : base_fault h ≡ Ok tt → 4096 + bins_of (sector h) ≤ length h
+  bins_inside e = (base-facts e).inside
+
+  pub whole_sector : 512 ≤ length h → length (sector h) ≡ 512
+  whole_sector p = simp length-take (omega arith)
+
   -- and the converse: 1 to 7 are nothing else
-  pub facts-base : clean (sector h) ≡ true → 4096 + bins_of (sector h) ≤ length h → base_fault h ≡ Sound
+  pub facts-base : clean (sector h) ≡ true → 4096 + bins_of (sector h) ≤ length h → base_fault h ≡ Ok tt
   unfolding base_fault clean
   facts-base e p =
       let a = and-inv (usable (sector h) 0) _ e in
@@ -105,9 +111,9 @@ module _ (h : List ℕ) where
       (sound _ _ (usable-block (sector h) 0 a.0) (sound _ _ (holds _ (le-leb _ _ p)) (holds _ a.1)))
 
   -- a file that is not clean is refused by the reader, with one of 1 to 7
-  pub unclean-refused : clean (sector h) ≡ false → (f : Flaw) × (base_fault h ≡ Flawed f)
+  pub unclean-refused : clean (sector h) ≡ false → (f : Flaw) × (base_fault h ≡ Err f)
   unclean-refused e = by (base_fault h) refl
     where
-      by : (v : Verdict) → base_fault h ≡ v → (f : Flaw) × (base_fault h ≡ Flawed f)
-      by Sound p = absurd (never _ (base-facts p).is-clean e)
-      by (Flawed f) p = (f, p)
+      by : (v : Verdict) → base_fault h ≡ v → (f : Flaw) × (base_fault h ≡ Err f)
+      by (Ok tt) p = absurd (never _ (base-facts p).is-clean e)
+      by (Err f) p = (f, p)

@@ -1,4 +1,4 @@
-pub mod Tests
 pub mod Laws
 pub mod Refusals
 pub mod Sums
+pub mod Tests

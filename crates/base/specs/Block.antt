@@ -3,10 +3,9 @@ use Rattle.std.specs.Prelude.{ℕ, zero, suc, ◌+◌, ◌*◌, ◌%◌, Bool, c
 use Rattle.std.specs.Int.Bits.{bit_xor}
 use Rattle.fields.specs.declared.Fault.TheVariants.{HiveShort, NoRegf, Checksum, Version, BinsSize, BinsCut, Sequences}
 use Rattle.fields.specs.declared.Offset.{Offset}
-use Rattle.fields.specs.declared.Verdict.{Verdict}
 use Rattle.fields.specs.Number.{u32_at}
 use Rattle.fields.specs.Bytes.{stands_at}
-use Rattle.fields.specs.Faults.{flaw, nowhere, unless, ◌next◌, is_sound}
+use Rattle.fields.specs.Faults.{flaw, nowhere, unless, ◌next◌, is_sound, Verdict}
 
 -- the first 512 bytes of a file
 abbrev pub sector : List ℕ → List ℕ

@@ -3,14 +3,15 @@ use Prim.Native.Nat.{ℕ, zero, suc, ◌+◌, ◌-◌, ◌*◌, ◌/◌, ◌%◌
 use native.Mathlib.Nat.{zero-div, le_refl}
 use native.Mathlib.Decide.{le_ind, dec_lt, ℕ_discrete}
 use native.Mathlib.Omega.{arith}
+use native.Mathlib.Numerals.{add-one}
 use mathlib.Core.Path.{◌≡◌, refl, sym, ap, ◌∙◌}
 use mathlib.Core.Bool.{Bool, true, false, cond}
 use mathlib.Core.List.{List}
 use lib.ListN.{length, get_or, get_or-eq_default}
 use lib.Dec.{eqb}
 use borrow.Author.Tests.{eqb-true, ne_eqb}
-use Rattle.bitmap.specs.declared.Next.TheVariants.{At, Nothing}
 use Rattle.bitmap.specs.Bits.{bit, is_marked, bits_before, next_among, next_marked}
+use Rattle.std.specs.Prelude.{None, Some}
 
 -- ---- the least index at which a test holds
 
@@ -21,7 +22,7 @@ module _ (is : ℕ → Bool) where
     pub after : from ≤ p
     pub least : (q : ℕ) → from ≤ q → q < p → is q ≡ false
 
-  pub among-least : (n from p : ℕ) → next_among n is from ≡ At p → Least from p
+  pub among-least : (n from p : ℕ) → next_among n is from ≡ Some p → Least from p
   unfolding next_among
   among-least zero from p e = absurd (let z : ◌≡◌ {A = ℕ} 0 1 = cc in omega arith)
   among-least (suc n) from p e = by (is from) refl e (among-least n (suc from) p)
@@ -30,8 +31,8 @@ module _ (is : ℕ → Bool) where
       here m k q g h (yes s) = ap is s ∙ m
       here m k q g h (no s) = k.least q (omega arith) h
 
-      by : (b : Bool) → is from ≡ b → cond b (At from) (next_among n is (suc from)) ≡ At p
-          → (next_among n is (suc from) ≡ At p → Least (suc from) p) → Least from p
+      by : (b : Bool) → is from ≡ b → cond b (Some from) (next_among n is (suc from)) ≡ Some p
+          → (next_among n is (suc from) ≡ Some p → Least (suc from) p) → Least from p
       by true m e r =
           let s : from ≡ p = cc in
           record { marked = ap is (sym s) ∙ m; after = omega arith; least = λ q g h. absurd (omega arith) }
@@ -40,37 +41,37 @@ module _ (is : ℕ → Bool) where
           record { marked = k.marked; after = omega (arith, k.after); least = λ q g h. here m k q g h (ℕ_discrete q from) }
 
   -- and where there is none, it holds at none of them
-  pub among_none : (n from : ℕ) → next_among n is from ≡ Nothing → (q : ℕ) → from ≤ q → q < from + n → is q ≡ false
+  pub among_none : (n from : ℕ) → next_among n is from ≡ None → (q : ℕ) → from ≤ q → q < from + n → is q ≡ false
   unfolding next_among
   among_none zero from e q g h = absurd (omega arith)
   among_none (suc n) from e q g h = by (is from) refl e (λ k. among_none n (suc from) k q) (ℕ_discrete q from)
     where
-      by : (b : Bool) → is from ≡ b → cond b (At from) (next_among n is (suc from)) ≡ Nothing
-          → (next_among n is (suc from) ≡ Nothing → suc from ≤ q → q < suc from + n → is q ≡ false)
+      by : (b : Bool) → is from ≡ b → cond b (Some from) (next_among n is (suc from)) ≡ None
+          → (next_among n is (suc from) ≡ None → suc from ≤ q → q < suc from + n → is q ≡ false)
           → Dec (q ≡ from) → is q ≡ false
       by true m e r d = absurd (let z : ◌≡◌ {A = ℕ} 0 1 = cc in omega arith)
       by false m e r (yes s) = ap is s ∙ m
       by false m e r (no s) = r e (omega arith) (omega arith)
 
   -- and the answers that these facts give
-  pub among-at : (n from p : ℕ) → Least from p → p < from + n → next_among n is from ≡ At p
+  pub among-at : (n from p : ℕ) → Least from p → p < from + n → next_among n is from ≡ Some p
   unfolding next_among
   among-at zero from p k g = absurd (omega (arith, k.after))
   among-at (suc n) from p k g = by (ℕ_discrete from p) (among-at n (suc from) p)
     where
-      by : Dec (from ≡ p) → (Least (suc from) p → p < suc from + n → next_among n is (suc from) ≡ At p)
-          → cond (is from) (At from) (next_among n is (suc from)) ≡ At p
-      by (yes e) on = ap (λ (b : Bool). cond b (At from) (next_among n is (suc from))) (ap is e ∙ k.marked) ∙ ap At e
+      by : Dec (from ≡ p) → (Least (suc from) p → p < suc from + n → next_among n is (suc from) ≡ Some p)
+          → cond (is from) (Some from) (next_among n is (suc from)) ≡ Some p
+      by (yes e) on = ap (λ (b : Bool). cond b (Some from) (next_among n is (suc from))) (ap is e ∙ k.marked) ∙ ap Some e
       by (no e) on =
           let a = k.after in
-          ap (λ (b : Bool). cond b (At from) (next_among n is (suc from))) (k.least from (omega arith) (omega arith))
+          ap (λ (b : Bool). cond b (Some from) (next_among n is (suc from))) (k.least from (omega arith) (omega arith))
           ∙ on (record { marked = k.marked; after = omega arith; least = λ q g h. k.least q (omega arith) h }) (omega arith)
 
-  pub among-nothing : (n from : ℕ) → ((q : ℕ) → from ≤ q → q < from + n → is q ≡ false) → next_among n is from ≡ Nothing
+  pub among-nothing : (n from : ℕ) → ((q : ℕ) → from ≤ q → q < from + n → is q ≡ false) → next_among n is from ≡ None
   unfolding next_among
   among-nothing zero from f = refl
   among-nothing (suc n) from f =
-      ap (λ (b : Bool). cond b (At from) (next_among n is (suc from))) (f from (omega arith) (omega arith))
+      ap (λ (b : Bool). cond b (Some from) (next_among n is (suc from))) (f from (omega arith) (omega arith))
       ∙ among-nothing n (suc from) (λ q g h. f q (omega arith) (omega arith))
 
 -- ---- bits
@@ -116,40 +117,43 @@ module _ (map : List ℕ) where
   left : (p : ℕ) → p < 8 * length map → 8 * length map - p ≡ suc (8 * length map - suc p)
   left p h = omega arith
 
-  pub next_here : (p : ℕ) → p < 8 * length map → is_marked map p ≡ true → next_marked map p ≡ At p
+  pub next_here : (p : ℕ) → p < 8 * length map → is_marked map p ≡ true → next_marked map p ≡ Some p
   unfolding next_among
   next_here p h e = rw (left p h, e)
 
-  pub next-on : (p : ℕ) → p < 8 * length map → is_marked map p ≡ false → next_marked map p ≡ next_marked map (suc p)
+  pub next_on : (p : ℕ) → p < 8 * length map → is_marked map p ≡ false → next_marked map p ≡ next_marked map (suc p)
   unfolding next_among
-  next-on p h e = ap (λ (n : ℕ). next_among n (is_marked map) p) (left p h) ∙ ap (λ (b : Bool). cond b (At p) (next_marked map (suc p))) e
+  next_on p h e = ap (λ (n : ℕ). next_among n (is_marked map) p) (left p h) ∙ ap (λ (b : Bool). cond b (Some p) (next_marked map (suc p))) e
 
-  pub next-end : (p : ℕ) → 8 * length map ≤ p → next_marked map p ≡ Nothing
+  pub next_more : (p : ℕ) → p < 8 * length map → is_marked map p ≡ false → next_marked map p ≡ next_marked map (p + 1)
+  next_more p h e = rw add-one (next_on p h e)
+
+  pub next_end : (p : ℕ) → 8 * length map ≤ p → next_marked map p ≡ None
   unfolding next_among
-  next-end p h = let e : 8 * length map - p ≡ 0 = omega arith in ap (λ (n : ℕ). next_among n (is_marked map) p) e
+  next_end p h = let e : 8 * length map - p ≡ 0 = omega arith in ap (λ (n : ℕ). next_among n (is_marked map) p) e
 
   -- over bits that are not set, and over what is left of a byte that has none
   next-over : (k p : ℕ) → p + k ≤ 8 * length map → ((q : ℕ) → p ≤ q → q < p + k → is_marked map q ≡ false) → next_marked map p ≡ next_marked map (p + k)
   next-over zero p h f = ap (next_marked map) (let e : p ≡ p + 0 = omega arith in e)
   next-over (suc k) p h f =
       let e : suc p + k ≡ p + suc k = omega arith in
-      next-on p (omega arith) (f p (omega arith) (omega arith)) ∙ next-over k (suc p) (omega arith) (λ q a b. f q (omega arith) (omega arith)) ∙ ap (next_marked map) e
+      next_on p (omega arith) (f p (omega arith) (omega arith)) ∙ next-over k (suc p) (omega arith) (λ q a b. f q (omega arith) (omega arith)) ∙ ap (next_marked map) e
 
   zero-unset : (q : ℕ) → get_or map (q / 8) 0 ≡ 0 → is_marked map q ≡ false
   zero-unset q e = ne_eqb (bit map q) 1 (λ o. let z : bit map q ≡ 0 = rw (e, zero-div (2 ^ (q % 8))) in omega arith)
 
-  pub next-byte : (p : ℕ) → p / 8 < length map → get_or map (p / 8) 0 ≡ 0 → next_marked map p ≡ next_marked map (8 * (p / 8) + 8)
-  next-byte p h e =
+  pub next_byte : (p : ℕ) → p / 8 < length map → get_or map (p / 8) 0 ≡ 0 → next_marked map p ≡ next_marked map (8 * (p / 8) + 8)
+  next_byte p h e =
       let end : p + (8 * (p / 8) + 8 - p) ≡ 8 * (p / 8) + 8 = omega arith in
       next-over (8 * (p / 8) + 8 - p) p (omega arith)
       (λ q a b. let s : q / 8 ≡ p / 8 = omega arith in zero-unset q (ap (λ (j : ℕ). get_or map j 0) s ∙ e))
       ∙ ap (next_marked map) end
 
-  pub next-least : (from p : ℕ) → next_marked map from ≡ At p → Least (is_marked map) from p
+  pub next-least : (from p : ℕ) → next_marked map from ≡ Some p → Least (is_marked map) from p
   next-least from p e = among-least (is_marked map) (8 * length map - from) from p e
 
   -- and where there is none, no bit from there on is set
-  pub next-none : (from : ℕ) → next_marked map from ≡ Nothing → (q : ℕ) → from ≤ q → is_marked map q ≡ false
+  pub next-none : (from : ℕ) → next_marked map from ≡ None → (q : ℕ) → from ≤ q → is_marked map q ≡ false
   next-none from e q g = go (dec_lt q (8 * length map))
     where
       go : Dec (q < 8 * length map) → is_marked map q ≡ false

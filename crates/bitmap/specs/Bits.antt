@@ -1,8 +1,6 @@
 -- A bitmap is a list of bytes: index p has bit p % 8, "lowest bit first", of byte p / 8. Past the map's end every bit is 0.
-use Rattle.std.specs.Prelude.{ℕ, zero, suc, ◌+◌, ◌-◌, ◌*◌, ◌/◌, ◌%◌, ◌^◌, Bool, cond, not, List, [], ◌∷◌, ◌++◌, length, get_or, set, replicate, drop, eqb}
+use Rattle.std.specs.Prelude.{ℕ, zero, suc, ◌+◌, ◌-◌, ◌*◌, ◌/◌, ◌%◌, ◌^◌, Bool, cond, not, List, [], ◌∷◌, ◌++◌, length, get_or, set, replicate, drop, eqb, None, Option, Some}
 use Rattle.std.specs.Int.Bits.{bit_or, bit_xor}
-use Rattle.bitmap.specs.declared.Next.{Next}
-use Rattle.bitmap.specs.declared.Next.TheVariants.{At, Nothing}
 
 -- the bit at index p, 0 or 1
 abbrev pub bit : List ℕ → ℕ → ℕ
@@ -17,12 +15,12 @@ bits_before map zero = 0
 bits_before map (suc p) = bits_before map p + bit map p
 
 -- the least index among the n from p on at which a test holds
-unfoldable pub next_among : ℕ → (ℕ → Bool) → ℕ → Next
-next_among zero is p = Nothing
-next_among (suc n) is p = cond (is p) (At p) (next_among n is (suc p))
+unfoldable pub next_among : ℕ → (ℕ → Bool) → ℕ → Option ℕ
+next_among zero is p = None
+next_among (suc n) is p = cond (is p) (Some p) (next_among n is (suc p))
 
 -- the least set index at or after p
-abbrev pub next_marked : List ℕ → ℕ → Next
+abbrev pub next_marked : List ℕ → ℕ → Option ℕ
 next_marked map p = next_among (8 * length map - p) (is_marked map) p
 
 -- ---- maps that are made

@@ -8,13 +8,10 @@ ghost use Rattle.bitmap.specs.Bits.{bit, is_marked, bits_before, next_marked, ze
 pub fn bit_of(map: &[u8], index: usize) -> usize
     ensures { result ≡ bit map.now index }
 {
-    let j = index / 8;
-    if j < map.len() {
-        let k = index % 8;
-        let b = map[j] as usize;
-        return (b >> k) % 2;
+    match map.get(index / 8) {
+        Some(b) => usize::from(*b >> (index % 8)) % 2,
+        None => 0,
     }
-    0
 }
 
 pub fn is_marked(map: &[u8], index: usize) -> bool
@@ -30,11 +27,9 @@ fn ones_of_words(map: &[u8], end: usize) -> usize
     requires end_value { end % 8 ≡ 0 }
     ensures { result ≡ bits_before map.now (8 * end) }
 {
-    let mut n: usize = 0;
-    let mut j: usize = 0;
-    while j < end {
-        n += u64::count_ones(fields::u64_at(map, j)) as usize;
-        j += 8;
+    let mut n = 0;
+    for k in 0..end / 8 {
+        n += fields::u64_at(map, 8 * k).count_ones() as usize;
     }
     n
 }
@@ -46,36 +41,30 @@ fn ones_of_bytes(map: &[u8], from: usize, to: usize) -> usize
     requires to_bound { 8 * to < 2 ^ 64 }
     ensures { bits_before map.now (8 * from) + result ≡ bits_before map.now (8 * to) }
 {
-    let mut n: usize = 0;
-    let mut j = from;
-    while j < to {
-        n += u8::count_ones(map[j]) as usize;
-        j += 1;
+    let mut n = 0;
+    for b in &map[from..to] {
+        n += b.count_ones() as usize;
     }
     n
 }
 
 // The set bits before an index in its own byte, none past the map's end.
+#[tactic(auto, using(crate::proofs::Ones::own_byte, crate::proofs::Ones::no_byte))]
 fn ones_in_byte(map: &[u8], index: usize) -> usize
     ensures { bits_before map.now (8 * (index / 8)) + result ≡ bits_before map.now index }
 {
-    let j = index / 8;
-    if j < map.len() {
-        let k = index % 8;
-        return u8::count_ones(map[j] % (1u8 << k)) as usize;
+    match map.get(index / 8) {
+        Some(b) => (*b % (1 << (index % 8))).count_ones() as usize,
+        None => 0,
     }
-    0
 }
 
 // The bytes wholly before an index: past the map's end there are none.
+#[tactic(auto, using(crate::proofs::Ones::whole_bytes))]
 fn bytes_before(map: &[u8], index: usize) -> usize
     ensures { (result ≤ length map.now) × (8 * result ≤ index) × (bits_before map.now (8 * result) ≡ bits_before map.now (8 * (index / 8))) }
 {
-    let whole = index / 8;
-    if map.len() < whole {
-        return map.len();
-    }
-    whole
+    (index / 8).min(map.len())
 }
 
 // How many bits before an index are set: all that is said of the count, so that its body can change alone.
@@ -88,14 +77,9 @@ pub fn bits_before(map: &[u8], index: usize) -> usize
     ones_of_words(map, words) + ones_of_bytes(map, words, whole) + ones_in_byte(map, index)
 }
 
-#[derive(Clone, Copy)]
-pub enum Next {
-    At(usize),
-    Nothing,
-}
-
 // The least set index at or after `from`. A byte with no bit set is passed over whole.
-pub fn next_marked(map: &[u8], from: usize) -> Next
+#[tactic(auto, using(crate::proofs::Laws::next_here, crate::proofs::Laws::next_more, crate::proofs::Laws::next_byte, crate::proofs::Laws::next_end))]
+pub fn next_marked(map: &[u8], from: usize) -> Option<usize>
     requires { 8 * length map.now < 2 ^ 64 }
     ensures { result ≡ next_marked map.now from }
 {
@@ -104,53 +88,33 @@ pub fn next_marked(map: &[u8], from: usize) -> Next
         let j = index / 8;
         if map[j] == 0 {
             index = 8 * j + 8;
+        } else if is_marked(map, index) {
+            return Some(index);
         } else {
-            if is_marked(map, index) {
-                return Next::At(index);
-            }
             index += 1;
         }
     }
-    Next::Nothing
+    None
 }
 
 // ---- maps that are made
 
 // Clears the first n bytes of the map.
+#[tactic(auto, unfolding(crate::specs::Bits::zeros))]
 pub fn clear(map: &mut [u8], n: usize)
     requires { n ≤ length map.old }
     ensures { map.new ≡ zeros n map.old }
 {
-    let mut i: usize = 0;
-    while i < n {
-        map[i] = 0;
-        i += 1;
-    }
-}
-
-fn turn(map: &mut [u8], index: usize)
-    requires { index < 8 * length map.old }
-    ensures { map.new ≡ turned map.old index }
-{
-    let j = index / 8;
-    let k = index % 8;
-    map[j] = map[j] ^ 1u8 << k;
+    map[..n].fill(0);
 }
 
 // Sets a bit, or clears it.
+#[tactic(auto, using(crate::proofs::Marks::shifted), unfolding(crate::specs::Bits::turned, crate::specs::Bits::with_bit))]
 pub fn put_bit(map: &mut [u8], index: usize, on: bool)
     requires { index < 8 * length map.old }
     ensures { map.new ≡ with_bit map.old index on }
 {
-    let was = is_marked(map, index);
-    if on {
-        if was {
-            return;
-        }
-        turn(map, index);
-        return;
-    }
-    if was {
-        turn(map, index);
+    if on != is_marked(map, index) {
+        map[index / 8] ^= 1 << (index % 8);
     }
 }

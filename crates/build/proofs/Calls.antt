@@ -1,7 +1,7 @@
 -- The answer with a buffer, by what was measured, and what stands in the buffer then.
 use Prim.Native.Nat.{ℕ, ◌+◌, ◌≤◌, ◌<◌}
 use native.Mathlib.Omega.{arith}
-use mathlib.Core.Path.{◌≡◌, sym, ap, subst, ◌∙◌}
+use mathlib.Core.Path.{◌≡◌, refl, sym, ap, subst, ◌∙◌}
 use mathlib.Core.List.{List, ◌++◌}
 use lib.ListN.{length, drop}
 use lib.Seq.{sets, sets-eq}
@@ -18,13 +18,14 @@ use Rattle.build_measure.specs.declared.Whole.{Whole}
 use Rattle.build_measure.specs.Terms.{FitsAs}
 use Rattle.build_measure.proofs.Sizes.{cap-small}
 use Rattle.build_measure.proofs.Entire.{fits-any}
-use Rattle.build_answers.specs.declared.Built.{Built}
-use Rattle.build_answers.specs.declared.Built.TheVariants.{Done, Refused}
 use Rattle.build_answers.specs.declared.Unbuilt.{Unbuilt}
 use Rattle.build_answers.specs.Answers.{unbuilt, too_long, measure_answer, build_answer, build_out}
 use Rattle.build_answers.proofs.Cases.{within-limit, measured-exactly, build-wrong}
 use Rattle.build_answers.proofs.Hives.{measured-builds, measured-long, refused-builds, refused-leaves, written}
 use Rattle.build.specs.Terms.{PutFits, with_hive}
+use Rattle.fields.specs.Faults.{no_key, refusal_of}
+use Rattle.build_measure.specs.declared.StreamFlaw.{StreamFlaw}
+use Rattle.std.specs.Prelude.{Err, Ok, Result, MatchResult}
 
 module _ (s sd : List ℕ) where
   -- the second pass, of the forest that the stream says
@@ -42,7 +43,7 @@ module _ (s sd : List ℕ) where
         let z : 0 + length b ≡ length b = omega arith in
         p ∙ sets-eq b out 0 (omega (arith, l, h, e)) ∙ ap (λ (k : ℕ). b ++ drop k out) z
 
-  pub put-fits : {w : Whole} → FitsAs s w → {r : Built} → r ≡ measure_answer s (length sd) → {k room : ℕ} → r ≡ Done k → k ≤ room → PutFits s sd room w.keys w.size
+  pub put-fits : {w : Whole} → FitsAs s w → {r : Result ℕ Unbuilt} → r ≡ measure_answer s (length sd) → {k room : ℕ} → r ≡ Ok k → k ≤ room → PutFits s sd room w.keys w.size
   put-fits x q {k} {room} e h =
       let same = read_as_lem x.forest x.frames x.root in
       let frames = x.frames ∙ ap forest_frames (sym same) in
@@ -64,12 +65,21 @@ module _ (s sd : List ℕ) where
     pub call-wrong : {f : Flaw} {at : ℕ} → stream_fault s ≡ Wrong f at → (unbuilt f at ≡ build_answer s sd (length out)) × (out ≡ build_out s sd out)
     call-wrong e = let b = build-wrong s sd (length out) e in (sym b, sym (refused-leaves s sd out b))
 
-    module _ {r : Built} (q : r ≡ measure_answer s (length sd)) where
-      pub call-refused : {u : Unbuilt} → r ≡ Refused u → (Refused u ≡ build_answer s sd (length out)) × (out ≡ build_out s sd out)
+    module _ {r : Result ℕ Unbuilt} (q : r ≡ measure_answer s (length sd)) where
+      pub call-refused : {u : Unbuilt} → r ≡ Err u → (Err u ≡ build_answer s sd (length out)) × (out ≡ build_out s sd out)
       call-refused e = let b = refused-builds s sd (length out) (sym q ∙ e) in (sym b, sym (refused-leaves s sd out b))
 
-      pub call_long : {k : ℕ} → r ≡ Done k → length out < k → (too_long ≡ build_answer s sd (length out)) × (out ≡ build_out s sd out)
+      pub call_long : {k : ℕ} → r ≡ Ok k → length out < k → (too_long ≡ build_answer s sd (length out)) × (out ≡ build_out s sd out)
       call_long e h = let b = measured-long s sd (length out) (sym q ∙ e) h in (sym b, sym (refused-leaves s sd out b))
 
-      pub call-done : {k : ℕ} → r ≡ Done k → k ≤ length out → {o : List ℕ} → o ≡ with_hive s sd out → (Done k ≡ build_answer s sd (length out)) × (o ≡ build_out s sd out)
+      pub call-done : {k : ℕ} → r ≡ Ok k → k ≤ length out → {o : List ℕ} → o ≡ with_hive s sd out → (Ok k ≡ build_answer s sd (length out)) × (o ≡ build_out s sd out)
       call-done e h p = let b = measured-builds s sd (length out) (sym q ∙ e) h in (sym b, p ∙ sym (written s sd out b))
+
+-- ---- the first pass, by its variant
+
+-- a refusal that was made of the first fault
+pub refused-as : (r : Result Whole StreamFlaw) {m : Result Whole Unbuilt} {u : Unbuilt}
+    → MatchResult r (λ w. m ≡ Ok w) (λ x. m ≡ Err (record { refusal = refusal_of no_key x.flaw; at = record { 0 = x.at } }))
+    → m ≡ Err u → (x : StreamFlaw) × (r ≡ Err x) × (◌≡◌ {A = Result ℕ Unbuilt} (Err u) (unbuilt x.flaw x.at))
+refused-as (Ok w) h e = absurd (let z : ◌≡◌ {A = ℕ} 0 1 = cc in omega arith)
+refused-as (Err x) h e = (x, refl, cc)

@@ -10,10 +10,10 @@ use Rattle.layout.proofs.Sizes.{cell_room}
 use Rattle.build_measure.specs.declared.Whole.{Whole}
 use Rattle.build_measure.specs.Terms.{cap, FitsAs}
 use Rattle.build_measure.proofs.Sizes.{cap-told, cap-past}
-use Rattle.build_answers.specs.declared.Built.TheVariants.{Done}
 use Rattle.build_answers.specs.Answers.{too_large, size_answer, measure_answer}
 use Rattle.build_answers.proofs.Cases.{size-large, size-done, measure-as}
 use Rattle.build.specs.Terms.{bins_size}
+use Rattle.std.specs.Prelude.{Ok}
 
 -- ---- sizes
 
@@ -36,7 +36,7 @@ module _ (t n size : ℕ) (e : size ≡ cap t) where
     pub bins-past : bins_limit < bins → too_large ≡ size_answer (bins_size t n)
     bins-past h = sym (size-large bins h) ∙ ap size_answer whole
 
-    pub bins-within : bins ≤ bins_limit → Done (4096 + bins) ≡ size_answer (bins_size t n)
+    pub bins-within : bins ≤ bins_limit → Ok (4096 + bins) ≡ size_answer (bins_size t n)
     bins-within h = sym (size-done bins h) ∙ ap size_answer whole
 
 -- ---- a stream

@@ -6,7 +6,6 @@ use lib.ListN.{length, take}
 use Rattle.fields.specs.declared.Offset.{Offset}
 use Rattle.base.specs.Block.{bins_limit, bins_data}
 use Rattle.records.specs.Keys.{key_of}
-use Rattle.tree.specs.declared.Checked.TheVariants.{Accepted}
 use Rattle.tree.specs.declared.Report.{Report}
 use Rattle.tree.specs.Tree.{keys_of, check_answer}
 use Rattle.stream.specs.Stream.{stream_of}
@@ -17,13 +16,13 @@ use Rattle.forest.proofs.ReadBack.{read_as_lem}
 use Rattle.layout.specs.Layout.{bins_for}
 use Rattle.build_laws.specs.Read.{forest_of}
 use Rattle.build_laws.proofs.Builds.{accepted-forest, export-builds}
-use Rattle.build_answers.specs.declared.Built.TheVariants.{Done}
 use Rattle.build_answers.specs.Answers.{build_answer, build_out}
 use Rattle.build_answers.proofs.Cases.{build-done}
 use Rattle.build_answers.proofs.Hives.{said-is-exported}
+use Rattle.std.specs.Prelude.{Ok}
 
 module _ (h : List ℕ) (bytes : AllBelow 256 h) (few : (k : Offset) → Memᴰ k (keys_of h) → (key_of (bins_data h) k).subkeys ≤ 65535)
-    (m : List ℕ) {r : Report} (e : check_answer h m ≡ Accepted r) where
+    (m : List ℕ) {r : Report} (e : check_answer h m ≡ Ok r) where
   -- its export says the forest that its tree is
   pub export-read : forest_in (stream_of h) ≡ forest_of h
   export-read = let w = accepted-forest h bytes few m e in read_as_lem (forest_of h) w.0 w.1
@@ -35,7 +34,7 @@ module _ (h : List ℕ) (bytes : AllBelow 256 h) (few : (k : Offset) → Memᴰ 
 
   module _ (sd : List ℕ) where
     pub again-built : (room : ℕ) → bins_for (forest_of h) (length sd) ≤ bins_limit → 4096 + bins_for (forest_of h) (length sd) ≤ room
-        → build_answer (stream_of h) sd room ≡ Done (4096 + bins_for (forest_of h) (length sd))
+        → build_answer (stream_of h) sd room ≡ Ok (4096 + bins_for (forest_of h) (length sd))
     again-built room fits enough =
         build-done (stream_of h) sd room
         (record {
@@ -45,6 +44,6 @@ module _ (h : List ℕ) (bytes : AllBelow 256 h) (few : (k : Offset) → Memᴰ 
         })
         enough
 
-    module _ (out : List ℕ) {n : ℕ} (d : build_answer (stream_of h) sd (length out) ≡ Done n) where
+    module _ (out : List ℕ) {n : ℕ} (d : build_answer (stream_of h) sd (length out) ≡ Ok n) where
       pub again-exported : stream_of (take n (build_out (stream_of h) sd out)) ≡ stream_of h
       again-exported = said-is-exported (stream_of h) sd out d said

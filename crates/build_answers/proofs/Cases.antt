@@ -21,22 +21,22 @@ use Rattle.forest.proofs.ReadBack.{read_as_lem}
 use Rattle.forest.proofs.First.{wrong-number}
 use Rattle.layout.specs.Layout.{used_of, bins_for}
 use Rattle.layout.proofs.Sizes.{bins-whole}
-use Rattle.build_answers.specs.declared.Built.{Built}
-use Rattle.build_answers.specs.declared.Built.TheVariants.{Done, Refused}
 use Rattle.build_answers.specs.Answers.{unbuilt, too_large, too_long, number_in, behind_frames, size_answer, measure_answer, in_room, build_answer}
+use Rattle.build_answers.specs.declared.Unbuilt.{Unbuilt}
+use Rattle.std.specs.Prelude.{Err, Ok, Result}
 
 -- ---- what an answer holds
 
-same_length : {j k : ℕ} → Done j ≡ Done k → j ≡ k
+same_length : {j k : ℕ} → ◌≡◌ {A = Result ℕ Unbuilt} (Ok j) (Ok k) → j ≡ k
 same_length e = cc
 
-flaw_in : Built → Flaw
-flaw_in (Done k) = flaw OutputShort nowhere
-flaw_in (Refused u) = flaw u.refusal.fault u.refusal.place
+flaw_in : Result ℕ Unbuilt → Flaw
+flaw_in (Ok k) = flaw OutputShort nowhere
+flaw_in (Err u) = flaw u.refusal.fault u.refusal.place
 
-spot_in : Built → ℕ
-spot_in (Done k) = 0
-spot_in (Refused u) = u.at.0
+spot_in : Result ℕ Unbuilt → ℕ
+spot_in (Ok k) = 0
+spot_in (Err u) = u.at.0
 
 -- the limit is a multiple of 4096, so the bins size passes it exactly when the sum does that is rounded up
 pub within-limit : (f : Forest) (n : ℕ) → (bins_for f n ≤ bins_limit) ↔ (used_of f n ≤ bins_limit)
@@ -48,7 +48,7 @@ module _ (bins : ℕ) where
   unfolding size_answer
   size-large h = rw (lt-leb bins bins_limit h)
 
-  pub size-done : bins ≤ bins_limit → size_answer bins ≡ Done (4096 + bins)
+  pub size-done : bins ≤ bins_limit → size_answer bins ≡ Ok (4096 + bins)
   unfolding size_answer
   size-done h = rw (le-leb bins bins_limit h)
 
@@ -60,12 +60,12 @@ module _ (s : List ℕ) where
     bins = bins_for (forest_in s) n
 
     -- each answer, and what then is known
-    pub data Measured : Built → Type 0 where
-      sized : stream_fault s ≡ Fine → bins ≤ bins_limit → Measured (Done (4096 + bins))
+    pub data Measured : Result ℕ Unbuilt → Type 0 where
+      sized : stream_fault s ≡ Fine → bins ≤ bins_limit → Measured (Ok (4096 + bins))
       over-limit : stream_fault s ≡ Fine → bins_limit < bins → Measured too_large
       at-fault : {f : Flaw} {at : ℕ} → stream_fault s ≡ Wrong f at → Measured (unbuilt f at)
 
-    by_size : stream_fault s ≡ Fine → (t : Bool) → leb bins bins_limit ≡ t → Measured (cond t (Done (4096 + bins)) too_large)
+    by_size : stream_fault s ≡ Fine → (t : Bool) → leb bins bins_limit ≡ t → Measured (cond t (Ok (4096 + bins)) too_large)
     by_size e true q = sized e (leb-true bins bins_limit q)
     by_size e false q = over-limit e (leb-false bins bins_limit q)
 
@@ -90,7 +90,7 @@ module _ (s : List ℕ) where
     unfolding measure_answer
     measure-large e h = rw e (size-large bins h)
 
-    pub measure-done : stream_fault s ≡ Fine → bins ≤ bins_limit → measure_answer s n ≡ Done (4096 + bins)
+    pub measure-done : stream_fault s ≡ Fine → bins ≤ bins_limit → measure_answer s n ≡ Ok (4096 + bins)
     unfolding measure_answer
     measure-done e h = rw e (size-done bins h)
 
@@ -107,45 +107,45 @@ module _ (s : List ℕ) where
       pub limit : bins ≤ bins_limit
       pub is : k ≡ 4096 + bins
 
-    done-sized : {a : Built} {k : ℕ} → Measured a → a ≡ Done k → Sized k
+    done-sized : {a : Result ℕ Unbuilt} {k : ℕ} → Measured a → a ≡ Ok k → Sized k
     done-sized (sized e h) q = record { fine = e; limit = h; is = sym (same_length q) }
     done-sized (over-limit e h) q = absurd (let z : ◌≡◌ {A = ℕ} 0 1 = cc in omega arith)
     done-sized (at-fault e) q = absurd (let z : ◌≡◌ {A = ℕ} 0 1 = cc in omega arith)
 
-    pub measured-exactly : (k : ℕ) → (measure_answer s n ≡ Done k) ↔ Sized k
-    measured-exactly k = (done-sized measured, λ z. measure-done z.fine z.limit ∙ ap Done (sym z.is))
+    pub measured-exactly : (k : ℕ) → (measure_answer s n ≡ Ok k) ↔ Sized k
+    measured-exactly k = (done-sized measured, λ z. measure-done z.fine z.limit ∙ ap Ok (sym z.is))
 
   -- ---- into a buffer
 
   module _ (sd : List ℕ) (room : ℕ) where
     pub build-wrong : {f : Flaw} {at : ℕ} → stream_fault s ≡ Wrong f at → build_answer s sd room ≡ unbuilt f at
     unfolding build_answer in_room
-    build-wrong e = ap (λ (a : Built). in_room a room) (measure-wrong (length sd) e)
+    build-wrong e = ap (λ (a : Result ℕ Unbuilt). in_room a room) (measure-wrong (length sd) e)
 
     pub build-large : stream_fault s ≡ Fine → bins_limit < bins (length sd) → build_answer s sd room ≡ too_large
     unfolding build_answer in_room
-    build-large e h = ap (λ (a : Built). in_room a room) (measure-large (length sd) e h)
+    build-large e h = ap (λ (a : Result ℕ Unbuilt). in_room a room) (measure-large (length sd) e h)
 
     pub build-long : {k : ℕ} → Sized (length sd) k → room < k → build_answer s sd room ≡ too_long
     unfolding build_answer in_room
-    build-long {k} z h = ap (λ (a : Built). in_room a room) ((measured-exactly (length sd) k).1 z) ∙ ap (λ (t : Bool). cond t (Done k) too_long) (lt-leb k room h)
+    build-long {k} z h = ap (λ (a : Result ℕ Unbuilt). in_room a room) ((measured-exactly (length sd) k).1 z) ∙ ap (λ (t : Bool). cond t (Ok k) too_long) (lt-leb k room h)
 
-    pub build-done : {k : ℕ} → Sized (length sd) k → k ≤ room → build_answer s sd room ≡ Done k
+    pub build-done : {k : ℕ} → Sized (length sd) k → k ≤ room → build_answer s sd room ≡ Ok k
     unfolding build_answer in_room
-    build-done {k} z h = ap (λ (a : Built). in_room a room) ((measured-exactly (length sd) k).1 z) ∙ ap (λ (t : Bool). cond t (Done k) too_long) (le-leb k room h)
+    build-done {k} z h = ap (λ (a : Result ℕ Unbuilt). in_room a room) ((measured-exactly (length sd) k).1 z) ∙ ap (λ (t : Bool). cond t (Ok k) too_long) (le-leb k room h)
 
     -- the same with the room
-    pub data Answered : Built → Type 0 where
-      done : {k : ℕ} → Sized (length sd) k → k ≤ room → Answered (Done k)
+    pub data Answered : Result ℕ Unbuilt → Type 0 where
+      done : {k : ℕ} → Sized (length sd) k → k ≤ room → Answered (Ok k)
       long : {k : ℕ} → Sized (length sd) k → room < k → Answered too_long
       large : stream_fault s ≡ Fine → bins_limit < bins (length sd) → Answered too_large
       wrong : {f : Flaw} {at : ℕ} → stream_fault s ≡ Wrong f at → Answered (unbuilt f at)
 
-    by-room : (k : ℕ) → Sized (length sd) k → (t : Bool) → leb k room ≡ t → Answered (cond t (Done k) too_long)
+    by-room : (k : ℕ) → Sized (length sd) k → (t : Bool) → leb k room ≡ t → Answered (cond t (Ok k) too_long)
     by-room k z true q = done z (leb-true k room q)
     by-room k z false q = long z (leb-false k room q)
 
-    in-room : {a : Built} → Measured (length sd) a → Answered (in_room a room)
+    in-room : {a : Result ℕ Unbuilt} → Measured (length sd) a → Answered (in_room a room)
     unfolding in_room
     in-room (sized e h) = by-room (4096 + bins (length sd)) (record { fine = e; limit = h; is = refl }) (leb (4096 + bins (length sd)) room) refl
     in-room (over-limit e h) = large e h
@@ -155,27 +155,27 @@ module _ (s : List ℕ) where
     unfolding build_answer
     answered = in-room (measured (length sd))
 
-    to-done : {a : Built} {k : ℕ} → Answered a → a ≡ Done k → Sized (length sd) k × (k ≤ room)
+    to-done : {a : Result ℕ Unbuilt} {k : ℕ} → Answered a → a ≡ Ok k → Sized (length sd) k × (k ≤ room)
     to-done {k = k} (done {k = j} z h) q = let e : j ≡ k = same_length q in (subst (Sized (length sd)) e z, omega arith)
     to-done (long z h) q = absurd (let y : ◌≡◌ {A = ℕ} 0 1 = cc in omega arith)
     to-done (large e h) q = absurd (let y : ◌≡◌ {A = ℕ} 0 1 = cc in omega arith)
     to-done (wrong e) q = absurd (let y : ◌≡◌ {A = ℕ} 0 1 = cc in omega arith)
 
-    to-long : {a : Built} → Answered a → a ≡ too_long → (stream_fault s ≡ Fine) × (bins (length sd) ≤ bins_limit) × (room < 4096 + bins (length sd))
+    to-long : {a : Result ℕ Unbuilt} → Answered a → a ≡ too_long → (stream_fault s ≡ Fine) × (bins (length sd) ≤ bins_limit) × (room < 4096 + bins (length sd))
     unfolding number_in
     to-long (done z h) q = absurd (let y = ap number_in q in omega arith)
     to-long (long z h) q = let e = z.is in (z.fine, z.limit, omega arith)
     to-long (large e h) q = absurd (let y = ap number_in q in omega arith)
     to-long (wrong {f = f} {at = at} e) q = absurd (let y = ap number_in q in let w = (wrong-number s f at e).0 in omega arith)
 
-    to-large : {a : Built} → Answered a → a ≡ too_large → (stream_fault s ≡ Fine) × (bins_limit < bins (length sd))
+    to-large : {a : Result ℕ Unbuilt} → Answered a → a ≡ too_large → (stream_fault s ≡ Fine) × (bins_limit < bins (length sd))
     unfolding number_in
     to-large (done z h) q = absurd (let y = ap number_in q in omega arith)
     to-large (long z h) q = absurd (let y = ap number_in q in omega arith)
     to-large (large e h) q = (e, h)
     to-large (wrong {f = f} {at = at} e) q = absurd (let y = ap number_in q in let w = (wrong-number s f at e).1 in omega arith)
 
-    to-wrong : {a : Built} {f : Flaw} {at : ℕ} → Answered a → a ≡ unbuilt f at → 30 ≤ number_of f.fault → number_of f.fault ≤ 38 → stream_fault s ≡ Wrong f at
+    to-wrong : {a : Result ℕ Unbuilt} {f : Flaw} {at : ℕ} → Answered a → a ≡ unbuilt f at → 30 ≤ number_of f.fault → number_of f.fault ≤ 38 → stream_fault s ≡ Wrong f at
     unfolding number_in flaw_in spot_in
     to-wrong (done z h) q l r = absurd (let y = ap number_in q in omega arith)
     to-wrong (long z h) q l r = absurd (let y = ap number_in q in omega arith)
@@ -183,7 +183,7 @@ module _ (s : List ℕ) where
     to-wrong (wrong e) q l r = e ∙ ap₂ Wrong (ap flaw_in q) (ap spot_in q)
 
     -- the theorems: when the hive is built, and when 39, 20 and one of 30 to 38 is the answer
-    pub done-exactly : (k : ℕ) → (build_answer s sd room ≡ Done k) ↔ (Sized (length sd) k × (k ≤ room))
+    pub done-exactly : (k : ℕ) → (build_answer s sd room ≡ Ok k) ↔ (Sized (length sd) k × (k ≤ room))
     done-exactly k = (to-done answered, λ w. build-done w.0 w.1)
 
     pub thirty-nine-exactly : (build_answer s sd room ≡ too_large) ↔ ((stream_fault s ≡ Fine) × (bins_limit < bins (length sd)))

@@ -8,18 +8,16 @@ use lib.ListN.{length}
 use Rattle.fields.specs.declared.Fault.{Fault}
 use Rattle.fields.specs.declared.Fault.TheVariants.{NoFrame, ValueLate, Unbalanced, Unsorted, Repeated, NameSize, DataSize, Depth, Subkeys, OutputShort, HiveSize}
 use Rattle.fields.specs.declared.Flaw.{Flaw}
-use Rattle.fields.specs.declared.Verdict.{Verdict}
-use Rattle.fields.specs.Faults.{flaw, nowhere, unless, ◌next◌}
+use Rattle.fields.specs.Faults.{flaw, nowhere, unless, ◌next◌, Verdict}
 use Rattle.fields.proofs.Every.{Every, every-unless, every-next}
 use Rattle.forest.specs.Faults.{Shape, State, is_laid, is_timely, is_inside, is_sorted, is_single, is_named, is_small, is_shallow, is_few, frame_fault, Wrong, stream_fault}
 use Rattle.forest.specs.First.{FirstFault, in_frame, at-end}
 use Rattle.forest.proofs.First.{wrong_first}
-use Rattle.build_answers.specs.declared.Built.{Built}
-use Rattle.build_answers.specs.declared.Built.TheVariants.{Refused}
 use Rattle.build_answers.specs.declared.Unbuilt.{Unbuilt}
 use Rattle.build_answers.specs.Answers.{unbuilt, measure_answer, build_answer}
 use Rattle.build_answers.specs.Refused.{InStream, OfMeasure, of-frames, too_large, OfBuild, of-measure, too-long}
 use Rattle.build_answers.proofs.Cases.{Measured, sized, over-limit, at-fault, measured, Answered, done, long, large, wrong, answered}
+use Rattle.std.specs.Prelude.{Err, Result}
 
 -- ---- the flaw of a frame has no place of its own
 
@@ -50,29 +48,29 @@ wrong-nowhere s {f} {at} e =
 
 -- ---- the theorems
 
-same-refusal : {u v : Unbuilt} → Refused u ≡ Refused v → v ≡ u
+same-refusal : {u v : Unbuilt} → ◌≡◌ {A = Result ℕ Unbuilt} (Err u) (Err v) → v ≡ u
 same-refusal e = cc
 
 module _ (s : List ℕ) where
-  of-wrong : {f : Flaw} {at : ℕ} {u : Unbuilt} → stream_fault s ≡ Wrong f at → unbuilt f at ≡ Refused u → (n : ℕ) → InStream (OfMeasure s n) u
+  of-wrong : {f : Flaw} {at : ℕ} {u : Unbuilt} → stream_fault s ≡ Wrong f at → unbuilt f at ≡ Err u → (n : ℕ) → InStream (OfMeasure s n) u
   of-wrong {f} {at} e q n =
       let w = wrong-nowhere s e in
       (f.fault, at, same-refusal (ap (λ (g : Flaw). unbuilt g at) (sym w.1) ∙ q), of-frames w.0)
 
-  measure-why : {n : ℕ} {a : Built} {u : Unbuilt} → Measured s n a → a ≡ Refused u → InStream (OfMeasure s n) u
+  measure-why : {n : ℕ} {a : Result ℕ Unbuilt} {u : Unbuilt} → Measured s n a → a ≡ Err u → InStream (OfMeasure s n) u
   measure-why (sized e h) q = absurd (let z : ◌≡◌ {A = ℕ} 0 1 = cc in omega arith)
   measure-why (over-limit e h) q = (HiveSize, 0, same-refusal q, too_large e h)
   measure-why {n = n} (at-fault e) q = of-wrong e q n
 
-  pub measure-refuses : (n : ℕ) {u : Unbuilt} → measure_answer s n ≡ Refused u → InStream (OfMeasure s n) u
+  pub measure-refuses : (n : ℕ) {u : Unbuilt} → measure_answer s n ≡ Err u → InStream (OfMeasure s n) u
   measure-refuses n e = measure-why (measured s n) e
 
   module _ (sd : List ℕ) (room : ℕ) where
-    build-why : {a : Built} {u : Unbuilt} → Answered s sd room a → a ≡ Refused u → InStream (OfBuild s (length sd) room) u
+    build-why : {a : Result ℕ Unbuilt} {u : Unbuilt} → Answered s sd room a → a ≡ Err u → InStream (OfBuild s (length sd) room) u
     build-why (done z h) q = absurd (let y : ◌≡◌ {A = ℕ} 0 1 = cc in omega arith)
     build-why (long z h) q = let e = z.is in (OutputShort, 0, same-refusal q, too-long z.fine z.limit (omega arith))
     build-why (large e h) q = (HiveSize, 0, same-refusal q, of-measure (too_large e h))
     build-why (wrong e) q = let w = of-wrong e q (length sd) in (w.0, w.1, w.2, of-measure w.3)
 
-    pub build-refuses : {u : Unbuilt} → build_answer s sd room ≡ Refused u → InStream (OfBuild s (length sd) room) u
+    pub build-refuses : {u : Unbuilt} → build_answer s sd room ≡ Err u → InStream (OfBuild s (length sd) room) u
     build-refuses e = build-why (answered s sd room) e

@@ -12,10 +12,3 @@ pub struct Unbuilt {
     pub refusal: Refusal,
     pub at: Spot,
 }
-
-// The length of the hive, or why there is none.
-#[derive(Clone, Copy)]
-pub enum Built {
-    Done(usize),
-    Refused(Unbuilt),
-}

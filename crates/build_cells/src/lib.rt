@@ -15,10 +15,8 @@ fn put_zeros(out: &mut [u8], at: usize, n: usize)
     requires { at + n ≤ length out.old }
     ensures { out.new ≡ sets out.old at (zeros n) }
 {
-    let mut i: usize = 0;
-    while i < n {
+    for i in 0..n {
         out[at + i] = 0;
-        i += 1;
     }
 }
 
@@ -52,11 +50,8 @@ fn put_low(name: &[u8], out: &mut [u8], at: usize)
     requires name_in_bounds { at + length (codes false name.now) ≤ length out.old }
     ensures { out.new ≡ sets out.old at (codes false name.now) }
 {
-    let mut i: usize = 0;
-    let n = name.len() / 2;
-    while i < n {
+    for i in 0..name.len() / 2 {
         out[at + i] = name[2 * i];
-        i += 1;
     }
 }
 
@@ -78,10 +73,7 @@ fn stored_len(name: &[u8], narrow: bool) -> usize
     requires { IsName name.now narrow }
     ensures { result ≡ length (stored (codes false name.now)) }
 {
-    if narrow {
-        return name.len() / 2;
-    }
-    name.len()
+    if narrow { name.len() / 2 } else { name.len() }
 }
 
 // A cell of bytes as they are: a value's data, or one segment of them.
@@ -152,10 +144,7 @@ fn put_field(body: &[u8], next: usize, out: &mut [u8], at: usize)
 fn flag(told: bool, n: u16) -> u16
     ensures { result ≡ flag_of told n }
 {
-    if told {
-        return n;
-    }
-    0
+    if told { n } else { 0 }
 }
 
 // The record of a value whose cell stands at an offset.
@@ -274,10 +263,8 @@ fn put_offsets(out: &mut [u8], at: usize, first: usize, n: usize)
     requires n_in_bounds { at + 4 * n ≤ length out.old }
     ensures { out.new ≡ sets out.old at (offsets_n n first) }
 {
-    let mut i: usize = 0;
-    while i < n {
+    for i in 0..n {
         fields::put_u32(out, at + 4 * i, (first + 16352 * i) as u32);
-        i += 1;
     }
 }
 
@@ -298,10 +285,7 @@ fn segment_end(start: usize, n: usize) -> usize
     requires { (start ≤ n) × (n ≤ 1048576) }
     ensures { SegmentEnd start n result }
 {
-    if n - start <= 16344 {
-        return n;
-    }
-    start + 16344
+    n.min(start + 16344)
 }
 
 // The segments in order: 16,344 bytes each, and the rest in the last.

@@ -78,18 +78,10 @@ value-is s v n a b h x p q =
 
 -- ---- lists
 
-pub list-none : (n : ℕ) → n ≡ 0 → list_size n ≡ 0
-unfolding list_size
-list-none n e = rw e
-
 pub list-some : (n : ℕ) → (n ≡ 0 → ⊥) → list_size n ≡ cell_size (4 * n)
 unfolding list_size
 list-some zero e = absurd (e refl)
 list-some (suc n) e = refl
-
-pub leaf-none : (n : ℕ) → n ≡ 0 → leaf_size n ≡ 0
-unfolding leaf_size
-leaf-none n e = rw e
 
 pub leaf-some : (n : ℕ) → (n ≡ 0 → ⊥) → leaf_size n ≡ cell_size (4 + 8 * n)
 unfolding leaf_size

@@ -12,8 +12,6 @@ ghost use Rattle.forest.specs.Faults.{opens, holds, shape_of, is_laid, open_shap
 ghost use Rattle.layout.specs.Layout.{cell_size, is_narrow, stored, data_size, value_size, list_size, leaf_size};
 ghost use Rattle.build_frames.specs.Terms.{text_in, name_in, item_in, TextLies, NameLies, HeldLies, ReadAs, Ends, StoredAs, StoredBy, HeldFits, segmented_size};
 
-use names::Order;
-
 // Bytes of the stream: a name, or data.
 #[derive(Clone, Copy)]
 pub struct Text {
@@ -50,19 +48,15 @@ fn open_shape(s: &[u8], at: usize, len: usize) -> Shape
     requires { at + len ≤ length s.now }
     ensures { ReadAs s.now (open_shape (take len (drop at s.now))) result }
 {
-    if len < 8 {
+    if len < 8 || len % 2 != 0 {
         return Shape::Unlaid;
     }
-    if len % 2 != 0 {
-        return Shape::Unlaid;
-    }
-    let name = Text {
-        at: at + 8,
-        len: len - 8,
-    };
     Shape::Opens(Opening {
         stamp: fields::u64_at(s, at),
-        name,
+        name: Text {
+            at: at + 8,
+            len: len - 8,
+        },
     })
 }
 
@@ -75,21 +69,16 @@ fn item_shape(s: &[u8], at: usize, len: usize) -> Shape
         return Shape::Unlaid;
     }
     let n = fields::u32_at(s, at + 4) as usize;
-    if n % 2 != 0 {
+    if n % 2 != 0 || len - 8 < n {
         return Shape::Unlaid;
     }
-    if len - 8 < n {
-        return Shape::Unlaid;
-    }
-    let name = Text { at: at + 8, len: n };
-    let data = Text {
-        at: at + 8 + n,
-        len: len - 8 - n,
-    };
     Shape::Holds(Held {
         kind: fields::u32_at(s, at),
-        name,
-        data,
+        name: Text { at: at + 8, len: n },
+        data: Text {
+            at: at + 8 + n,
+            len: len - 8 - n,
+        },
     })
 }
 
@@ -98,19 +87,12 @@ fn kind_shape(s: &[u8], kind: u16, at: usize, len: usize) -> Shape
     requires { at + len ≤ length s.now }
     ensures { ReadAs s.now (kind_shape kind (take len (drop at s.now))) result }
 {
-    if kind == 16 {
-        return open_shape(s, at, len);
+    match kind {
+        16 => open_shape(s, at, len),
+        17 => item_shape(s, at, len),
+        18 if len == 0 => Shape::Closes,
+        _ => Shape::Unlaid,
     }
-    if kind == 17 {
-        return item_shape(s, at, len);
-    }
-    if kind != 18 {
-        return Shape::Unlaid;
-    }
-    if len != 0 {
-        return Shape::Unlaid;
-    }
-    Shape::Closes
 }
 
 // The frame at a position: "4-byte payload length, 2-byte kind, payload"; "header or payload cut" is no frame.
@@ -142,24 +124,15 @@ pub fn part_of(s: &[u8], t: Text) -> &[u8]
     requires { TextLies s.now t }
     ensures { result.now ≡ text_in s.now t }
 {
-    let start = t.at;
-    let end = start + t.len;
-    &s[start..end]
+    &s[t.at..t.at + t.len]
 }
 
 // Whether a key may have a name: not "of 0 or over 255 characters or with a backslash". A character is two bytes.
-#[tactic(auto, using(crate::proofs::Names::key_long))]
 pub fn is_key_name(s: &[u8], t: Text) -> bool
     requires { NameLies s.now t }
     ensures { (n : ℕ) → result ≡ is_named (opens n (name_in s.now t)) }
 {
-    if t.len < 2 {
-        return false;
-    }
-    if 510 < t.len {
-        return false;
-    }
-    !names::has_in_turn(part_of(s, t), false)
+    (2..=510).contains(&t.len) && !names::has_in_turn(part_of(s, t), false)
 }
 
 // Whether a value may have its name, in whichever stream it lies: not "over 16,383" characters.
@@ -181,14 +154,11 @@ pub fn is_above(s: &[u8], elder: Text, t: Text) -> bool
     requires { TextLies s.now elder × TextLies s.now t }
     ensures { result ≡ is_before (compare (name_in s.now elder) (name_in s.now t)) }
 {
-    match names::compare_stored(part_of(s, elder), false, part_of(s, t), false) {
-        Order::Before => true,
-        Order::Same => false,
-        Order::After => false,
-    }
+    names::compare_stored(part_of(s, elder), false, part_of(s, t), false).is_lt()
 }
 
 // Whether two names are the same, by the same comparison.
+#[tactic(auto, unfolding(crate::specs::Terms::name_in))]
 pub fn is_namesake(s: &[u8], a: Text, b: Text) -> bool
     requires { TextLies s.now a × TextLies s.now b }
     ensures { result ≡ same_name (name_in s.now a) (name_in s.now b) }
@@ -197,6 +167,7 @@ pub fn is_namesake(s: &[u8], a: Text, b: Text) -> bool
 }
 
 // The hash of a name.
+#[tactic(auto, unfolding(crate::specs::Terms::name_in))]
 pub fn hash_of(s: &[u8], t: Text) -> u32
     requires { TextLies s.now t }
     ensures { result ≡ hash_of (name_in s.now t) }
@@ -209,10 +180,11 @@ fn high_of_four(s: &[u8], i: usize) -> u32
     requires { i + 8 ≤ length s.now }
     ensures { result ≡ get_or s.now (i + 1) 0 + get_or s.now (i + 3) 0 + get_or s.now (i + 5) 0 + get_or s.now (i + 7) 0 }
 {
-    s[i + 1] as u32 + s[i + 3] as u32 + s[i + 5] as u32 + s[i + 7] as u32
+    u32::from(s[i + 1]) + u32::from(s[i + 3]) + u32::from(s[i + 5]) + u32::from(s[i + 7])
 }
 
-// A name is stored one byte per character exactly when every code is below 256: four characters in a turn where they are there.
+// A name is stored one byte per character exactly when every code is below 256: four characters in a turn where they are there. The cursor goes on by 8 or
+// by 2, which a `for` cannot say.
 fn is_narrow_text(s: &[u8]) -> bool
     requires { length s.now % 2 ≡ 0 }
     ensures { result ≡ is_narrow (codes false s.now) }
@@ -234,6 +206,7 @@ fn is_narrow_text(s: &[u8]) -> bool
     true
 }
 
+#[tactic(auto, unfolding(crate::specs::Terms::name_in))]
 pub fn is_narrow(s: &[u8], t: Text) -> bool
     requires { NameLies s.now t }
     ensures { result ≡ is_narrow (name_in s.now t) }
@@ -257,22 +230,25 @@ pub fn stored_len(s: &[u8], t: Text) -> usize
 }
 
 // The size of a cell that holds n bytes: 4 + n, for its size field stands before them, rounded up to a multiple of 8.
+#[tactic(auto, unfolding(layout::specs::Layout::cell_size))]
 pub fn cell_size(n: usize) -> usize
     requires { n + 11 < 2 ^ 64 }
     ensures { result ≡ cell_size n }
 {
-    (n + 11) / 8 * 8
+    (n + 4).next_multiple_of(8)
 }
 
 // How many segments data have: 16,344 bytes each, and the rest in the last.
+#[tactic(auto, unfolding(values::specs::Segments::segments_for))]
 pub fn segments_for(n: usize) -> usize
     requires { n ≤ 1048576 }
     ensures { result ≡ segments_for n }
 {
-    (n + 16343) / 16344
+    n.div_ceil(16344)
 }
 
 // The cells of segmented data: the `db` cell of 16 bytes, the segment list, the full segments in cells of 16,352 bytes, and the last.
+#[tactic(auto, unfolding(values::specs::Segments::segments_for, layout::specs::Layout::cell_size))]
 fn segmented_size(n: usize) -> usize
     requires { (16344 < n) × (n ≤ 1048576) }
     ensures { result ≡ segmented_size n }
@@ -283,17 +259,18 @@ fn segmented_size(n: usize) -> usize
 }
 
 // The cells of a value's data.
+#[tactic(auto, unfolding(layout::specs::Layout::data_size))]
 pub fn data_size(n: usize) -> usize
     requires { n ≤ 1048576 }
     ensures { result ≡ data_size n }
 {
     if n <= 4 {
-        return 0;
+        0
+    } else if n <= 16344 {
+        cell_size(n)
+    } else {
+        segmented_size(n)
     }
-    if n <= 16344 {
-        return cell_size(n);
-    }
-    segmented_size(n)
 }
 
 // The cells of a value: its `vk` cell, then the cells of its data.
@@ -301,9 +278,7 @@ pub fn value_size(s: &[u8], v: Held) -> usize
     requires { HeldFits s.now v }
     ensures { result ≡ value_size (item_in s.now v) }
 {
-    let name = v.name;
-    let data = v.data;
-    cell_size(20 + stored_len(s, name)) + data_size(data.len)
+    cell_size(20 + stored_len(s, v.name)) + data_size(v.data.len)
 }
 
 // The cell of a key by itself, its `nk` cell.
@@ -315,23 +290,19 @@ pub fn key_size(s: &[u8], t: Text) -> usize
 }
 
 // A key's value list, of so many values.
+#[tactic(auto, unfolding(layout::specs::Layout::list_size))]
 pub fn list_size(n: usize) -> usize
     requires { 4 * n + 11 < 2 ^ 64 }
     ensures { result ≡ list_size n }
 {
-    if n == 0 {
-        return 0;
-    }
-    cell_size(4 * n)
+    if n == 0 { 0 } else { cell_size(4 * n) }
 }
 
 // A key's leaf, of so many subkeys.
+#[tactic(auto, unfolding(layout::specs::Layout::leaf_size))]
 pub fn leaf_size(n: usize) -> usize
     requires { 8 * n + 15 < 2 ^ 64 }
     ensures { result ≡ leaf_size n }
 {
-    if n == 0 {
-        return 0;
-    }
-    cell_size(4 + 8 * n)
+    if n == 0 { 0 } else { cell_size(4 + 8 * n) }
 }

@@ -9,7 +9,6 @@ use lib.ListN.{length}
 use Rattle.fields.specs.declared.Offset.{Offset}
 use Rattle.base.specs.Block.{bins_limit}
 use Rattle.cells.specs.declared.Tally.{Tally}
-use Rattle.cells.specs.declared.Surveyed.TheVariants.{Tiled}
 use Rattle.cells.specs.Tiled.{BinsTile}
 use Rattle.names.specs.Hashing.{hash_of}
 use Rattle.records.specs.Keys.{security_of}
@@ -17,7 +16,6 @@ use Rattle.records.specs.Listed.{keys_in, nil, cons}
 use Rattle.security.specs.declared.Item.{Item as Security}
 use Rattle.security.specs.Items.{item_of}
 use Rattle.security.specs.Stands.{ItemStands, closes, SecurityStands}
-use Rattle.tree.specs.declared.Checked.TheVariants.{Accepted}
 use Rattle.tree.specs.declared.Hive.{Hive}
 use Rattle.tree.specs.declared.Report.{Report}
 use Rattle.tree.specs.Tree.{levels, values_in, report_of, check_answer}
@@ -38,6 +36,8 @@ use Rattle.build_laws.specs.Laid.{Laid}
 use Rattle.build_laws.proofs.Exports.{item-fits, built-laid}
 use Rattle.build_laws.proofs.Stands.{built_as, trees-stand}
 use Rattle.build_laws.proofs.Counts.{Counts, root-counted, all_named}
+use Rattle.std.specs.Prelude.{Ok, Result}
+use Rattle.fields.specs.declared.Flaw.{Flaw}
 
 -- one key alone
 root_stands : {d : List ℕ} {S n : ℕ} (f : Forest) {parent : ℕ} → count_of f ≡ 1 → Laid d S n f 32 parent → TreeStands d built_as n (record { 0 = 32 })
@@ -55,7 +55,7 @@ record Formed (d : List ℕ) (hive : Hive) : Type 0 where
 moved : {d e : List ℕ} {a b : Hive} → d ≡ e → a ≡ b → Formed e b → Formed d a
 moved {e = e} {a = a} p q w = subst (λ (x : List ℕ). Formed x a) (sym p) (subst (λ (y : Hive). Formed e y) (sym q) w)
 
-same-tally : {a b : Tally} → Tiled a ≡ Tiled b → a ≡ b
+same-tally : {a b : Tally} → ◌≡◌ {A = Result Tally Flaw} (Ok a) (Ok b) → a ≡ b
 same-tally e = cc
 
 -- the report on a built hive, with so many keys and values
@@ -158,9 +158,9 @@ module _ (f : Forest) (sd : List ℕ) (root : OneRoot f) (fits : bins_for f (len
       ∙ ap₂ (counting f (length sd)) counted.many counted.holding
 
   -- the theorem
-  pub built-accepted : (m : List ℕ) → bins_for f (length sd) / 64 ≤ length m → check_answer (built_hive f sd) m ≡ Accepted (report_for f (length sd))
+  pub built-accepted : (m : List ℕ) → bins_for f (length sd) / 64 ≤ length m → check_answer (built_hive f sd) m ≡ Ok (report_for f (length sd))
   built-accepted m room =
       let x = (accepted-exactly (built_hive f sd) m (rw (built-bins f sd fits) room)).1 formed in
       let a = accepted-as (built_hive f sd) m x.1 in
       let t : a.tally ≡ tally_of f (length sd) = same-tally (sym a.surveys ∙ built-survey f sd m fits room) in
-      x.1 ∙ ap (λ (r : Report). Accepted r) (a.report ∙ ap (report_of (built_hive f sd)) t ∙ report-is)
+      x.1 ∙ ap (λ (r : Report). Ok r) (a.report ∙ ap (report_of (built_hive f sd)) t ∙ report-is)

@@ -22,7 +22,6 @@ use Rattle.records.specs.Listed.{keys_in}
 use Rattle.records.proofs.LawsKey.{name-codes}
 use Rattle.records.proofs.Listed.{joined_in}
 use Rattle.values.specs.Lists.{values_of}
-use Rattle.tree.specs.declared.Checked.TheVariants.{Accepted}
 use Rattle.tree.specs.declared.Hive.{Hive}
 use Rattle.tree.specs.declared.Report.{Report}
 use Rattle.tree.specs.Tree.{name_at, levels, hive_of, keys_of, check_answer}
@@ -40,6 +39,7 @@ use Rattle.layout.specs.Layout.{bins_for, built_hive}
 use Rattle.build_laws.specs.Read.{items_read, side_by_side, key_read, forest_of}
 use Rattle.build_laws.proofs.Exports.{built-exports}
 use Rattle.build_laws.proofs.Legible.{codes-fit, data-fits, items-framed, items-allowed, items-apart}
+use Rattle.std.specs.Prelude.{Ok}
 
 -- ---- names of subkeys
 
@@ -182,7 +182,7 @@ module _ (h : List ℕ) (bytes : AllBelow 256 h) (few : (k : Offset) → Memᴰ 
     formed-again sd fits = built-exports (forest_of h) sd export-forest.1 fits ∙ sym export-forest.0
 
   -- of an accepted hive
-  module _ (m : List ℕ) {r : Report} (e : check_answer h m ≡ Accepted r) where
+  module _ (m : List ℕ) {r : Report} (e : check_answer h m ≡ Ok r) where
     formed : CleanAndWellFormed h
     formed =
         let a = accepted-as h m e in

@@ -8,10 +8,8 @@ use lib.ListN.{length, drop, length-drop, drop_of_length-le}
 use Rattle.layout.specs.Layout.{cell_size, stored, values_size, list_size, leaf_size, size_of}
 use Rattle.stream.specs.Stream.{close_frame}
 use Rattle.fields.specs.declared.Flaw.{Flaw}
-use Rattle.fields.specs.declared.Verdict.{Verdict}
-use Rattle.fields.specs.declared.Verdict.TheVariants.{Sound, Flawed}
 use Rattle.fields.specs.declared.Fault.TheVariants.{NoFrame, Unbalanced, NameSize}
-use Rattle.fields.specs.Faults.{flaw, nowhere, ◌next◌}
+use Rattle.fields.specs.Faults.{flaw, nowhere, ◌next◌, Verdict}
 use Rattle.forest.specs.Forest.{Item, Forest, none, more, count_of, key_count, key_frame, item_frames, forest_frames}
 use Rattle.forest.specs.Allowed.{AllBelow, KeyName, allowed-none, allowed-more, OneRoot}
 use Rattle.forest.specs.Faults.{Shape as Said, unlaid, opens, holds, closes, frame_len, shape_of, within, over, fresh, open_in, close_in, behind, subkeys_seen, level_of, is_over, is_laid, is_timely, is_inside, is_above, is_sorted, is_single, is_named, frame_fault, Wrong, judge, stream_fault}
@@ -22,40 +20,39 @@ use Rattle.forest.proofs.Tests.{laid-fits, passed-name, root-sound}
 use Rattle.build_frames.specs.declared.Opening.{Opening}
 use Rattle.build_frames.specs.Terms.{name_in, Ends}
 use Rattle.build_frames.proofs.Names.{key-short}
-use Rattle.build_measure.specs.declared.First.{First}
-use Rattle.build_measure.specs.declared.First.TheVariants.{Root, Flawed as Other}
 use Rattle.build_measure.specs.declared.Tested.{Tested}
 use Rattle.build_measure.specs.declared.Whole.{Whole}
 use Rattle.build_measure.specs.Terms.{cap, ClosedAs, RootOpens, RootFrame, FirstAs, AfterAs, RootFits, Summed, FitsAs}
 use Rattle.build_measure.proofs.Sizes.{cap-few}
 use Rattle.build_measure.proofs.Sums.{cap-later}
 use Rattle.build_measure.proofs.Faulty.{unlaid-here}
+use Rattle.std.specs.Prelude.{Err, Ok, Result}
 
 -- ---- a frame where no key is open
 
 -- a value and a closing before the root
-value-outside : (v : Item) → frame_fault (holds v) (within []) ≡ Flawed (flaw Unbalanced nowhere)
+value-outside : (v : Item) → frame_fault (holds v) (within []) ≡ Err (flaw Unbalanced nowhere)
 unfolding frame_fault ◌next◌ is_laid is_timely is_inside subkeys_seen level_of
 value-outside v = refl
 
-close-outside : frame_fault closes (within []) ≡ Flawed (flaw Unbalanced nowhere)
+close-outside : frame_fault closes (within []) ≡ Err (flaw Unbalanced nowhere)
 unfolding frame_fault ◌next◌ is_laid is_timely is_inside level_of
 close-outside = refl
 
-root-misnamed : (n : ℕ) (x : List ℕ) → is_named (opens n x) ≡ false → frame_fault (opens n x) (within []) ≡ Flawed (flaw NameSize nowhere)
+root-misnamed : (n : ℕ) (x : List ℕ) → is_named (opens n x) ≡ false → frame_fault (opens n x) (within []) ≡ Err (flaw NameSize nowhere)
 unfolding frame_fault ◌next◌ is_laid is_timely is_inside is_over is_above is_sorted is_single subkeys_seen
 root-misnamed n x e = rw e
 
 -- any behind it
-key-after : (n : ℕ) (x : List ℕ) → frame_fault (opens n x) over ≡ Flawed (flaw Unbalanced nowhere)
+key-after : (n : ℕ) (x : List ℕ) → frame_fault (opens n x) over ≡ Err (flaw Unbalanced nowhere)
 unfolding frame_fault ◌next◌ is_laid is_timely is_inside is_over
 key-after n x = refl
 
-value_after : (v : Item) → frame_fault (holds v) over ≡ Flawed (flaw Unbalanced nowhere)
+value_after : (v : Item) → frame_fault (holds v) over ≡ Err (flaw Unbalanced nowhere)
 unfolding frame_fault ◌next◌ is_laid is_timely is_inside subkeys_seen level_of
 value_after v = refl
 
-close-after : frame_fault closes over ≡ Flawed (flaw Unbalanced nowhere)
+close-after : frame_fault closes over ≡ Err (flaw Unbalanced nowhere)
 unfolding frame_fault ◌next◌ is_laid is_timely is_inside level_of
 close-after = refl
 
@@ -66,7 +63,7 @@ module _ (s : List ℕ) where
   no_frames e = judge-end s 0 (within []) e
 
   module _ (some : length s ≡ 0 → ⊥) where
-    first-wrong : {f : Said} {x : Flaw} → shape_of (drop 0 s) ≡ f → frame_fault f (within []) ≡ Flawed x → stream_fault s ≡ Wrong x 0
+    first-wrong : {f : Said} {x : Flaw} → shape_of (drop 0 s) ≡ f → frame_fault f (within []) ≡ Err x → stream_fault s ≡ Wrong x 0
     first-wrong e q = judge-stop s 0 (within []) (omega (arith, some)) (ap (λ (g : Said). frame_fault g (within [])) e ∙ q)
 
     pub first-unlaid : shape_of (drop 0 s) ≡ unlaid → stream_fault s ≡ Wrong (flaw NoFrame nowhere) 0
@@ -89,27 +86,24 @@ module _ (s : List ℕ) where
     pub first-misnamed : is_named (opens o.stamp (name_in s o.name)) ≡ false → stream_fault s ≡ Wrong (flaw NameSize nowhere) 0
     first-misnamed e = first-wrong some-frame r.says (root-misnamed o.stamp (name_in s o.name) e)
 
-    pub first-root : is_named (opens o.stamp (name_in s o.name)) ≡ true → RootFrame s o
-    first-root e = record { opens = r; named = ap is_named r.says ∙ e }
-
 -- ---- behind the root
 
 module _ (s : List ℕ) (p : ℕ) (inside : p ≤ length s) (some : p ≡ length s → ⊥) where
-  after-wrong : {f : Said} {x : Flaw} → shape_of (drop p s) ≡ f → frame_fault f over ≡ Flawed x → judge (drop p s) p over ≡ Wrong x p
+  after-wrong : {f : Said} {x : Flaw} → shape_of (drop p s) ≡ f → frame_fault f over ≡ Err x → judge (drop p s) p over ≡ Wrong x p
   after-wrong e q =
       let l = length-drop p s in
       judge-stop (drop p s) p over (omega (arith, inside, some)) (ap (λ (g : Said). frame_fault g over) e ∙ q)
 
-  pub after-unlaid : shape_of (drop p s) ≡ unlaid → {v : Verdict} → v ≡ Flawed (flaw NoFrame nowhere) → AfterAs s p v
+  pub after-unlaid : shape_of (drop p s) ≡ unlaid → {v : Verdict} → v ≡ Err (flaw NoFrame nowhere) → AfterAs s p v
   after-unlaid e q = subst (AfterAs s p) (sym q) (after-wrong e (unlaid-here over))
 
-  pub after-opens : {n : ℕ} {x : List ℕ} → shape_of (drop p s) ≡ opens n x → {v : Verdict} → v ≡ Flawed (flaw Unbalanced nowhere) → AfterAs s p v
+  pub after-opens : {n : ℕ} {x : List ℕ} → shape_of (drop p s) ≡ opens n x → {v : Verdict} → v ≡ Err (flaw Unbalanced nowhere) → AfterAs s p v
   after-opens {n} {x} e q = subst (AfterAs s p) (sym q) (after-wrong e (key-after n x))
 
-  pub after_holds : {v : Item} → shape_of (drop p s) ≡ holds v → {u : Verdict} → u ≡ Flawed (flaw Unbalanced nowhere) → AfterAs s p u
+  pub after_holds : {v : Item} → shape_of (drop p s) ≡ holds v → {u : Verdict} → u ≡ Err (flaw Unbalanced nowhere) → AfterAs s p u
   after_holds {v} e q = subst (AfterAs s p) (sym q) (after-wrong e (value_after v))
 
-  pub after-closes : shape_of (drop p s) ≡ closes → {v : Verdict} → v ≡ Flawed (flaw Unbalanced nowhere) → AfterAs s p v
+  pub after-closes : shape_of (drop p s) ≡ closes → {v : Verdict} → v ≡ Err (flaw Unbalanced nowhere) → AfterAs s p v
   after-closes e q = subst (AfterAs s p) (sym q) (after-wrong e close-after)
 
 -- ---- the root
@@ -158,7 +152,7 @@ module _ (s : List ℕ) (bytes : AllBelow 256 s) {o : Opening} (r : RootFrame s 
     unfolding close_in
     closed = opened ∙ c.judged [] refl
 
-    pub after-flawed : {f : Flaw} → AfterAs s t.at (Flawed f) → stream_fault s ≡ Wrong f t.at
+    pub after-flawed : {f : Flaw} → AfterAs s t.at (Err f) → stream_fault s ≡ Wrong f t.at
     after-flawed q = closed ∙ q
 
     abbrev forest : Forest
@@ -209,16 +203,13 @@ fits-any x f e o =
 
 -- ---- what an answer says, by its variant
 
-module _ (s : List ℕ) {r : First} where
-  pub told-root : {o : Opening} → r ≡ Root o → FirstAs s r → RootFrame s o
+module _ (s : List ℕ) {r : Result Opening Flaw} where
+  pub told-root : {o : Opening} → r ≡ Ok o → FirstAs s r → RootFrame s o
   told-root e x = subst (FirstAs s) e x
 
-  pub told-other : {f : Flaw} → r ≡ Other f → FirstAs s r → stream_fault s ≡ Wrong f 0
-  told-other e x = subst (FirstAs s) e x
-
 module _ (s : List ℕ) (p : ℕ) {v : Verdict} where
-  pub told-end : v ≡ Sound → AfterAs s p v → p ≡ length s
+  pub told-end : v ≡ Ok tt → AfterAs s p v → p ≡ length s
   told-end e x = subst (AfterAs s p) e x
 
-  pub told-after : {f : Flaw} → v ≡ Flawed f → AfterAs s p v → AfterAs s p (Flawed f)
+  pub told-after : {f : Flaw} → v ≡ Err f → AfterAs s p v → AfterAs s p (Err f)
   told-after e x = subst (AfterAs s p) e x

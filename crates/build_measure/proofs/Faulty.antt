@@ -6,7 +6,6 @@ use mathlib.Core.Bool.{true, false}
 use mathlib.Core.List.{List, [], ◌∷◌}
 use lib.ListN.{length}
 use borrow.Author.Tests.{eq-eqb, ne_eqb, le-leb, lt-leb}
-use Rattle.fields.specs.declared.Verdict.TheVariants.{Sound, Flawed}
 use Rattle.fields.specs.declared.Fault.TheVariants.{NoFrame, ValueLate, Unsorted, NameSize, DataSize, Depth, Subkeys}
 use Rattle.fields.specs.Faults.{flaw, nowhere, ◌next◌}
 use Rattle.names.specs.Comparison.{compare}
@@ -17,45 +16,46 @@ use Rattle.forest.proofs.Tests.{passes-sound}
 use Rattle.build_frames.specs.Terms.{name_in}
 use Rattle.build_measure.specs.declared.Here.{Here}
 use Rattle.build_measure.specs.Terms.{Elders, Stands}
+use Rattle.std.specs.Prelude.{Err, Ok}
 
 -- ---- in this order
 
 module _ (f : Said) (st : State) where
-  no-frame : is_laid f ≡ false → frame_fault f st ≡ Flawed (flaw NoFrame nowhere)
+  no-frame : is_laid f ≡ false → frame_fault f st ≡ Err (flaw NoFrame nowhere)
   unfolding frame_fault ◌next◌
   no-frame e = rw e
 
   module _ (laid : is_laid f ≡ true) where
-    late : is_timely f st ≡ false → frame_fault f st ≡ Flawed (flaw ValueLate nowhere)
+    late : is_timely f st ≡ false → frame_fault f st ≡ Err (flaw ValueLate nowhere)
     unfolding frame_fault ◌next◌
     late e = rw (laid, e)
 
     module _ (timely : is_timely f st ≡ true) (inside : is_inside f st ≡ true) where
-      unsorted : is_sorted f st ≡ false → frame_fault f st ≡ Flawed (flaw Unsorted nowhere)
+      unsorted : is_sorted f st ≡ false → frame_fault f st ≡ Err (flaw Unsorted nowhere)
       unfolding frame_fault ◌next◌
       unsorted e = rw (laid, timely, inside, e)
 
       module _ (sorted : is_sorted f st ≡ true) (single : is_single f st ≡ true) where
-        misnamed : is_named f ≡ false → frame_fault f st ≡ Flawed (flaw NameSize nowhere)
+        misnamed : is_named f ≡ false → frame_fault f st ≡ Err (flaw NameSize nowhere)
         unfolding frame_fault ◌next◌
         misnamed e = rw (laid, timely, inside, sorted, single, e)
 
         module _ (named : is_named f ≡ true) where
-          large : is_small f ≡ false → frame_fault f st ≡ Flawed (flaw DataSize nowhere)
+          large : is_small f ≡ false → frame_fault f st ≡ Err (flaw DataSize nowhere)
           unfolding frame_fault ◌next◌
           large e = rw (laid, timely, inside, sorted, single, named, e)
 
           module _ (small : is_small f ≡ true) where
-            deep : is_shallow f st ≡ false → frame_fault f st ≡ Flawed (flaw Depth nowhere)
+            deep : is_shallow f st ≡ false → frame_fault f st ≡ Err (flaw Depth nowhere)
             unfolding frame_fault ◌next◌
             deep e = rw (laid, timely, inside, sorted, single, named, small, e)
 
             module _ (shallow : is_shallow f st ≡ true) where
-              many : is_few f st ≡ false → frame_fault f st ≡ Flawed (flaw Subkeys nowhere)
+              many : is_few f st ≡ false → frame_fault f st ≡ Err (flaw Subkeys nowhere)
               unfolding frame_fault ◌next◌
               many e = rw (laid, timely, inside, sorted, single, named, small, shallow, e)
 
-pub unlaid-here : (st : State) → frame_fault unlaid st ≡ Flawed (flaw NoFrame nowhere)
+pub unlaid-here : (st : State) → frame_fault unlaid st ≡ Err (flaw NoFrame nowhere)
 unfolding is_laid
 unlaid-here st = no-frame unlaid st refl
 
@@ -65,7 +65,7 @@ module _ {s : List ℕ} {v : Item} {h : Here} {k : Open} {ks : List Open} (x : S
   abbrev here : State
   here = within (k ∷ ks)
 
-  pub value-late : (h.subkeys ≡ 0 → ⊥) → frame_fault (holds v) here ≡ Flawed (flaw ValueLate nowhere)
+  pub value-late : (h.subkeys ≡ 0 → ⊥) → frame_fault (holds v) here ≡ Err (flaw ValueLate nowhere)
   unfolding is_laid is_timely subkeys_seen
   value-late n = late (holds v) here refl (ne_eqb (length k.subkeys) 0 (λ e. n (sym x.elders.count ∙ e)))
 
@@ -82,15 +82,15 @@ module _ {s : List ℕ} {v : Item} {h : Here} {k : Open} {ks : List Open} (x : S
     unfolding is_single values_seen
     single-here = x.new v refl z
 
-    pub value-misnamed : is_named (holds v) ≡ false → frame_fault (holds v) here ≡ Flawed (flaw NameSize nowhere)
+    pub value-misnamed : is_named (holds v) ≡ false → frame_fault (holds v) here ≡ Err (flaw NameSize nowhere)
     unfolding is_laid is_sorted
     value-misnamed e = misnamed (holds v) here refl timely-here inside-here refl single-here e
 
-    pub value-large : is_named (holds v) ≡ true → is_small (holds v) ≡ false → frame_fault (holds v) here ≡ Flawed (flaw DataSize nowhere)
+    pub value-large : is_named (holds v) ≡ true → is_small (holds v) ≡ false → frame_fault (holds v) here ≡ Err (flaw DataSize nowhere)
     unfolding is_laid is_sorted
     value-large n e = large (holds v) here refl timely-here inside-here refl single-here n e
 
-    pub value-sound : is_named (holds v) ≡ true → is_small (holds v) ≡ true → frame_fault (holds v) here ≡ Sound
+    pub value-sound : is_named (holds v) ≡ true → is_small (holds v) ≡ true → frame_fault (holds v) here ≡ Ok tt
     unfolding is_laid is_sorted is_shallow is_few
     value-sound n m =
         passes-sound (holds v) here (record {
@@ -123,17 +123,17 @@ module _ {s : List ℕ} {n : ℕ} {x : List ℕ} {h : Here} {k : Open} {ks : Lis
   abbrev at_key : State
   at_key = within (k ∷ ks)
 
-  pub key-unsorted : is_above x k.subkeys ≡ false → frame_fault (opens n x) at_key ≡ Flawed (flaw Unsorted nowhere)
+  pub key-unsorted : is_above x k.subkeys ≡ false → frame_fault (opens n x) at_key ≡ Err (flaw Unsorted nowhere)
   unfolding is_laid is_timely is_inside is_over is_sorted subkeys_seen
   key-unsorted e = unsorted (opens n x) at_key refl refl refl e
 
   module _ (above : is_above x k.subkeys ≡ true) where
-    pub key-misnamed : is_named (opens n x) ≡ false → frame_fault (opens n x) at_key ≡ Flawed (flaw NameSize nowhere)
+    pub key-misnamed : is_named (opens n x) ≡ false → frame_fault (opens n x) at_key ≡ Err (flaw NameSize nowhere)
     unfolding is_laid is_timely is_inside is_over is_sorted is_single subkeys_seen
     key-misnamed e = misnamed (opens n x) at_key refl refl refl above refl e
 
     module _ (named : is_named (opens n x) ≡ true) where
-      pub key-deep : 512 ≤ h.level → frame_fault (opens n x) at_key ≡ Flawed (flaw Depth nowhere)
+      pub key-deep : 512 ≤ h.level → frame_fault (opens n x) at_key ≡ Err (flaw Depth nowhere)
       unfolding is_laid is_timely is_inside is_over is_sorted is_single is_small is_shallow subkeys_seen level_of
       key-deep d = let l = p.level in deep (opens n x) at_key refl refl refl above refl named refl (lt-leb (suc (length ks)) 512 (omega arith))
 
@@ -142,13 +142,13 @@ module _ {s : List ℕ} {n : ℕ} {x : List ℕ} {h : Here} {k : Open} {ks : Lis
         unfolding is_shallow level_of
         shallow-here = let l = p.level in le-leb (suc (length ks)) 512 (omega arith)
 
-        pub key-many : 65535 ≤ h.subkeys → frame_fault (opens n x) at_key ≡ Flawed (flaw Subkeys nowhere)
+        pub key-many : 65535 ≤ h.subkeys → frame_fault (opens n x) at_key ≡ Err (flaw Subkeys nowhere)
         unfolding is_laid is_timely is_inside is_over is_sorted is_single is_small is_few subkeys_seen
         key-many d =
             let c = p.elders.count in
             many (opens n x) at_key refl refl refl above refl named refl shallow-here (lt-leb (suc (length k.subkeys)) 65535 (omega arith))
 
-        pub key-sound : h.subkeys < 65535 → frame_fault (opens n x) at_key ≡ Sound
+        pub key-sound : h.subkeys < 65535 → frame_fault (opens n x) at_key ≡ Ok tt
         unfolding is_laid is_timely is_inside is_over is_sorted is_single is_small is_few subkeys_seen
         key-sound d =
             let c = p.elders.count in

@@ -9,7 +9,6 @@ use mathlib.Core.List.{List, [], ◌∷◌, ◌++◌, append_assoc, Memᴰ}
 use lib.ListN.{length, get_or, drop}
 use lib.Seq.{drop-drop}
 use borrow.Author.Tests.{leb-true}
-use Rattle.fields.specs.declared.Verdict.TheVariants.{Sound}
 use Rattle.stream.specs.Stream.{close_frame}
 use Rattle.forest.specs.Forest.{Item, key_frame, item_frame, item_frames}
 use Rattle.forest.specs.Allowed.{AllBelow, ItemAllowed}
@@ -25,6 +24,7 @@ use Rattle.build_measure.specs.declared.Here.{Here}
 use Rattle.build_measure.specs.declared.Values.{Values}
 use Rattle.build_measure.specs.Terms.{item_of, Good, items_from, AllValues, Stands, KeyStep}
 use Rattle.build_measure.proofs.Rows.{start-next}
+use Rattle.std.specs.Prelude.{Ok}
 
 -- the bytes of a slice are bytes
 pub all-bytes : (s : List ℕ) → ((i : ℕ) → get_or s i 0 < 256) → AllBelow 256 s
@@ -101,7 +101,7 @@ module _ (s : List ℕ) (bytes : AllBelow 256 s) where
 
 module _ (s : List ℕ) (p : ℕ) where
   -- a frame without a fault, of a shape that is known
-  passed_on : (f : Said) (st : State) → shape_of (drop p s) ≡ f → is_laid f ≡ true → frame_fault (shape_of (drop p s)) st ≡ Sound
+  passed_on : (f : Said) (st : State) → shape_of (drop p s) ≡ f → is_laid f ≡ true → frame_fault (shape_of (drop p s)) st ≡ Ok tt
       → judge (drop p s) p st ≡ judge (drop (p + frame_len (drop p s)) s) (p + frame_len (drop p s)) (behind f st)
   passed_on f st e l q =
       let w = laid-fits (drop p s) (ap is_laid e ∙ l) in

@@ -26,14 +26,7 @@ use Rattle.build_measure.specs.declared.Here.{Here}
 use Rattle.build_measure.specs.declared.Values.{Values}
 use Rattle.build_measure.specs.declared.Sofar.{Sofar}
 use Rattle.build_measure.specs.declared.Tested.{Tested}
-use Rattle.build_measure.specs.declared.StreamFlaw.{StreamFlaw}
-use Rattle.build_measure.specs.declared.Step.{Step}
-use Rattle.build_measure.specs.declared.Step.TheVariants.{Key, End, Flawed}
-use Rattle.build_measure.specs.declared.Twice.{Twice}
-use Rattle.build_measure.specs.declared.Twice.TheVariants.{Nothing, At}
-use Rattle.build_measure.specs.declared.Measured.{Measured}
-use Rattle.build_measure.specs.declared.Measured.TheVariants.{Closed, Flawed as Faulty}
-use Rattle.build_measure.specs.Terms.{cap, Good, items_from, AllValues, NoneTwice, TwiceAt, TwiceIn, Elders, Stands, StepFits, KeyStep, WrongHere, StepAs, Begun, AddFits, Added, Ended, ClosedAs, MeasuredAs}
+use Rattle.build_measure.specs.Terms.{cap, Good, items_from, AllValues, NoneTwice, Elders, Stands, StepFits, KeyStep, WrongHere, Begun, AddFits, Added, Ended, ClosedAs}
 use Rattle.build_measure.proofs.Sizes.{cap-add, cap-few}
 use Rattle.build_measure.proofs.Repeats.{not-opens, items-length}
 use Rattle.build_measure.proofs.Frames.{values-allowed, values-frames, opening-frame, closing-frame, judged-open, judged-close}
@@ -319,29 +312,3 @@ module _ (s : List ℕ) where
                     ∙ moved (close_in (within (with_names g.names values-open ∷ ks))) (sym en.place.is)
                     ∙ ap (judge (drop t.at s) t.at) (close-any (with_names g.names values-open) fresh ks);
               }
-
--- ---- what an answer says, by its variant
-
-module _ (s : List ℕ) (p : ℕ) (h : Here) {r : Step} where
-  pub step-key : {o : Opening} → r ≡ Key o → StepAs s p h r → KeyStep s p h o
-  step-key e x = subst (StepAs s p h) e x
-
-  pub step_end : r ≡ End → StepAs s p h r → shape_of (drop p s) ≡ closes
-  step_end e x = subst (StepAs s p h) e x
-
-  pub step-fails : {f : Flaw} → r ≡ Flawed f → StepAs s p h r → WrongHere s p h f
-  step-fails e x = subst (StepAs s p h) e x
-
-module _ (s : List ℕ) (at : ℕ) (r : Values) {f : Twice} where
-  pub told_none : f ≡ Nothing → TwiceIn s at r f → NoneTwice s at r
-  told_none e x = subst (TwiceIn s at r) e x
-
-  pub told-twice : {p : ℕ} → f ≡ At p → TwiceIn s at r f → TwiceAt s at p
-  told-twice e x = subst (TwiceIn s at r) e x
-
-module _ (s : List ℕ) (at level : ℕ) {r : Measured} where
-  pub told-closed : {t : Tested} → r ≡ Closed t → MeasuredAs s at level r → ClosedAs s at level t
-  told-closed e x = subst (MeasuredAs s at level) e x
-
-  pub told-faulty : {x : StreamFlaw} → r ≡ Faulty x → MeasuredAs s at level r → MeasuredAs s at level (Faulty x)
-  told-faulty e x = subst (MeasuredAs s at level) e x

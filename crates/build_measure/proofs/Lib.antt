@@ -9,3 +9,4 @@ pub mod Joins
 pub mod Going
 pub mod Entire
 pub mod Told
+pub mod Others

@@ -6,21 +6,19 @@ use mathlib.Core.List.{List, ◌∷◌}
 use lib.ListN.{length, drop, length-drop}
 use borrow.Author.Tests.{eqb-true}
 use Rattle.fields.specs.declared.Flaw.{Flaw}
-use Rattle.fields.specs.declared.Verdict.{Verdict}
-use Rattle.fields.specs.declared.Verdict.TheVariants.{Sound, Flawed}
 use Rattle.fields.specs.declared.Fault.TheVariants.{Unbalanced}
-use Rattle.fields.specs.Faults.{flaw, nowhere}
+use Rattle.fields.specs.Faults.{flaw, nowhere, Verdict}
 use Rattle.forest.specs.Faults.{Shape as Said, holds, shape_of, Open, within, subkeys_seen, is_timely, frame_fault}
 use Rattle.forest.proofs.Judge.{judge-end, judge-stop}
 use Rattle.forest.proofs.Tests.{sound-passes, unlaid-flawed}
-use Rattle.build_frames.specs.declared.Opening.{Opening}
 use Rattle.build_frames.specs.declared.Held.{Held}
 use Rattle.build_frames.specs.declared.Shape.{Shape}
-use Rattle.build_frames.specs.declared.Shape.TheVariants.{Unlaid, Opens, Holds}
+use Rattle.build_frames.specs.declared.Shape.TheVariants.{Unlaid, Holds}
 use Rattle.build_frames.specs.Terms.{item_in, shape_in, ReadAs}
-use Rattle.build_frames.proofs.Arms.{said-nothing, said-opens, opens-lies, said-holds}
+use Rattle.build_frames.proofs.Arms.{said-nothing, said-holds}
 use Rattle.build_measure.specs.declared.Here.{Here}
-use Rattle.build_measure.specs.Terms.{item_of, Stands, FaultHere, StepFits, KeyStep, WrongHere}
+use Rattle.build_measure.specs.Terms.{item_of, Stands, FaultHere, StepFits, WrongHere}
+use Rattle.std.specs.Prelude.{Err, Ok}
 
 module _ (s : List ℕ) (p : ℕ) (h : Here) where
   pub at-end : p ≡ length s → WrongHere s p h (flaw Unbalanced nowhere)
@@ -31,17 +29,14 @@ module _ (s : List ℕ) (p : ℕ) (h : Here) where
     told : {v : Verdict} → FaultHere s (shape_in s f) h v → FaultHere s (shape_of (drop p s)) h v
     told {v} t = subst (λ (q : Said). FaultHere s q h v) r.is t
 
-    pub at-fault : {v : Verdict} {x : Flaw} → p < length s → FaultHere s (shape_in s f) h v → v ≡ Flawed x → WrongHere s p h x
+    pub at-fault : {v : Verdict} {x : Flaw} → p < length s → FaultHere s (shape_in s f) h v → v ≡ Err x → WrongHere s p h x
     at-fault some t e k ks st =
         let l = length-drop p s in
         judge-stop (drop p s) p (within (k ∷ ks)) (omega arith) (sym (told t k ks st) ∙ e)
 
-    module _ (t : FaultHere s (shape_in s f) h Sound) where
-      sound-here : (k : Open) (ks : List Open) → Stands s (shape_of (drop p s)) h k ks → frame_fault (shape_of (drop p s)) (within (k ∷ ks)) ≡ Sound
+    module _ (t : FaultHere s (shape_in s f) h (Ok tt)) where
+      sound-here : (k : Open) (ks : List Open) → Stands s (shape_of (drop p s)) h k ks → frame_fault (shape_of (drop p s)) (within (k ∷ ks)) ≡ Ok tt
       sound-here k ks st = sym (told t k ks st)
-
-      pub at_key : {o : Opening} → f ≡ Opens o → KeyStep s p h o
-      at_key e = record { says = said-opens r e; lies = opens-lies r e; sound = sound-here }
 
       pub at-unlaid : {x : Flaw} → f ≡ Unlaid → WrongHere s p h x
       at-unlaid e k ks st =

@@ -8,10 +8,9 @@ use mathlib.Core.List.{List}
 use lib.Dec.{ltb}
 use lib.ListN.{length, drop}
 use borrow.Author.Tests.{ltb-true, ltb-false}
-use Rattle.fields.proofs.Bools.{never}
 use Rattle.layout.specs.Layout.{is_narrow, stored, value_size, values_size}
 use Rattle.forest.specs.Forest.{Item}
-use Rattle.forest.specs.Faults.{Shape as Said, unlaid, opens, holds, closes, frame_len, shape_of, is_laid, is_named, is_small}
+use Rattle.forest.specs.Faults.{Shape as Said, holds, frame_len, shape_of, is_laid, is_named, is_small}
 use Rattle.build_frames.specs.declared.Held.{Held}
 use Rattle.build_frames.specs.Terms.{name_in, text_in, item_in, HeldFits, Ends}
 use Rattle.build_frames.proofs.Names.{text-length, stored-narrow, stored-wide}
@@ -53,35 +52,7 @@ module _ {v : Item} where
         other = λ z g. omega arith;
       }
 
--- that of any other frame
-sized-none : {f : Said} → (Good f → ⊥) → Sized f 0
-sized-none n = record { few = omega arith; good = λ q. absurd (omega arith); size = λ q. absurd (omega arith); other = λ z g. n g }
-
-pub sized-misnamed : {f : Said} → is_named f ≡ false → Sized f 0
-sized-misnamed e = sized-none (λ g. never _ g.named e)
-
-pub sized-large : {f : Said} → is_small f ≡ false → Sized f 0
-sized-large e = sized-none (λ g. never _ g.small e)
-
 module _ {f : Said} where
-  pub sized-opens : {s : ℕ} {x : List ℕ} → f ≡ opens s x → Sized f 0
-  sized-opens e = sized-none (λ g. clash (sym e ∙ g.is))
-    where
-      clash : {s : ℕ} {x : List ℕ} {v : Item} → opens s x ≡ holds v → ⊥
-      clash q = let z : ◌≡◌ {A = ℕ} 0 1 = cc in omega arith
-
-  pub sized-closes : f ≡ closes → Sized f 0
-  sized-closes e = sized-none (λ g. clash (sym e ∙ g.is))
-    where
-      clash : {v : Item} → closes ≡ holds v → ⊥
-      clash q = let z : ◌≡◌ {A = ℕ} 0 1 = cc in omega arith
-
-  pub sized-unlaid : f ≡ unlaid → Sized f 0
-  sized-unlaid e = sized-none (λ g. clash (sym e ∙ g.is))
-    where
-      clash : {v : Item} → unlaid ≡ holds v → ⊥
-      clash q = let z : ◌≡◌ {A = ℕ} 0 1 = cc in omega arith
-
   pub sized-by : {g : Said} {r : ℕ} → f ≡ g → Sized g r → Sized f r
   sized-by {r = r} e x = subst (λ (q : Said). Sized q r) (sym e) x
 

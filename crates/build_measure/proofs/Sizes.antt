@@ -5,6 +5,7 @@ use mathlib.Core.Path.{◌≡◌, refl, sym, ap, ◌∙◌}
 use mathlib.Core.Bool.{Bool, true, false}
 use lib.Dec.{leb}
 use borrow.Author.Tests.{le-leb, lt-leb, leb-true, leb-false}
+use Rattle.std.proofs.Common.{min}
 use Rattle.build_measure.specs.Terms.{cap}
 
 pub cap-small : (n : ℕ) → n ≤ 2147479552 → cap n ≡ n
@@ -14,6 +15,13 @@ cap-small n p = rw (le-leb n 2147479552 p)
 pub cap-large : (n : ℕ) → 2147479552 < n → cap n ≡ 2147479553
 unfolding cap
 cap-large n p = rw (lt-leb n 2147479552 p)
+
+pub cap-min : (n : ℕ) → min n 2147479553 ≡ cap n
+cap-min n = by (leb n 2147479552) refl
+  where
+    by : (t : Bool) → leb n 2147479552 ≡ t → min n 2147479553 ≡ cap n
+    by true e = let q = leb-true n 2147479552 e in rw (cap-small n q) (omega arith)
+    by false e = let q = leb-false n 2147479552 e in rw (cap-large n q) (omega arith)
 
 pub cap-few : (n : ℕ) → cap n ≤ 2147479553
 cap-few n = by (leb n 2147479552) refl

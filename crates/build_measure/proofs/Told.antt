@@ -4,14 +4,13 @@ use mathlib.Core.Path.{◌≡◌, subst}
 use mathlib.Core.List.{List}
 use Rattle.forest.specs.Faults.{Wrong, stream_fault}
 use Rattle.build_measure.specs.declared.StreamFlaw.{StreamFlaw}
-use Rattle.build_measure.specs.declared.Judged.{Judged}
-use Rattle.build_measure.specs.declared.Judged.TheVariants.{Fits, Flawed}
 use Rattle.build_measure.specs.declared.Whole.{Whole}
 use Rattle.build_measure.specs.Terms.{FitsAs, JudgedAs}
+use Rattle.std.specs.Prelude.{Err, Ok, Result}
 
-module _ (s : List ℕ) {r : Judged} where
-  pub told-fits : {w : Whole} → r ≡ Fits w → JudgedAs s r → FitsAs s w
+module _ (s : List ℕ) {r : Result Whole StreamFlaw} where
+  pub told-fits : {w : Whole} → r ≡ Ok w → JudgedAs s r → FitsAs s w
   told-fits e x = subst (JudgedAs s) e x
 
-  pub told-amiss : {x : StreamFlaw} → r ≡ Flawed x → JudgedAs s r → stream_fault s ≡ Wrong x.flaw x.at
+  pub told-amiss : {x : StreamFlaw} → r ≡ Err x → JudgedAs s r → stream_fault s ≡ Wrong x.flaw x.at
   told-amiss e x = subst (JudgedAs s) e x

@@ -1,15 +1,13 @@
 -- What the first pass over a stream s finds, in the words of the definitions.
-use Rattle.std.specs.Prelude.{ℕ, zero, suc, ◌+◌, ◌-◌, ◌*◌, ◌^◌, ◌≤◌, ◌<◌, ◌≡◌, true, cond, List, [], ◌∷◌, ◌++◌, leb, length, drop}
+use Rattle.std.specs.Prelude.{ℕ, zero, suc, ◌+◌, ◌-◌, ◌*◌, ◌^◌, ◌≤◌, ◌<◌, ◌≡◌, true, cond, List, [], ◌∷◌, ◌++◌, leb, length, drop, Err, None, Ok, Option, Result, Some}
 use Rattle.base.specs.Block.{bins_limit}
 use Rattle.layout.specs.Layout.{cell_size, stored, value_size, values_size, list_size, leaf_size, size_of}
 use Rattle.fields.specs.declared.Fault.TheVariants.{Repeated}
-use Rattle.fields.specs.Faults.{flaw, nowhere}
+use Rattle.fields.specs.Faults.{flaw, nowhere, Verdict}
 use Rattle.forest.specs.Forest.{Item, Forest, count_of, key_count, item_names, item_frames, forest_frames}
 use Rattle.forest.specs.Allowed.{Apart, KeyName, KeyAllowed, Allowed, OneRoot}
 use Rattle.stream.specs.Stream.{close_frame}
 use Rattle.fields.specs.declared.Flaw.{Flaw}
-use Rattle.fields.specs.declared.Verdict.{Verdict}
-use Rattle.fields.specs.declared.Verdict.TheVariants.{Sound, Flawed}
 use Rattle.forest.specs.Faults.{Shape as Said, unlaid, opens, holds, closes, frame_len, shape_of, Open, within, over, fresh, close_in, is_new, is_named, is_small, frame_fault, Fine, Wrong, judge, stream_fault}
 use Rattle.forest.specs.Behind.{add_values}
 use Rattle.build_frames.specs.declared.Opening.{Opening}
@@ -17,19 +15,10 @@ use Rattle.build_frames.specs.Terms.{name_in, TextLies, NameLies, Ends}
 use Rattle.build_namesakes.specs.Rows.{start_of, Row}
 use Rattle.build_measure.specs.declared.Values.{Values}
 use Rattle.build_measure.specs.declared.Here.{Here}
-use Rattle.build_measure.specs.declared.Measured.{Measured}
-use Rattle.build_measure.specs.declared.Measured.TheVariants.{Closed, Flawed as Faulty}
-use Rattle.build_measure.specs.declared.First.{First}
-use Rattle.build_measure.specs.declared.First.TheVariants.{Root, Flawed as Other}
-use Rattle.build_measure.specs.declared.Judged.{Judged}
-use Rattle.build_measure.specs.declared.Judged.TheVariants.{Fits, Flawed as Amiss}
 use Rattle.build_measure.specs.declared.Sofar.{Sofar}
 use Rattle.build_measure.specs.declared.Tested.{Tested}
-use Rattle.build_measure.specs.declared.Step.{Step}
-use Rattle.build_measure.specs.declared.Step.TheVariants.{Key, End, Flawed as Fails}
 use Rattle.build_measure.specs.declared.Whole.{Whole}
-use Rattle.build_measure.specs.declared.Twice.{Twice}
-use Rattle.build_measure.specs.declared.Twice.TheVariants.{Nothing, At}
+use Rattle.build_measure.specs.declared.StreamFlaw.{StreamFlaw}
 
 -- a sum of sizes, of which no more is told than that it is past the largest bins size
 unfoldable pub cap : ℕ → ℕ
@@ -92,9 +81,9 @@ pub record NoneTwice (s : List ℕ) (at : ℕ) (r : Values) : Type 0 where
 abbrev pub TwiceAt : List ℕ → ℕ → ℕ → Type 0
 TwiceAt s at p = (ks : List Open) → judge (drop at s) at (within (fresh ∷ ks)) ≡ Wrong (flaw Repeated nowhere) p
 
-abbrev pub TwiceIn : List ℕ → ℕ → Values → Twice → Type 0
-TwiceIn s at r Nothing = NoneTwice s at r
-TwiceIn s at r (At p) = TwiceAt s at p
+abbrev pub TwiceIn : List ℕ → ℕ → Values → Option ℕ → Type 0
+TwiceIn s at r None = NoneTwice s at r
+TwiceIn s at r (Some p) = TwiceAt s at p
 
 -- ---- a frame behind the values of a key that is open
 
@@ -131,16 +120,16 @@ pub record StepFits (s : List ℕ) (p : ℕ) (h : Here) : Type 0 where
 pub record KeyStep (s : List ℕ) (p : ℕ) (h : Here) (o : Opening) : Type 0 where
   pub says : shape_of (drop p s) ≡ opens o.stamp (name_in s o.name)
   pub lies : NameLies s o.name
-  pub sound : (k : Open) (ks : List Open) → Stands s (shape_of (drop p s)) h k ks → frame_fault (shape_of (drop p s)) (within (k ∷ ks)) ≡ Sound
+  pub sound : (k : Open) (ks : List Open) → Stands s (shape_of (drop p s)) h k ks → frame_fault (shape_of (drop p s)) (within (k ∷ ks)) ≡ Ok tt
 
 -- something is wrong there
 abbrev pub WrongHere : List ℕ → ℕ → Here → Flaw → Type 0
 WrongHere s p h x = (k : Open) (ks : List Open) → Stands s (shape_of (drop p s)) h k ks → judge (drop p s) p (within (k ∷ ks)) ≡ Wrong x p
 
-abbrev pub StepAs : List ℕ → ℕ → Here → Step → Type 0
-StepAs s p h (Key o) = KeyStep s p h o
-StepAs s p h End = shape_of (drop p s) ≡ closes
-StepAs s p h (Fails x) = WrongHere s p h x
+abbrev pub StepAs : List ℕ → ℕ → Here → Result (Option Opening) Flaw → Type 0
+StepAs s p h (Ok (Some o)) = KeyStep s p h o
+StepAs s p h (Ok None) = shape_of (drop p s) ≡ closes
+StepAs s p h (Err x) = WrongHere s p h x
 
 -- ---- the sums of a key that is open
 
@@ -190,9 +179,9 @@ pub record ClosedAs (s : List ℕ) (at level : ℕ) (t : Tested) : Type 0 where
   pub room : at + 6 * t.keys + 6 ≤ t.at
   pub judged : (ks : List Open) → length ks ≡ level → judge (drop at s) at (within (fresh ∷ ks)) ≡ judge (drop t.at s) t.at (close_in (within (fresh ∷ ks)))
 
-abbrev pub MeasuredAs : List ℕ → ℕ → ℕ → Measured → Type 0
-MeasuredAs s at level (Closed t) = ClosedAs s at level t
-MeasuredAs s at level (Faulty x) = (ks : List Open) → length ks ≡ level → judge (drop at s) at (within (fresh ∷ ks)) ≡ Wrong x.flaw x.at
+abbrev pub MeasuredAs : List ℕ → ℕ → ℕ → Result Tested StreamFlaw → Type 0
+MeasuredAs s at level (Ok t) = ClosedAs s at level t
+MeasuredAs s at level (Err x) = (ks : List Open) → length ks ≡ level → judge (drop at s) at (within (fresh ∷ ks)) ≡ Wrong x.flaw x.at
 
 -- ---- the whole stream
 
@@ -206,14 +195,14 @@ pub record RootFrame (s : List ℕ) (o : Opening) : Type 0 where
   pub opens : RootOpens s o
   pub named : is_named (shape_of (drop 0 s)) ≡ true
 
-abbrev pub FirstAs : List ℕ → First → Type 0
-FirstAs s (Root o) = RootFrame s o
-FirstAs s (Other x) = stream_fault s ≡ Wrong x 0
+abbrev pub FirstAs : List ℕ → Result Opening Flaw → Type 0
+FirstAs s (Ok o) = RootFrame s o
+FirstAs s (Err x) = stream_fault s ≡ Wrong x 0
 
 -- behind the root's closing frame: the stream's end, or a frame at fault
 abbrev pub AfterAs : List ℕ → ℕ → Verdict → Type 0
-AfterAs s p Sound = p ≡ length s
-AfterAs s p (Flawed x) = judge (drop p s) p over ≡ Wrong x p
+AfterAs s p (Ok tt) = p ≡ length s
+AfterAs s p (Err x) = judge (drop p s) p over ≡ Wrong x p
 
 -- the root's own cell with those below it, and the root with the keys below it
 pub record RootFits (s : List ℕ) (o : Opening) (t : Tested) : Type 0 where
@@ -235,6 +224,6 @@ pub record FitsAs (s : List ℕ) (r : Whole) : Type 0 where
   pub size_is : r.size ≡ cap (size_of forest)
   pub keys : r.keys ≡ key_count forest
 
-abbrev pub JudgedAs : List ℕ → Judged → Type 0
-JudgedAs s (Fits r) = FitsAs s r
-JudgedAs s (Amiss x) = stream_fault s ≡ Wrong x.flaw x.at
+abbrev pub JudgedAs : List ℕ → Result Whole StreamFlaw → Type 0
+JudgedAs s (Ok r) = FitsAs s r
+JudgedAs s (Err x) = stream_fault s ≡ Wrong x.flaw x.at

@@ -8,7 +8,6 @@ use lib.ListN.{length, get_or, take, drop, length-drop}
 use lib.Seq.{drop-drop}
 use borrow.Author.Tests.{le-leb, eq-eqb}
 use Rattle.fields.specs.declared.Fault.TheVariants.{NoFrame, ValueLate, Unbalanced, Unsorted, Repeated}
-use Rattle.fields.specs.declared.Verdict.TheVariants.{Sound, Flawed}
 use Rattle.fields.specs.Faults.{flaw, nowhere}
 use Rattle.fields.proofs.Bools.{and_both}
 use Rattle.fields.proofs.Firsts.{on, stop, holds as passing, fails}
@@ -23,11 +22,12 @@ use Rattle.forest.specs.Behind.{add_values}
 use Rattle.build_namesakes.specs.Rows.{start_of, called}
 use Rattle.build_namesakes.proofs.Rows.{held-named}
 use Rattle.build_namesakes.proofs.Laws.{take-name, take-length, names-length, Listed, listed-names, listed-again}
+use Rattle.std.specs.Prelude.{Err, Ok}
 
 -- ---- one value inside of a key
 
 module _ (k : Open) (ks : List Open) (v : Item) (timely : length k.subkeys ≡ 0) where
-  pub value_passes : is_new v.name k.values ≡ true → is_named (holds v) ≡ true → is_small (holds v) ≡ true → frame_fault (holds v) (within (k ∷ ks)) ≡ Sound
+  pub value_passes : is_new v.name k.values ≡ true → is_named (holds v) ≡ true → is_small (holds v) ≡ true → frame_fault (holds v) (within (k ∷ ks)) ≡ Ok tt
   unfolding is_laid is_timely is_inside is_sorted is_single is_shallow is_few values_seen subkeys_seen level_of
   value_passes new named small =
       passes-sound (holds v) (within (k ∷ ks)) (record {
@@ -42,7 +42,7 @@ module _ (k : Open) (ks : List Open) (v : Item) (timely : length k.subkeys ≡ 0
         few = refl;
       })
 
-  pub value-repeats : is_new v.name k.values ≡ false → frame_fault (holds v) (within (k ∷ ks)) ≡ Flawed (flaw Repeated nowhere)
+  pub value-repeats : is_new v.name k.values ≡ false → frame_fault (holds v) (within (k ∷ ks)) ≡ Err (flaw Repeated nowhere)
   unfolding frame_fault is_laid is_timely is_inside is_sorted is_single values_seen subkeys_seen level_of
   value-repeats seen =
       on _ _ (passing (flaw NoFrame nowhere) refl)
@@ -99,7 +99,7 @@ module _ (s : List ℕ) (at : ℕ) (vs : List Item) (l : Listed s at vs) (k : Op
         let p = start_of s at j in
         let st = standing j in
         let v = x.item in
-        let sound : frame_fault (judged_at j) st ≡ Sound =
+        let sound : frame_fault (judged_at j) st ≡ (Ok tt) =
         ap (λ (o : Said). frame_fault o st) x.says
         ∙ value_passes (add_values (take j vs) k) ks v (still-timely j) (ap (λ (y : List ℕ). is_new y (add_values (take j vs) k).values) x.name ∙ is-new j q)
         (sym (ap is_named x.says) ∙ named) (sym (ap is_small x.says) ∙ small) in

@@ -29,10 +29,8 @@ pub fn position_of(s: &[u8], at: usize, j: usize) -> usize
     ensures { result ≡ start_of s.now at j }
 {
     let mut p = at;
-    let mut i: usize = 0;
-    while i < j {
+    for _i in 0..j {
         p = build_frames::frame_end(s, p);
-        i += 1;
     }
     p
 }
@@ -51,10 +49,10 @@ fn is_met(
     requires { Ready s.now n x g keys.now older.now heads.now starts.now }
     ensures { result ≡ met_in (starts_called s.now starts.now) n (name_in s.now x) }
 {
+    // A position in a chain is one above the index, and 0 ends it: so `chains` has them.
     let mut p = chains::find(keys, older, heads, n, g);
     while p != 0 {
-        let y = name_at(s, starts[p - 1]);
-        if build_frames::is_namesake(s, y, x) {
+        if build_frames::is_namesake(s, name_at(s, starts[p - 1]), x) {
             return true;
         }
         let q = older[p - 1] as usize;
@@ -82,9 +80,10 @@ fn take_in(
     if n < keys.len() {
         chains::insert(keys, older, heads, n, g);
         starts[n] = p;
-        return n + 1;
+        n + 1
+    } else {
+        n
     }
-    n
 }
 
 // One block: the values of a row are taken into the table, as many as it has room for. The lowest of n whose value has a namesake of the block before it,
@@ -103,9 +102,8 @@ fn in_block(
     ensures { Blocked (called s.now at) 0 (length keys.old) n result }
 {
     let mut p = at;
-    let mut j: usize = 0;
     let mut k: usize = 0;
-    while j < n {
+    for j in 0..n {
         let x = name_at(s, p);
         let g = build_frames::hash_of(s, x);
         if is_met(s, k, x, g, keys, older, heads, starts) {
@@ -113,7 +111,6 @@ fn in_block(
         }
         k = take_in(keys, older, heads, starts, k, g, p);
         p = build_frames::frame_end(s, p);
-        j += 1;
     }
     n
 }
@@ -131,7 +128,7 @@ fn block(s: &[u8], at: usize, n: usize) -> usize
     in_block(s, at, n, &mut keys, &mut older, &mut heads, &mut starts)
 }
 
-// One block after the other: the lowest of n whose value has a namesake before it, or n.
+// One block after the other: the lowest of n whose value has a namesake before it, or n. What is looked at ends at `best`, which falls: so this is no `for`.
 fn many(s: &[u8], at: usize, n: usize) -> usize
     requires { Row s.now at n }
     ensures { First (called s.now at) n result }
@@ -153,14 +150,11 @@ fn is_repeat(s: &[u8], at: usize, j: usize, x: Text) -> bool
     ensures { result ≡ met_in (called s.now at) j (name_in s.now x) }
 {
     let mut p = at;
-    let mut i: usize = 0;
-    while i < j {
-        let y = name_at(s, p);
-        if build_frames::is_namesake(s, y, x) {
+    for _i in 0..j {
+        if build_frames::is_namesake(s, name_at(s, p), x) {
             return true;
         }
         p = build_frames::frame_end(s, p);
-        i += 1;
     }
     false
 }
@@ -171,14 +165,11 @@ fn few(s: &[u8], at: usize, n: usize) -> usize
     ensures { First (called s.now at) n result }
 {
     let mut p = at;
-    let mut j: usize = 0;
-    while j < n {
-        let x = name_at(s, p);
-        if is_repeat(s, at, j, x) {
+    for j in 0..n {
+        if is_repeat(s, at, j, name_at(s, p)) {
             return j;
         }
         p = build_frames::frame_end(s, p);
-        j += 1;
     }
     n
 }
@@ -189,7 +180,8 @@ pub fn first_repeat(s: &[u8], at: usize, n: usize) -> usize
     ensures { First (called s.now at) n result }
 {
     if n <= 16 {
-        return few(s, at, n);
+        few(s, at, n)
+    } else {
+        many(s, at, n)
     }
-    many(s, at, n)
 }

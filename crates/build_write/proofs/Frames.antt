@@ -6,7 +6,7 @@ use mathlib.Core.Bool.{Bool, true, false, cond, ◌&&◌}
 use mathlib.Core.List.{List}
 use lib.Dec.{eqb, leb}
 use lib.ListN.{length, take, drop}
-use borrow.Author.Tests.{eqb-true, eqb-false, ne_eqb, leb-true, leb-false}
+use borrow.Author.Tests.{eqb-true, eqb-false, ne_eqb, leb-true, leb-false, le-ltb}
 use Rattle.fields.specs.Number.{u16_at, u32_at, u64_at}
 use Rattle.fields.proofs.Bools.{never}
 use Rattle.names.specs.Codes.{codes}
@@ -236,3 +236,10 @@ module _ (s : List ℕ) (at : ℕ) where
     value_read m l k p q r₀ =
         let r = item-whole s (at + 6) len in-room value-long n refl k r₀ value-even value-fits in
         subst (Holding s at) (sym (ap₂ (λ (x y : ℕ). made x y k) p q)) (record { is = held ∙ said-holds r refl; lies = holds-lies r refl })
+
+-- for the tactics: what the kind of a frame tells, and where the parts of one lie
+pub ruleset kind_ways = (kind-there, value-told, opening-told, nothing-opens, le-ltb)
+
+pub ruleset opening_ways = (opening-there, opening-read)
+
+pub ruleset value_ways = (value_there, value_read)

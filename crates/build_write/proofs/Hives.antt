@@ -31,6 +31,10 @@ nothing-opens : is_opening (shape_of []) ≡ false
 unfolding is_opening shape_of is_there
 nothing-opens = refl
 
+-- what the library rounds up
+pub round : (n : ℕ) → n + (4096 - n % 4096) % 4096 ≡ (n + 4095) / 4096 * 4096
+round n = omega arith
+
 -- the parts in a row
 whole-put : (f : Forest) (sd l : List ℕ)
     → sets (sets (sets (sets (sets l 0 (base_bytes (stamp_of f) (bins_for f (length sd)))) 4096 (header_bytes (stamp_of f) (bins_for f (length sd)))) (4096 + 32)

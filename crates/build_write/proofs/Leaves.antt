@@ -173,3 +173,6 @@ leaf-put l at offset n z (more s x vs b r) e =
     ∙ ap (λ (k : ℕ). sets m (at + 4) (108 ∷ 104 ∷ (le16 k ++ elements f offset))) e)
     ∙ cell-put whole l at (4 + 8 * n) (omega arith)
     ∙ ap (sets l at) (sym (append-nil (cell_bytes whole)))
+
+-- for the tactics
+pub ruleset leaf_ways = (leaf-none, leaf-few, leaf-put, still-stand, cell_room)

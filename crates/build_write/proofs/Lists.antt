@@ -145,3 +145,6 @@ list_put l at offset n z [] e = absurd (z e)
 list_put l at offset n z (v ∷ vs) e =
     let a = value-offsets-length (v ∷ vs) offset in
     cell-put (value_offsets (v ∷ vs) offset) l at (4 * n) (omega arith) ∙ ap (sets l at) (sym (append-nil (cell_bytes (value_offsets (v ∷ vs) offset))))
+
+-- for the tactics
+pub ruleset list_ways = (list-none, list-few, list_put, cell_room)

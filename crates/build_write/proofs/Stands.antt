@@ -282,3 +282,6 @@ stand-apart out offset f j ys p k =
       parent-fits = k.parent-fits;
       low = k.low;
     }
+
+-- for the tactics
+pub ruleset any_ways = (any_none, any_some)

@@ -330,3 +330,8 @@ module _ (s out : List ℕ) (p : SubkeysProgress) (w : KeyProgress) (c : Subkeys
           counted = refl;
           longest = g ∙ ap (larger p.longest) (sym (ap (λ (y : List ℕ). 2 * length y) (sym u.named) ∙ name-bytes s w.name u.lies));
         }
+
+-- for the tactics
+pub ruleset start_ways = (key-opens, key-laid, opened-few, first-low, values-room, list-here, list-fits, started)
+
+pub ruleset finish_ways = (leaf-ready, under-known, own-inside, close-laid, end_fits, finished)

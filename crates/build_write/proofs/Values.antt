@@ -1,5 +1,5 @@
 -- The values of a key, read from its frames one after the other, and their cells.
-use Prim.Native.Nat.{ℕ, zero, suc, ◌+◌, ◌*◌, ◌%◌, ◌<◌, ◌≤◌}
+use Prim.Native.Nat.{ℕ, zero, suc, ◌+◌, ◌*◌, ◌%◌, ◌<◌, ◌≤◌, max}
 use native.Mathlib.Omega.{arith}
 use mathlib.Core.Path.{◌≡◌, refl, sym, ap, ap₂, subst, ◌∙◌}
 use mathlib.Core.Bool.{Bool, true, false}
@@ -34,6 +34,14 @@ larger-right a b p = let e = le-leb a b p in rw e
 pub larger-left : (a b : ℕ) → b < a → larger a b ≡ a
 unfolding larger
 larger-left a b p = let e = lt-leb a b p in rw e
+
+-- what std's `max` gives
+pub max-larger : (a b : ℕ) → max a b ≡ larger a b
+max-larger a b = by (leb a b) refl
+  where
+    by : (t : Bool) → leb a b ≡ t → max a b ≡ larger a b
+    by true e = let p = leb-true a b e in let h = larger-right a b p in omega arith
+    by false e = let p = leb-false a b e in let h = larger-left a b p in omega arith
 
 larger-first : (a b : ℕ) → a ≤ larger a b
 larger-first a b = by (leb a b) refl
@@ -363,3 +371,6 @@ all-written s at first offset now w g none vs t h = by (g vs t h).0 (g vs t h).1
     by : (rest : List Item) → ValuesHere s w.at rest t → Kept at offset first now vs rest w → AllWritten at offset first now vs w
     by [] x k = nothing_left at first offset now w vs k
     by (v ∷ rest) x k = absurd (never (is_value (shape_of (drop w.at s))) (value-is-one _ v (first-shape s w.at v rest t x)) none)
+
+-- for the tactics
+pub ruleset held_ways = (value-is-one, held_fits, holding-laid, next-held, one_more, max-larger)

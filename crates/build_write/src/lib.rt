@@ -7,7 +7,7 @@ ghost use Rattle.std.proofs.lemmas.List.Edits.{sets};
 ghost use Rattle.names.specs.Hashing.{hash_of};
 ghost use Rattle.forest.specs.Forest.{Item, Forest, count_of};
 ghost use Rattle.forest.specs.Faults.{holds, shape_of, is_laid};
-ghost use Rattle.layout.specs.Layout.{row_bytes, value_cells, value_size, value_offsets, list_cells, if_any, size_of, beside_at, cell_bytes, key_record, elements, leaf_cells, built_hive, larger};
+ghost use Rattle.layout.specs.Layout.{row_bytes, value_cells, value_size, value_offsets, list_cells, if_any, size_of, beside_at, cell_bytes, key_record, elements, leaf_cells, built_hive};
 ghost use Rattle.build_frames.specs.Terms.{item_in, HeldFits};
 ghost use Rattle.build_write.specs.Terms.{is_value, is_opening, Holding, Opened, Room, ValuesHere, SomeValues, SomeNext, OneMore, AllWritten, SomeListed, ListedMore, SomeOffsets, SomeList, KeyStands, SomeKey, KeysStand, SomeElement, ElementMore, SomeElements, SomeLeaf, KeyHere, SomeStart, Started, Known, SomeKnown, Under, SomeUnder, Finished, ForestHere, SomeForest, ForestWritten, Planned, SomePlan};
 
@@ -15,6 +15,7 @@ use build_cells::KeyFields;
 use build_frames::{Held, Opening, Text};
 
 // Whether the frame at a position is a value: its kind tells, for it is laid out as a frame.
+#[tactic(auto, using(crate::proofs::Frames::kind_ways))]
 fn is_value(s: &[u8], at: usize) -> bool
     requires { is_laid (shape_of (drop at s.now)) ≡ true }
     ensures { result ≡ is_value (shape_of (drop at s.now)) }
@@ -23,6 +24,7 @@ fn is_value(s: &[u8], at: usize) -> bool
 }
 
 // The value of the frame at a position, which is one.
+#[tactic(auto, using(crate::proofs::Frames::value_ways))]
 fn held_at(s: &[u8], at: usize) -> Held
     requires { is_value (shape_of (drop at s.now)) ≡ true }
     ensures { Holding s.now at result }
@@ -30,28 +32,17 @@ fn held_at(s: &[u8], at: usize) -> Held
     let len = fields::u32_at(s, at) as usize;
     let start = at + 6;
     let n = fields::u32_at(s, start + 4) as usize;
-    let name = Text {
-        at: start + 8,
-        len: n,
-    };
-    let data = Text {
-        at: start + 8 + n,
-        len: len - 8 - n,
-    };
     Held {
         kind: fields::u32_at(s, start),
-        name,
-        data,
+        name: Text {
+            at: start + 8,
+            len: n,
+        },
+        data: Text {
+            at: start + 8 + n,
+            len: len - 8 - n,
+        },
     }
-}
-
-fn larger(a: usize, b: usize) -> usize
-    ensures { result ≡ larger a b }
-{
-    if a <= b {
-        return b;
-    }
-    a
 }
 
 // A value: its `vk` cell, then the cells of its data. Where they end.
@@ -60,17 +51,14 @@ fn put_held(s: &[u8], v: Held, out: &mut [u8], offset: usize) -> usize
     ensures out_after { out.new ≡ sets out.old (4096 + offset) (row_bytes (value_cells (item_in s.now v) offset)) }
     ensures value { result ≡ offset + value_size (item_in s.now v) }
 {
-    let kind = v.kind;
-    let name = v.name;
-    let data = v.data;
-    let narrow = build_frames::is_narrow(s, name);
-    let next = offset + build_frames::cell_size(20 + build_frames::stored_by(name, narrow));
-    let body = build_frames::part_of(s, data);
+    let narrow = build_frames::is_narrow(s, v.name);
+    let next = offset + build_frames::cell_size(20 + build_frames::stored_by(v.name, narrow));
+    let body = build_frames::part_of(s, v.data);
     build_cells::put_value(
-        build_frames::part_of(s, name),
+        build_frames::part_of(s, v.name),
         narrow,
         body,
-        kind,
+        v.kind,
         out,
         4096 + offset,
         offset,
@@ -90,20 +78,19 @@ pub struct Written {
 }
 
 // One value more.
+#[tactic(auto, using(crate::proofs::Values::held_ways))]
 fn put_next(s: &[u8], w: Written, out: &mut [u8]) -> Written
     requires { SomeNext s.now w (length out.old) }
     ensures { (v : Item) → shape_of (drop w.at s.now) ≡ holds v → OneMore s.now w out.old out.new v result }
 {
     let v = held_at(s, w.at);
-    let name = v.name.len;
-    let data = v.data.len;
     let end = put_held(s, v, out, w.offset);
     Written {
         at: build_frames::frame_end(s, w.at),
         count: w.count + 1,
         offset: end,
-        longest_name: larger(w.longest_name, name),
-        longest_data: larger(w.longest_data, data),
+        longest_name: w.longest_name.max(v.name.len),
+        longest_data: w.longest_data.max(v.data.len),
     }
 }
 
@@ -134,6 +121,7 @@ struct Listing {
 }
 
 // One offset more.
+#[tactic(auto, using(crate::proofs::Values::held_ways))]
 fn list_next(s: &[u8], p: Listing, out: &mut [u8]) -> Listing
     requires { SomeListed s.now p (length out.old) }
     ensures { (v : Item) → shape_of (drop p.at s.now) ≡ holds v → ListedMore s.now p out.old out.new v result }
@@ -163,34 +151,34 @@ fn put_offsets(s: &[u8], at: usize, out: &mut [u8], place: usize, first: usize)
 }
 
 // The value list, the offsets of the `vk` cells, of so many values, where there are any.
+#[tactic(auto, using(crate::proofs::Lists::list_ways))]
 pub fn put_list(s: &[u8], at: usize, n: usize, out: &mut [u8], list: usize, first: usize)
     requires { SomeList s.now at n list first (length out.old) }
     ensures { (vs : List Item) (t : List ℕ) → ValuesHere s.now at vs t → n ≡ length vs → out.new ≡ sets out.old (4096 + list) (row_bytes (list_cells vs first)) }
 {
-    if n == 0 {
-        return;
+    if n != 0 {
+        let place = 4096 + list;
+        let len = 4 * n;
+        build_cells::put_size(out, place, len);
+        put_offsets(s, at, out, place + 4, first);
+        build_cells::put_pad(out, place, len);
     }
-    let place = 4096 + list;
-    let len = 4 * n;
-    build_cells::put_size(out, place, len);
-    put_offsets(s, at, out, place + 4, first);
-    build_cells::put_pad(out, place, len);
 }
 
 // The key that the frame at a position opens.
+#[tactic(auto, using(crate::proofs::Frames::opening_ways))]
 fn opening_at(s: &[u8], at: usize) -> Opening
     requires { is_opening (shape_of (drop at s.now)) ≡ true }
     ensures { Opened s.now at result }
 {
     let len = fields::u32_at(s, at) as usize;
     let start = at + 6;
-    let name = Text {
-        at: start + 8,
-        len: len - 8,
-    };
     Opening {
         stamp: fields::u64_at(s, start),
-        name,
+        name: Text {
+            at: start + 8,
+            len: len - 8,
+        },
     }
 }
 
@@ -201,15 +189,14 @@ fn key_end(out: &[u8], offset: usize) -> usize
 {
     let cell = 4100 + offset;
     let subkeys = fields::u32_at(out, cell + 20) as usize;
-    if subkeys != 0 {
-        return fields::u32_at(out, cell + 28) as usize + build_frames::leaf_size(subkeys);
-    }
     let values = fields::u32_at(out, cell + 36) as usize;
-    if values != 0 {
-        return fields::u32_at(out, cell + 40) as usize + build_frames::list_size(values);
+    if subkeys != 0 {
+        fields::u32_at(out, cell + 28) as usize + build_frames::leaf_size(subkeys)
+    } else if values != 0 {
+        fields::u32_at(out, cell + 40) as usize + build_frames::list_size(values)
+    } else {
+        offset + build_frames::cell_size(76 + usize::from(fields::u16_at(out, cell + 72)))
     }
-    let len = fields::u16_at(out, cell + 72) as usize;
-    offset + build_frames::cell_size(76 + len)
 }
 
 // The hash of its name.
@@ -220,7 +207,7 @@ fn key_hash(out: &[u8], offset: usize) -> u32
     let cell = 4100 + offset;
     let narrow = records::is_flagged(fields::u16_at(out, cell + 2), 32);
     let start = cell + 76;
-    let end = start + fields::u16_at(out, cell + 72) as usize;
+    let end = start + usize::from(fields::u16_at(out, cell + 72));
     names::hash(&out[start..end], narrow)
 }
 
@@ -253,6 +240,7 @@ fn put_elements(out: &mut [u8], place: usize, first: usize, n: usize)
     requires { SomeElements out.old place first n }
     ensures { (f : Forest) → KeysStand out.old first f → n ≡ count_of f → 4096 + first + size_of f ≤ place → out.new ≡ sets out.old place (elements f first) }
 {
+    // `left` is counted by hand, for specs/Terms.antt says by it what a turn asks and gives; a `for` beside it would count twice.
     let mut p = Elements {
         left: n,
         offset: first,
@@ -264,42 +252,38 @@ fn put_elements(out: &mut [u8], place: usize, first: usize, n: usize)
 }
 
 // The `lh` leaf, the count, and for each subkey its offset and the hash of its name, of so many subkeys, whose cells are written, where there are any.
+#[tactic(auto, using(crate::proofs::Leaves::leaf_ways))]
 pub fn put_leaf(out: &mut [u8], first: usize, n: usize, leaf: usize)
     requires { SomeLeaf out.old first n leaf }
     ensures { (f : Forest) → KeysStand out.old first f → n ≡ count_of f → first + size_of f ≤ leaf → out.new ≡ sets out.old (4096 + leaf) (row_bytes (leaf_cells f first)) }
 {
-    if n == 0 {
-        return;
+    if n != 0 {
+        let place = 4096 + leaf;
+        let len = 4 + 8 * n;
+        build_cells::put_size(out, place, len);
+        fields::put_u16(out, place + 4, 26732);
+        fields::put_u16(out, place + 6, n as u16);
+        put_elements(out, place + 8, first, n);
+        build_cells::put_pad(out, place, len);
     }
-    let place = 4096 + leaf;
-    let len = 4 + 8 * n;
-    build_cells::put_size(out, place, len);
-    fields::put_u16(out, place + 4, 26732);
-    fields::put_u16(out, place + 6, n as u16);
-    put_elements(out, place + 8, first, n);
-    build_cells::put_pad(out, place, len);
 }
 
 // Whether the frame at a position opens a key, by its kind too; behind the root's closing there is no frame.
+#[tactic(auto, using(crate::proofs::Frames::kind_ways))]
 fn is_opening(s: &[u8], at: usize) -> bool
     requires { (at ≤ length s.now) × (at < length s.now → is_laid (shape_of (drop at s.now)) ≡ true) }
     ensures { result ≡ is_opening (shape_of (drop at s.now)) }
 {
-    if at == s.len() {
-        return false;
-    }
-    fields::u16_at(s, at + 4) == 16
+    at < s.len() && fields::u16_at(s, at + 4) == 16
 }
 
 // An offset, or 0xFFFFFFFF where there is none.
+#[tactic(auto, using(crate::proofs::Stands::any_ways))]
 fn if_any(n: usize, at: usize) -> u32
     requires { at < 4294967296 }
     ensures { result ≡ if_any n at }
 {
-    if n == 0 {
-        return 4294967295;
-    }
-    at as u32
+    if n == 0 { u32::MAX } else { at as u32 }
 }
 
 // How far the keys below a key are written: the position of the next frame, the offset behind their cells, how many there are, and their longest name.
@@ -337,11 +321,9 @@ fn put_own(
     requires { SomeKnown s.now offset w c parent item (length out.old) }
     ensures { (sh : ℕ) (x : List ℕ) (vs : List Item) (b : Forest) → Known s.now offset w c sh x vs b → out.new ≡ sets out.old (4096 + offset) (cell_bytes (key_record sh x vs b offset parent item)) }
 {
-    let name = w.name;
-    let narrow = w.narrow;
     let list = w.offset - build_frames::list_size(w.count);
     let k = KeyFields {
-        flags: build_cells::key_flags(narrow, parent as u32),
+        flags: build_cells::key_flags(w.narrow, parent as u32),
         stamp: w.stamp,
         parent: parent as u32,
         subkeys: c.count as u32,
@@ -355,28 +337,28 @@ fn put_own(
     };
     build_cells::put_key(
         k,
-        build_frames::part_of(s, name),
-        narrow,
+        build_frames::part_of(s, w.name),
+        w.narrow,
         out,
         4096 + offset,
     );
 }
 
 // The values and the value list of the key at an offset.
+#[tactic(auto, using(crate::proofs::Trees::start_ways))]
 fn start_key(s: &[u8], at: usize, out: &mut [u8], offset: usize) -> KeyProgress
     requires { SomeStart s.now at offset (length out.old) }
     ensures { (n sh : ℕ) (x : List ℕ) (vs : List Item) (b : Forest) (t : List ℕ) → KeyHere s.now at n sh x vs b t → Started s.now offset out.old out.new sh x vs b t result }
 {
     let o = opening_at(s, at);
-    let name = o.name;
-    let narrow = build_frames::is_narrow(s, name);
-    let first = offset + build_frames::cell_size(76 + build_frames::stored_by(name, narrow));
+    let narrow = build_frames::is_narrow(s, o.name);
+    let first = offset + build_frames::cell_size(76 + build_frames::stored_by(o.name, narrow));
     let from = build_frames::frame_end(s, at);
     let w = put_values(s, from, out, first);
     put_list(s, from, w.count, out, w.offset, first);
     KeyProgress {
         stamp: o.stamp,
-        name,
+        name: o.name,
         narrow,
         at: w.at,
         count: w.count,
@@ -387,6 +369,7 @@ fn start_key(s: &[u8], at: usize, out: &mut [u8], offset: usize) -> KeyProgress
 }
 
 // The leaf and the own cell of the key at p, when its values, w, and the keys below it, c, are written.
+#[tactic(auto, using(crate::proofs::Trees::finish_ways))]
 fn finish_key(
     s: &[u8],
     p: SubkeysProgress,
@@ -399,14 +382,13 @@ fn finish_key(
     requires { SomeUnder s.now out.old p w c × (parent < 4294967296) × (item < 4294967296) }
     ensures { (n sh : ℕ) (x : List ℕ) (vs : List Item) (b : Forest) (t : List ℕ) → Under s.now out.old p w c n sh x vs b t → Finished s.now p parent item out.old out.new sh x vs b t result }
 {
-    let name = w.name;
     put_leaf(out, w.offset, c.count, c.offset);
     put_own(s, w, c, out, p.offset, parent, item);
     SubkeysProgress {
         at: build_frames::frame_end(s, c.at),
         offset: c.offset + build_frames::leaf_size(c.count),
         count: p.count + 1,
-        longest: larger(p.longest, name.len),
+        longest: p.longest.max(w.name.len),
     }
 }
 
@@ -454,11 +436,10 @@ pub fn put_hive(s: &[u8], descriptor: &[u8], keys: usize, total: usize, out: &mu
     requires { SomePlan s.now descriptor.now keys total (length out.old) }
     ensures { (f : Forest) → Planned s.now descriptor.now keys total (length out.old) f → out.new ≡ sets out.old 0 (built_hive f descriptor.now) }
 {
-    let o = opening_at(s, 0);
-    let stamp = o.stamp;
+    let stamp = opening_at(s, 0).stamp;
     let item = 32 + total;
     let used = item + build_frames::cell_size(20 + descriptor.len());
-    let size = (used + 4095) / 4096 * 4096;
+    let size = used.next_multiple_of(4096);
     build_cells::put_base(out, stamp, size as u32);
     build_cells::put_header(out, stamp, size as u32);
     put_keys(s, 0, out, 32, 4294967295, item, 513);

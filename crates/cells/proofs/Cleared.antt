@@ -8,8 +8,6 @@ use lib.Dec.{ltb, eqb}
 use lib.ListN.{length, drop, replicate, length-replicate, length-append, length-drop}
 use lib.Seq.{drop_at}
 use borrow.Author.Tests.{ltb-true, ltb-false, eqb-true, eqb-false}
-use Rattle.cells.specs.declared.Surveyed.{Surveyed}
-use Rattle.cells.specs.declared.Surveyed.TheVariants.{Tiled, Flawed}
 use Rattle.cells.specs.Tiling.{Tiling, tiling, row_of, bin_size, Layout, last, bad_bin, bin, layout_n, layout}
 use Rattle.bitmap.specs.Bits.{zeros}
 use Rattle.cells.specs.Map.{marks, is_bad, marks_all, map_after}
@@ -17,6 +15,9 @@ use Rattle.cells.proofs.Bit.{tiling-placed}
 use Rattle.cells.proofs.Total.{length-marks}
 use Rattle.cells.proofs.Beyond.{drop-marks}
 use Rattle.cells.proofs.Turns.{Sized, sized, at_n, fault_n, step_n_lem}
+use Rattle.cells.specs.declared.Tally.{Tally}
+use Rattle.fields.specs.declared.Flaw.{Flaw}
+use Rattle.std.specs.Prelude.{Err, Ok, Result}
 
 drop_all : (n k : ℕ) (d : List ℕ) (at : ℕ) → length d ≤ n * 64 → at % 4096 ≡ 0 → (m : List ℕ) → drop n (marks_all (layout_n k d at) m) ≡ drop n m
 unfolding marks_all layout_n
@@ -59,14 +60,14 @@ cleared n d m le =
     (beyond n d (zeros n m) le ∙ drop_at (replicate n 0) (drop n m) n (length-replicate n 0))
 
 -- the map after a pass does not depend on what its first bytes held
-module _ (d : List ℕ) (s : Surveyed) where
+module _ (d : List ℕ) (s : Result Tally Flaw) where
   pub over : (a b : List ℕ) → drop (length d / 64) a ≡ drop (length d / 64) b → map_after d s a ≡ map_after d s b
   unfolding map_after zeros
   over a b e = by s
     where
-      by : (r : Surveyed) → map_after d r a ≡ map_after d r b
-      by (Tiled t) = rw e
-      by (Flawed f) = rw e
+      by : (r : Result Tally Flaw) → map_after d r a ≡ map_after d r b
+      by (Ok t) = rw e
+      by (Err f) = rw e
 
   module _ (m : List ℕ) (le : length d ≤ length d / 64 * 64) where
     pub after-beyond : drop (length d / 64) (map_after d s m) ≡ drop (length d / 64) m
@@ -76,9 +77,9 @@ module _ (d : List ℕ) (s : Surveyed) where
         zeroed : drop (length d / 64) (replicate (length d / 64) 0 ++ drop (length d / 64) m) ≡ drop (length d / 64) m
         zeroed = drop_at (replicate (length d / 64) 0) (drop (length d / 64) m) (length d / 64) (length-replicate (length d / 64) 0)
 
-        by : (r : Surveyed) → drop (length d / 64) (map_after d r m) ≡ drop (length d / 64) m
-        by (Tiled t) = beyond (length d / 64) d (zeros (length d / 64) m) le ∙ zeroed
-        by (Flawed f) = zeroed
+        by : (r : Result Tally Flaw) → drop (length d / 64) (map_after d r m) ≡ drop (length d / 64) m
+        by (Ok t) = beyond (length d / 64) d (zeros (length d / 64) m) le ∙ zeroed
+        by (Err f) = zeroed
 
     -- so a second pass leaves it as it is
     pub again : map_after d s (map_after d s m) ≡ map_after d s m
@@ -101,6 +102,6 @@ module _ (d : List ℕ) (s : Surveyed) where
         zeroed : length (replicate (length d / 64) 0 ++ drop (length d / 64) m) ≡ length m
         zeroed = simp (length-append, length-replicate, length-drop) (omega arith)
 
-        by : (r : Surveyed) → length (map_after d r m) ≡ length m
-        by (Tiled t) = length-all (layout d 0) (zeros (length d / 64) m) ∙ zeroed
-        by (Flawed f) = zeroed
+        by : (r : Result Tally Flaw) → length (map_after d r m) ≡ length m
+        by (Ok t) = length-all (layout d 0) (zeros (length d / 64) m) ∙ zeroed
+        by (Err f) = zeroed

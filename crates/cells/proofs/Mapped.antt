@@ -9,16 +9,12 @@ use lib.Dec.{eqb}
 use lib.ListN.{length, drop, replicate, length-replicate, get_or-replicate, length-append, length-take, length-drop, get_or-append}
 use borrow.Author.Tests.{eq-eqb, eqb-true, eqb-false, le-leb}
 use Rattle.fields.specs.declared.Offset.{Offset}
-use Rattle.fields.specs.declared.Verdict.{Verdict}
-use Rattle.fields.specs.declared.Verdict.TheVariants.{Sound, Flawed}
 use Rattle.fields.specs.Number.{size_at}
 use Rattle.fields.proofs.Bools.{and_both}
 use Rattle.base.specs.Block.{sector, bins_of, bins_data}
 use Rattle.base.proofs.Laws.{base-facts}
-use Rattle.cells.specs.declared.Found.TheVariants.{Named}
 use Rattle.cells.specs.declared.Rule.TheVariants.{Map, Header}
 use Rattle.cells.specs.declared.Tally.{Tally}
-use Rattle.cells.specs.declared.Surveyed.TheVariants.{Tiled}
 use Rattle.cells.specs.Tiling.{tiling, layout, survey_of}
 use Rattle.bitmap.specs.Bits.{bit, zeros}
 use Rattle.cells.specs.Map.{marks, is_bad, marks_all, map_after, is_marked, starts_in}
@@ -34,6 +30,8 @@ use Rattle.cells.proofs.Marked.{marked-odd, marked-set}
 use Rattle.cells.proofs.Naming.{names, sound-names}
 use Rattle.cells.proofs.Fronts.{front-facts, survey-front, survey-on}
 use Rattle.cells.proofs.Tiles.{row-sums, of-header, of-header-some, starts-exactly, wholly-inside, tiled-exactly, total}
+use Rattle.fields.specs.Faults.{Verdict}
+use Rattle.std.specs.Prelude.{Err, Ok}
 
 module _ (d : List ℕ) where
   bits-from : {at : ℕ} → at % 4096 ≡ 0 → BinsTile d at → (m : List ℕ) → length d ≤ length m * 64 → (k : ℕ)
@@ -110,24 +108,24 @@ module _ (d : List ℕ) where
       (λ e. (starts-exactly d o).0 (sym w ∙ e), λ u. w ∙ (starts-exactly d o).1 u)
 
   -- the header's rule names them too, with the same bounds
-  header-names : BinsTile d 0 → (m : List ℕ) (o : Offset) → InUse d o → cell_of Header d m o ≡ Named (cell_at d o)
+  header-names : BinsTile d 0 → (m : List ℕ) (o : Offset) → InUse d o → cell_of Header d m o ≡ Ok (cell_at d o)
   unfolding cell_of by_header
   header-names b m o e = rw (in_use b o e)
 
-  pub header-sound : BinsTile d 0 → (m : List ℕ) (o : Offset) → InUse d o → cell_fault Header d m o ≡ Sound
+  pub header-sound : BinsTile d 0 → (m : List ℕ) (o : Offset) → InUse d o → cell_fault Header d m o ≡ Ok tt
   unfolding cell_fault
   header-sound b m o e = rw (header-names b m o e)
 
   -- the map names exactly the cells in use
   module _ (b : BinsTile d 0) (m : List ℕ) (mapped : Mapped d m) (o : Offset) where
-    map-names : InUse d o → cell_of Map d m o ≡ Named (cell_at d o)
+    map-names : InUse d o → cell_of Map d m o ≡ Ok (cell_at d o)
     unfolding cell_of by_header
     map-names e =
         let n = in_use b o e in
         let r = names d o.0 n in
         rw ((mapped o (omega (arith, r.room))).1 e, n)
 
-    pub sound-in-use : cell_fault Map d m o ≡ Sound → InUse d o
+    pub sound-in-use : cell_fault Map d m o ≡ Ok tt → InUse d o
     unfolding cell_fault cell_of
     sound-in-use e =
         let r = sound-names Map d m o e in
@@ -137,7 +135,7 @@ module _ (d : List ℕ) where
         marked true f = f
         marked false f = let z : ◌≡◌ {A = ℕ} 0 1 = cc in absurd (omega arith)
 
-    pub in-use-sound : InUse d o → cell_fault Map d m o ≡ Sound
+    pub in-use-sound : InUse d o → cell_fault Map d m o ≡ Ok tt
     unfolding cell_fault
     in-use-sound e = rw (map-names e)
 
@@ -145,32 +143,32 @@ module _ (d : List ℕ) where
 pub record After (h m : List ℕ) (t : Tally) : Type 0 where
   pub tiles : BinsTile (bins_data h) 0
   pub mapped : Mapped (bins_data h) (map_left h m)
-  pub counts : survey_of (layout (bins_data h) 0) 0 0 0 ≡ Tiled t
+  pub counts : survey_of (layout (bins_data h) 0) 0 0 0 ≡ Ok t
   pub adds : 32 * t.bins + t.used + t.free ≡ length (bins_data h)
 
-after-tiled : (d : List ℕ) (t : Tally) (m : List ℕ) → map_after d (Tiled t) m ≡ marks_all (layout d 0) (zeros (length d / 64) m)
+after-tiled : (d : List ℕ) (t : Tally) (m : List ℕ) → map_after d (Ok t) m ≡ marks_all (layout d 0) (zeros (length d / 64) m)
 unfolding map_after
 after-tiled d t m = refl
 
 module _ (h m : List ℕ) (t : Tally) where
-  pub surveyed : survey_answer h (length m) ≡ Tiled t → (front_fault h (length m) ≡ Sound) × After h m t
+  pub surveyed : survey_answer h (length m) ≡ Ok t → (front_fault h (length m) ≡ Ok tt) × After h m t
   surveyed e = by (front_fault h (length m)) refl
     where
-      by : (v : Verdict) → front_fault h (length m) ≡ v → (front_fault h (length m) ≡ Sound) × After h m t
-      by (Flawed f) p =
+      by : (v : Verdict) → front_fault h (length m) ≡ v → (front_fault h (length m) ≡ Ok tt) × After h m t
+      by (Err f) p =
           let s = sym (survey-front h m p).0 ∙ e in
           let z : ◌≡◌ {A = ℕ} 0 1 = cc in
           absurd (omega arith)
-      by Sound p = (p, after p)
+      by (Ok tt) p = (p, after p)
         where
-          after : front_fault h (length m) ≡ Sound → After h m t
+          after : front_fault h (length m) ≡ Ok tt → After h m t
           after p =
               let d = bins_data h in
               let f = front-facts h (length m) p in
               let b = base-facts h f.0 in
               let n : length d ≡ bins_of (sector h) = simp (length-take, length-drop) (omega (arith, b.inside)) in
               let s = survey-on h m d (survey_of (layout d 0) 0 0 0) p refl refl in
-              let c : survey_of (layout d 0) 0 0 0 ≡ Tiled t = sym s.0 ∙ e in
+              let c : survey_of (layout d 0) 0 0 0 ≡ Ok t = sym s.0 ∙ e in
               let w : length d % 4096 ≡ 0 = omega (arith, b.size.pages) in
               let i = (tiled-exactly d w).0 (t, c) in
               record { tiles = i; mapped = rw (s.1, c, after-tiled d t m) (map-mapped d i w m (omega (arith, f.1))); counts = c; adds = total d i c }

@@ -11,13 +11,13 @@ use lib.Seq.{get_or-take, get_or-drop, ext_get_or}
 use borrow.Author.Tests.{eq-eqb, ne_eqb, eqb-true, eqb-false}
 use Rattle.fields.specs.declared.Offset.{Offset}
 use Rattle.fields.specs.declared.Place.{Place}
-use Rattle.fields.specs.declared.Verdict.TheVariants.{Sound}
 use Rattle.fields.specs.Number.{u16_at, u32_at, u64_at, size_at}
 use Rattle.fields.specs.Position.{place_of}
 use Rattle.base.specs.Block.{sector, bins_of, bins_data, base_fault}
 use Rattle.base.proofs.Laws.{base-facts}
 use Rattle.cells.specs.Named.{data_at, data_of, part_in, part_place}
 use Rattle.cells.specs.Terms.{PartIn}
+use Rattle.std.specs.Prelude.{Ok}
 
 pub part_length : (d : List ℕ) (at len : ℕ) → at + len ≤ length d → length (take len (drop at d)) ≡ len
 part_length d at len h = simp (length-take, length-drop) (omega arith)
@@ -109,7 +109,7 @@ module _ (o : Offset) (at len : ℕ) where
   unfolding part_place
   place-some p = rw (ne_eqb (at + len) 0 p)
 
-  module _ (h : List ℕ) (e : base_fault h ≡ Sound) (p : at + len ≤ length (data_at (bins_data h) o)) where
+  module _ (h : List ℕ) (e : base_fault h ≡ Ok tt) (p : at + len ≤ length (data_at (bins_data h) o)) where
     pub place-room : (part_place o at len).0 + len ≤ length h
     place-room = by (eqb (at + len) 0) refl
       where

@@ -13,16 +13,15 @@ use Rattle.fields.specs.declared.Size.{Size}
 use Rattle.fields.specs.Number.{u32_at, size_at}
 use Rattle.fields.specs.Bytes.{stands_at}
 use Rattle.fields.proofs.Bools.{and-inv}
-use Rattle.cells.specs.declared.Row.{Row}
-use Rattle.cells.specs.declared.Row.TheVariants.{Counted, Flawed}
 use Rattle.cells.specs.declared.Tally.{Tally}
-use Rattle.cells.specs.declared.Surveyed.TheVariants.{Tiled}
 use Rattle.cells.specs.Tiling.{good_size, tiling, row_of, bin_size, layout, add_row, survey_of}
 use Rattle.cells.specs.Map.{starts, starts_in}
 use Rattle.cells.specs.Tiled.{Good, CellsTile, cells-end, cell-on, Header, BinsTile, bins-end, bin-on, InCells, this-cell, later-cell, InBins, this-bin, later-bin, InUse, CellIn, InBin}
 use Rattle.cells.specs.Counts.{cells_of, cells_in, bin_count, used_bytes, free_bytes}
 use Rattle.cells.proofs.Steps.{good, of-good, done, fault, step}
 use Rattle.cells.proofs.Turns.{done as bins-done, fault as bins-fault, step as bins-step}
+use Rattle.fields.specs.declared.Flaw.{Flaw}
+use Rattle.std.specs.Prelude.{Err, Ok, Result}
 
 or_cases : (a b : Bool) → a || b ≡ true → (a ≡ true) ⊎ (b ≡ true)
 or_cases true b e = inl refl
@@ -61,7 +60,7 @@ counts_same p q r = rw (p, q, r)
 
 module _ (d : List ℕ) where
   -- cells that are counted tile their bin, by as many steps as are enough
-  pub tile-by : (k at end u f u' f' : ℕ) → end - at ≤ k → at ≤ end → row_of (tiling d at end) u f ≡ Counted u' f' → CellsTile d end at
+  pub tile-by : (k at end u f u' f' : ℕ) → end - at ≤ k → at ≤ end → row_of (tiling d at end) u f ≡ Ok (u', f') → CellsTile d end at
   unfolding row_of
   tile-by zero at end u f u' f' p q e = let s : end ≡ at = omega arith in subst (λ (x : ℕ). CellsTile d end x) s cells-end
   tile-by (suc k) at end u f u' f' p q e =
@@ -73,7 +72,7 @@ module _ (d : List ℕ) where
 
       by : (t : Bool) → ltb at end ≡ t → (g : Bool) → good_size n (end - at) ≡ g
           → (at < end → Good n (end - at)
-          → row_of (tiling d (at + n) end) (cond (size_at d at).used (u + n) u) (cond (size_at d at).used f (f + n)) ≡ Counted u' f'
+          → row_of (tiling d (at + n) end) (cond (size_at d at).used (u + n) u) (cond (size_at d at).used f (f + n)) ≡ Ok (u', f')
           → CellsTile d end (at + n))
           → CellsTile d end at
       by false x g y ih =
@@ -91,14 +90,14 @@ module _ (d : List ℕ) where
 
   -- and cells that tile a bin are counted: those in use and the free ones
   pub row-sums : {end at : ℕ} (t : CellsTile d end at) (u f : ℕ)
-      → row_of (tiling d at end) u f ≡ Counted (u + used_bytes (cells_of t)) (f + free_bytes (cells_of t))
+      → row_of (tiling d at end) u f ≡ Ok (u + used_bytes (cells_of t), f + free_bytes (cells_of t))
   unfolding row_of cells_of used_bytes free_bytes
-  row-sums {end = end} {at = at} cells-end u f = rw (done d end end (omega arith)) (ap₂ Counted (omega arith) (omega arith))
+  row-sums {end = end} {at = at} cells-end u f = rw (done d end end (omega arith)) (ap₂ (λ (x : ℕ) (y : ℕ). Ok (x, y)) (omega arith) (omega arith))
   row-sums {end = end} {at = at} (cell-on lt g t) u f =
       let z = size_at d at in
       rw (step d at end lt (of-good g))
       (row-sums t (cond z.used (u + z.bytes) u) (cond z.used f (f + z.bytes))
-      ∙ ap₂ Counted (add-used z.used u z.bytes (used_bytes (cells_of t))) (add_free z.used f z.bytes (free_bytes (cells_of t))))
+      ∙ ap₂ (λ (x : ℕ) (y : ℕ). Ok (x, y)) (add-used z.used u z.bytes (used_bytes (cells_of t))) (add_free z.used f z.bytes (free_bytes (cells_of t))))
 
   cells-order : {at end : ℕ} → CellsTile d end at → at ≤ end
   cells-order cells-end = omega arith
@@ -135,7 +134,7 @@ module _ (d : List ℕ) where
   of-header-some h e = let s = h.some in let z = of-header h in omega arith
 
   bins-by : (k at c u f : ℕ) {t : Tally} → length d - at ≤ k → at ≤ length d → at % 4096 ≡ 0 → length d % 4096 ≡ 0
-      → survey_of (layout d at) c u f ≡ Tiled t → BinsTile d at
+      → survey_of (layout d at) c u f ≡ Ok t → BinsTile d at
   unfolding survey_of add_row
   bins-by zero at c u f p q a l e = let s : at ≡ length d = omega arith in bins-end s
   bins-by (suc k) at c u f {t} p q a l e =
@@ -145,19 +144,19 @@ module _ (d : List ℕ) where
       n : ℕ
       n = bin_size d at
 
-      by : (x : Bool) → ltb at (length d) ≡ x → (y : Bool) → eqb n 0 ≡ y → (r : Row) → row_of (tiling d (at + 32) (at + n)) 0 0 ≡ r
-          → (at < length d → Header d at n → (u' f' : ℕ) → survey_of (layout d (at + n)) (c + 1) (u + u') (f + f') ≡ Tiled t → BinsTile d (at + n))
+      by : (x : Bool) → ltb at (length d) ≡ x → (y : Bool) → eqb n 0 ≡ y → (r : Result (ℕ × ℕ) Flaw) → row_of (tiling d (at + 32) (at + n)) 0 0 ≡ r
+          → (at < length d → Header d at n → (u' f' : ℕ) → survey_of (layout d (at + n)) (c + 1) (u + u') (f + f') ≡ Ok t → BinsTile d (at + n))
           → BinsTile d at
       by false x y g r s ih = let z = ltb-false at (length d) x in let w : at ≡ length d = omega arith in bins-end w
       by true x true g r s ih =
           let w = rw (bins-fault d at (ltb-true at (length d) x) (eqb-true n 0 g)) at e in
           let z : ◌≡◌ {A = ℕ} 0 1 = cc in
           absurd (omega arith)
-      by true x false g (Flawed flaw) s ih =
+      by true x false g (Err flaw) s ih =
           let w = rw (bins-step d at (ltb-true at (length d) x) (eqb-false n 0 g), s) at e in
           let z : ◌≡◌ {A = ℕ} 0 1 = cc in
           absurd (omega arith)
-      by true x false g (Counted u' f') s ih =
+      by true x false g (Ok (u', f')) s ih =
           let lt = ltb-true at (length d) x in
           let h = header_of at (eqb-false n 0 g) lt in
           bin-on n h (tile-by n (at + 32) (at + n) 0 0 u' f' (omega arith) (omega (arith, h.some, h.pages)) s)
@@ -165,22 +164,22 @@ module _ (d : List ℕ) where
 
   -- bins that tile are counted, and so are all their cells
   pub survey-sums : {at : ℕ} (b : BinsTile d at) (c u f : ℕ)
-      → survey_of (layout d at) c u f ≡ Tiled (record { bins = c + bin_count b; used = u + used_bytes (cells_in b); free = f + free_bytes (cells_in b) })
+      → survey_of (layout d at) c u f ≡ Ok (record { bins = c + bin_count b; used = u + used_bytes (cells_in b); free = f + free_bytes (cells_in b) })
   unfolding survey_of add_row cells_in bin_count used_bytes free_bytes
-  survey-sums {at} (bins-end e) c u f = rw (bins-done d at (omega arith)) (ap Tiled (counts_same (omega arith) (omega arith) (omega arith)))
+  survey-sums {at} (bins-end e) c u f = rw (bins-done d at (omega arith)) (ap Ok (counts_same (omega arith) (omega arith) (omega arith)))
   survey-sums {at} (bin-on n h t b) c u f =
       let lt : at < length d = omega (arith, h.some, h.inside) in
       rw (bins-step d at lt (of-header-some h), of-header h, row-sums t 0 0)
       (survey-sums b (c + 1) (u + (0 + used_bytes (cells_of t))) (f + (0 + free_bytes (cells_of t)))
-      ∙ ap Tiled
+      ∙ ap Ok
       (counts_same (omega arith) (omega (arith, used-append (cells_of t) (cells_in b))) (omega (arith, free-append (cells_of t) (cells_in b)))))
 
   -- bins and cells pass the tests 9 and 10 exactly when they tile the bins data
-  pub tiled-exactly : length d % 4096 ≡ 0 → ((t : Tally) × (survey_of (layout d 0) 0 0 0 ≡ Tiled t)) ↔ BinsTile d 0
+  pub tiled-exactly : length d % 4096 ≡ 0 → ((t : Tally) × (survey_of (layout d 0) 0 0 0 ≡ Ok t)) ↔ BinsTile d 0
   tiled-exactly l = (λ x. bins-by (length d) 0 0 0 0 (omega arith) (omega arith) refl l x.1, λ b. (_, survey-sums b 0 0 0))
 
   -- so the counts of a survey that accepts are those of the tiling
-  pub counts-are : {t : Tally} (b : BinsTile d 0) → survey_of (layout d 0) 0 0 0 ≡ Tiled t
+  pub counts-are : {t : Tally} (b : BinsTile d 0) → survey_of (layout d 0) 0 0 0 ≡ Ok t
       → (t.bins ≡ bin_count b) × (t.used ≡ used_bytes (cells_in b)) × (t.free ≡ free_bytes (cells_in b))
   counts-are {t} b e =
       let s = sym (survey-sums b 0 0 0) ∙ e in
@@ -203,7 +202,7 @@ module _ (d : List ℕ) where
       let s = bins-add b in
       omega (arith, cells-add t, used-append (cells_of t) (cells_in b), free-append (cells_of t) (cells_in b))
 
-  pub total : {t : Tally} → BinsTile d 0 → survey_of (layout d 0) 0 0 0 ≡ Tiled t → 32 * t.bins + t.used + t.free ≡ length d
+  pub total : {t : Tally} → BinsTile d 0 → survey_of (layout d 0) 0 0 0 ≡ Ok t → 32 * t.bins + t.used + t.free ≡ length d
   total b e = let s = bins-add b in let c = counts-are b e in omega (arith, c.0, c.1, c.2)
 
   -- ---- the cells in use

@@ -10,11 +10,10 @@ use borrow.Author.Tests.{lt-ltb, le-ltb, ltb-true, ltb-false, leb-true, eqb-true
 use Rattle.fields.specs.declared.Flaw.{Flaw}
 use Rattle.fields.specs.Number.{u32_at}
 use Rattle.fields.specs.Bytes.{stands_at}
-use Rattle.cells.specs.declared.Row.TheVariants.{Counted, Flawed}
-use Rattle.cells.specs.declared.Surveyed.TheVariants.{Flawed as Refused}
 use Rattle.cells.specs.Tiling.{tiling, row_of, bin_size, last, bad_bin, bin, layout_n, layout, add_row, survey_of}
 use Rattle.cells.specs.Map.{marks, is_bad, marks_all}
 use Rattle.cells.proofs.Total.{sum, length-marks}
+use Rattle.std.specs.Prelude.{Err, Ok}
 
 -- a bin's size is a multiple of 4096 and stays inside
 pub record Sized (n room : ℕ) : Type 0 where
@@ -115,7 +114,7 @@ module _ {d map₀ map : List ℕ} {at count used free : ℕ} (w : TilesLeft d m
   steps : (n ≡ 0 → ⊥) → layout d at ≡ bin at (tiling d (at + 32) (at + n)) (layout d (at + n))
   steps ne = rw is (step d at lt (rw is at ne))
 
-  pub walked : (n ≡ 0 → ⊥) → {u f : ℕ} → row_of (tiling d (at + 32) (at + n)) 0 0 ≡ Counted u f
+  pub walked : (n ≡ 0 → ⊥) → {u f : ℕ} → row_of (tiling d (at + 32) (at + n)) 0 0 ≡ Ok (u, f)
       → TilesLeft d map₀ (marks (tiling d (at + 32) (at + n)) map) (at + n) (count + 1) (used + u) (free + f)
   unfolding survey_of marks_all add_row is_bad
   walked ne {u} {f} e =
@@ -131,7 +130,7 @@ module _ {d map₀ map : List ℕ} {at count used free : ℕ} (w : TilesLeft d m
         bits = w.bits ∙ rw (steps ne, e);
       }
 
-  pub refused : (n ≡ 0 → ⊥) → {f : Flaw} → row_of (tiling d (at + 32) (at + n)) 0 0 ≡ Flawed f
-      → (survey_of (layout d 0) 0 0 0 ≡ Refused f) × (marks_all (layout d 0) map₀ ≡ marks (tiling d (at + 32) (at + n)) map)
+  pub refused : (n ≡ 0 → ⊥) → {f : Flaw} → row_of (tiling d (at + 32) (at + n)) 0 0 ≡ Err f
+      → (survey_of (layout d 0) 0 0 0 ≡ Err f) × (marks_all (layout d 0) map₀ ≡ marks (tiling d (at + 32) (at + n)) map)
   unfolding survey_of marks_all add_row is_bad
   refused ne e = (w.counts ∙ rw (steps ne, e), w.bits ∙ rw (steps ne, e))

@@ -10,12 +10,12 @@ use Rattle.fields.specs.declared.Size.{Size}
 use Rattle.fields.specs.Number.{u32_at, le32, size_at}
 use Rattle.fields.proofs.Little.{length-le32, u32-le}
 use Rattle.fields.proofs.Written.{size-used, size-free}
-use Rattle.cells.specs.declared.Surveyed.TheVariants.{Tiled}
 use Rattle.cells.specs.Tiling.{layout, survey_of}
 use Rattle.cells.specs.Named.{data_at, data_of}
 use Rattle.cells.specs.Tiled.{Good, CellsTile, cells-end, cell-on, Header, BinsTile, bins-end, bin-on, InCells, this-cell, later-cell, this-bin, InUse}
 use Rattle.cells.specs.Counts.{cells_of, cells_in, bin_count, used_bytes, free_bytes}
 use Rattle.cells.proofs.Tiles.{counts_same, used-append, free-append, survey-sums}
+use Rattle.std.specs.Prelude.{Ok}
 
 abbrev pub used_size : ℕ → Size
 used_size n = record { used = true; bytes = n }
@@ -101,7 +101,7 @@ module _ (d : List ℕ) where
     same_end = omega arith
 
     pub one-bin : {used free : ℕ} → Counts (length d) 32 used free
-        → BinsTile d 0 × (survey_of (layout d 0) 0 0 0 ≡ Tiled (record { bins = 1; used = used; free = free }))
+        → BinsTile d 0 × (survey_of (layout d 0) 0 0 0 ≡ Ok (record { bins = 1; used = used; free = free }))
     unfolding cells_in bin_count used_bytes free_bytes
     one-bin {used} {free} c =
         let k = subst (λ (e : ℕ). Counts e 32 used free) same_end c in
@@ -110,7 +110,7 @@ module _ (d : List ℕ) where
         let f = k.spare in (
           b,
           survey-sums d b 0 0 0
-              ∙ ap Tiled
+              ∙ ap Ok
               (counts_same (omega arith) (omega (arith, used-append (cells_of k.tiles) [])) (omega (arith, free-append (cells_of k.tiles) []))),
         )
 

@@ -1,12 +1,10 @@
 -- The work map: "bit b of byte j (lowest bit first) is set exactly when a cell in use starts at offset 64j + 8b; bytes beyond bins size / 64 stay".
-use Rattle.std.specs.Prelude.{ℕ, ◌/◌, ◌%◌, ◌^◌, Bool, true, false, cond, ◌&&◌, ◌||◌, List, eqb, length, get_or, set}
+use Rattle.std.specs.Prelude.{ℕ, ◌/◌, ◌%◌, ◌^◌, Bool, true, false, cond, ◌&&◌, ◌||◌, List, eqb, length, get_or, set, Err, Ok, Result}
 use Rattle.std.specs.Int.Bits.{bit_or}
 use Rattle.bitmap.specs.Bits.{zeros, is_marked as is_set}
-use Rattle.cells.specs.declared.Row.{Row}
-use Rattle.cells.specs.declared.Row.TheVariants.{Counted, Flawed}
-use Rattle.cells.specs.declared.Surveyed.{Surveyed}
-use Rattle.cells.specs.declared.Surveyed.TheVariants.{Tiled, Flawed as Refused}
 use Rattle.cells.specs.Tiling.{Tiling, whole, bad, cell, row_of, Layout, last, bad_bin, bin, layout}
+use Rattle.cells.specs.declared.Tally.{Tally}
+use Rattle.fields.specs.declared.Flaw.{Flaw}
 
 -- the map with the bit of an offset set
 unfoldable pub mark_at : List ℕ → ℕ → List ℕ
@@ -18,9 +16,9 @@ marks whole m = m
 marks (bad at) m = m
 marks (cell at z t) m = marks t (cond z.used (mark_at m at) m)
 
-unfoldable pub is_bad : Row → Bool
-is_bad (Flawed f) = true
-is_bad (Counted u f) = false
+unfoldable pub is_bad : Result (ℕ × ℕ) Flaw → Bool
+is_bad (Err f) = true
+is_bad (Ok (u, f)) = false
 
 unfoldable pub marks_all : Layout → List ℕ → List ℕ
 marks_all last m = m
@@ -30,9 +28,9 @@ marks_all (bin at t b) m =
     cond (is_bad (row_of t 0 0)) (marks t m) after
 
 -- "9 and 10 leave its first bins size / 64 bytes zero; later ones leave it complete"
-unfoldable pub map_after : List ℕ → Surveyed → List ℕ → List ℕ
-map_after d (Tiled t) m = marks_all (layout d 0) (zeros (length d / 64) m)
-map_after d (Refused f) m = zeros (length d / 64) m
+unfoldable pub map_after : List ℕ → Result Tally Flaw → List ℕ → List ℕ
+map_after d (Ok t) m = marks_all (layout d 0) (zeros (length d / 64) m)
+map_after d (Err f) m = zeros (length d / 64) m
 
 -- an offset is a multiple of 8, and its bit is set
 unfoldable pub is_marked : List ℕ → ℕ → Bool

@@ -1,20 +1,17 @@
 -- The cell in use that an offset names: by the work map in the check, and by the cell's own header in lookup.
-use Rattle.std.specs.Prelude.{ℕ, ◌+◌, ◌-◌, ◌%◌, Bool, cond, ◌&&◌, List, eqb, leb, length, take, drop}
+use Rattle.std.specs.Prelude.{ℕ, ◌+◌, ◌-◌, ◌%◌, Bool, cond, ◌&&◌, List, eqb, leb, length, take, drop, Err, Ok, Result}
 use Rattle.fields.specs.declared.Offset.{Offset}
 use Rattle.fields.specs.declared.Place.{Place}
 use Rattle.fields.specs.declared.Fault.TheVariants.{NoCell}
-use Rattle.fields.specs.declared.Verdict.{Verdict}
-use Rattle.fields.specs.declared.Verdict.TheVariants.{Sound, Flawed}
 use Rattle.fields.specs.Number.{size_at}
-use Rattle.fields.specs.Faults.{flaw}
+use Rattle.fields.specs.Faults.{flaw, Verdict}
 use Rattle.fields.specs.Position.{place_of}
 use Rattle.cells.specs.declared.Cell.{Cell}
-use Rattle.cells.specs.declared.Found.{Found}
-use Rattle.cells.specs.declared.Found.TheVariants.{Named, Flawed as Missing}
 use Rattle.cells.specs.declared.Rule.{Rule}
 use Rattle.cells.specs.declared.Rule.TheVariants.{Map, Header}
 use Rattle.cells.specs.Tiling.{good_size}
 use Rattle.cells.specs.Map.{is_marked}
+use Rattle.fields.specs.declared.Flaw.{Flaw}
 
 -- "They have no map: here 11 means an offset below 32 or no multiple of 8, a size not negative or no nonzero multiple of 8, or a cell past the
 -- bins data."
@@ -26,18 +23,18 @@ is_named d o =
 abbrev pub cell_at : List ℕ → Offset → Cell
 cell_at d o = record { at = o; len = (size_at d o.0).bytes - 4 }
 
-unfoldable pub by_header : List ℕ → Offset → Found
-by_header d o = cond (is_named d o.0) (Named (cell_at d o)) (Missing (flaw NoCell o))
+unfoldable pub by_header : List ℕ → Offset → Result Cell Flaw
+by_header d o = cond (is_named d o.0) (Ok (cell_at d o)) (Err (flaw NoCell o))
 
 -- "11: offset names no cell in use": in the check, where the map has no bit for it
-unfoldable pub cell_of : Rule → List ℕ → List ℕ → Offset → Found
+unfoldable pub cell_of : Rule → List ℕ → List ℕ → Offset → Result Cell Flaw
 cell_of Header d m o = by_header d o
-cell_of Map d m o = cond (is_marked m o.0) (by_header d o) (Missing (flaw NoCell o))
+cell_of Map d m o = cond (is_marked m o.0) (by_header d o) (Err (flaw NoCell o))
 
 -- the test alone: sound where the offset names a cell
-abbrev pub verdict_of : Found → Verdict
-verdict_of (Named c) = Sound
-verdict_of (Missing f) = Flawed f
+abbrev pub verdict_of : Result Cell Flaw → Verdict
+verdict_of (Ok c) = Ok tt
+verdict_of (Err f) = Err f
 
 unfoldable pub cell_fault : Rule → List ℕ → List ℕ → Offset → Verdict
 cell_fault r d m o = verdict_of (cell_of r d m o)

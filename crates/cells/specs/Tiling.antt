@@ -1,14 +1,12 @@
 -- Bins tile the bins data, and cells tile the rest of each bin. d is the bins data.
-use Rattle.std.specs.Prelude.{ℕ, zero, suc, ◌+◌, ◌-◌, ◌%◌, Bool, cond, not, ◌&&◌, List, [], ◌∷◌, eqb, leb, ltb, length}
+use Rattle.std.specs.Prelude.{ℕ, zero, suc, ◌+◌, ◌-◌, ◌%◌, Bool, cond, not, ◌&&◌, List, [], ◌∷◌, eqb, leb, ltb, length, Err, Ok, Result}
 use Rattle.fields.specs.declared.Size.{Size}
 use Rattle.fields.specs.declared.Fault.TheVariants.{BinHeader, CellSize}
 use Rattle.fields.specs.Number.{u32_at, size_at}
 use Rattle.fields.specs.Bytes.{stands_at}
 use Rattle.fields.specs.Faults.{flaw}
-use Rattle.cells.specs.declared.Row.{Row}
-use Rattle.cells.specs.declared.Row.TheVariants.{Counted, Flawed}
-use Rattle.cells.specs.declared.Surveyed.{Surveyed}
-use Rattle.cells.specs.declared.Surveyed.TheVariants.{Tiled, Flawed as Refused}
+use Rattle.cells.specs.declared.Tally.{Tally}
+use Rattle.fields.specs.declared.Flaw.{Flaw}
 
 -- "the absolute value is a nonzero multiple of 8 and stays inside the bin", of which room bytes are left
 unfoldable pub good_size : ℕ → ℕ → Bool
@@ -32,9 +30,9 @@ unfoldable pub tiling : List ℕ → ℕ → ℕ → Tiling
 tiling d at end = tiling_n (end - at) d at end
 
 -- the bytes in use and the free bytes, added to those before; or "10: cell size", at the cell
-unfoldable pub row_of : Tiling → ℕ → ℕ → Row
-row_of whole used free = Counted used free
-row_of (bad at) used free = Flawed (flaw CellSize (record { 0 = at }))
+unfoldable pub row_of : Tiling → ℕ → ℕ → Result (ℕ × ℕ) Flaw
+row_of whole used free = Ok (used, free)
+row_of (bad at) used free = Err (flaw CellSize (record { 0 = at }))
 row_of (cell at z t) used free =
     row_of t (cond z.used (used + z.bytes) used) (cond z.used free (free + z.bytes))
 
@@ -66,11 +64,11 @@ unfoldable pub layout : List ℕ → ℕ → Layout
 layout d at = layout_n (length d - at) d at
 
 -- "then 9 and 10, bin by bin, header before cells": the first fault, or the counts, added to those before
-unfoldable pub add_row : Row → ℕ → ℕ → (ℕ → ℕ → Surveyed) → Surveyed
-add_row (Flawed f) used free go = Refused f
-add_row (Counted u f) used free go = go (used + u) (free + f)
+unfoldable pub add_row : Result (ℕ × ℕ) Flaw → ℕ → ℕ → (ℕ → ℕ → Result Tally Flaw) → Result Tally Flaw
+add_row (Err f) used free go = Err f
+add_row (Ok (u, f)) used free go = go (used + u) (free + f)
 
-unfoldable pub survey_of : Layout → ℕ → ℕ → ℕ → Surveyed
-survey_of last n used free = Tiled (record { bins = n; used = used; free = free })
-survey_of (bad_bin at) n used free = Refused (flaw BinHeader (record { 0 = at }))
+unfoldable pub survey_of : Layout → ℕ → ℕ → ℕ → Result Tally Flaw
+survey_of last n used free = Ok (record { bins = n; used = used; free = free })
+survey_of (bad_bin at) n used free = Err (flaw BinHeader (record { 0 = at }))
 survey_of (bin at t b) n used free = add_row (row_of t 0 0) used free (λ u f. survey_of b (n + 1) u f)

@@ -11,19 +11,14 @@ ghost use Rattle.cells.specs.Map.{mark_at, marks, marks_all, is_marked, map_afte
 ghost use Rattle.cells.specs.Named.{cell_of, data_of, data_at, data_to, part_in, part_place};
 ghost use Rattle.cells.specs.Survey.{front_fault, survey_answer, map_left};
 
-use fields::{Fault, Flaw, Offset, Place, Verdict};
+use fields::{Fault, Flaw, Offset, Place};
 
 // "the absolute value is a nonzero multiple of 8 and stays inside the bin", of which room bytes are left.
+#[tactic(auto, unfolding(crate::specs::Tiling::good_size))]
 fn good_size(n: usize, room: usize) -> bool
     ensures { result ≡ good_size n room }
 {
-    if n == 0 {
-        return false;
-    }
-    if n % 8 != 0 {
-        return false;
-    }
-    n <= room
+    n != 0 && n % 8 == 0 && n <= room
 }
 
 // Sets the bit of the cell in use at an offset; a map that does not reach there stays.
@@ -32,20 +27,12 @@ fn mark(map: &mut [u8], at: usize)
 {
     let j = at / 64;
     if j < map.len() {
-        let b = at / 8 % 8;
-        map[j] = map[j] | 1u8 << b;
+        map[j] |= 1 << (at / 8 % 8);
     }
 }
 
-// The cells of one bin: the bytes in use and the free bytes, or the fault.
-#[derive(Clone, Copy)]
-enum Row {
-    Counted { used: usize, free: usize },
-    Flawed(Flaw),
-}
-
 // Walks the cells from one offset to another, and sets the bit of each cell in use.
-fn tile(bins: &[u8], start: usize, end: usize, map: &mut [u8]) -> Row
+fn tile(bins: &[u8], start: usize, end: usize, map: &mut [u8]) -> Result<(usize, usize), Flaw>
     requires { Bin bins.now start end }
     ensures value { result ≡ row_of (tiling bins.now start end) 0 0 }
     ensures map_after { map.new ≡ marks (tiling bins.now start end) map.old }
@@ -57,7 +44,7 @@ fn tile(bins: &[u8], start: usize, end: usize, map: &mut [u8]) -> Row
         let c = fields::size_at(bins, at);
         let n = c.bytes as usize;
         if !good_size(n, end - at) {
-            return Row::Flawed(Flaw {
+            return Err(Flaw {
                 fault: Fault::CellSize,
                 place: Offset(at as u32),
             });
@@ -71,28 +58,25 @@ fn tile(bins: &[u8], start: usize, end: usize, map: &mut [u8]) -> Row
         }
         at = next;
     }
-    Row::Counted { used, free }
+    Ok((used, free))
 }
 
-// The size of the bin at an offset, or 0 where its header is bad.
+// The size of the bin at an offset, or 0 where its header is bad: the number that the layout of specs/Tiling.antt is made of.
+#[tactic(auto, unfolding(crate::specs::Tiling::bin_size))]
 fn bin_size(bins: &[u8], at: usize) -> usize
     requires { at + 32 ≤ length bins.now }
     ensures { result ≡ bin_size bins.now at }
 {
-    if !fields::stands_at(bins, at, b"hbin") {
-        return 0;
-    }
-    if fields::u32_at(bins, at + 4) as usize != at {
-        return 0;
-    }
     let n = fields::u32_at(bins, at + 8) as usize;
-    if n % 4096 != 0 {
-        return 0;
+    if fields::stands_at(bins, at, b"hbin")
+        && fields::u32_at(bins, at + 4) as usize == at
+        && n % 4096 == 0
+        && n <= bins.len() - at
+    {
+        n
+    } else {
+        0
     }
-    if bins.len() - at < n {
-        return 0;
-    }
-    n
 }
 
 // What the tiling counts.
@@ -103,14 +87,8 @@ pub struct Tally {
     pub free: usize,
 }
 
-#[derive(Clone, Copy)]
-pub enum Surveyed {
-    Tiled(Tally),
-    Flawed(Flaw),
-}
-
 // Walks the bins, header before cells, and sets the bit of each cell in use up to the first fault.
-fn tile_bins(bins: &[u8], map: &mut [u8]) -> Surveyed
+fn tile_bins(bins: &[u8], map: &mut [u8]) -> Result<Tally, Flaw>
     requires { Pages bins.now }
     ensures value { result ≡ survey_of (layout bins.now 0) 0 0 0 }
     ensures map_after { map.new ≡ marks_all (layout bins.now 0) map.old }
@@ -122,25 +100,19 @@ fn tile_bins(bins: &[u8], map: &mut [u8]) -> Surveyed
     while at < bins.len() {
         let n = bin_size(bins, at);
         if n == 0 {
-            return Surveyed::Flawed(Flaw {
+            return Err(Flaw {
                 fault: Fault::BinHeader,
                 place: Offset(at as u32),
             });
         }
         let next = at + n;
-        match tile(bins, at + 32, next, map) {
-            Row::Flawed(f) => {
-                return Surveyed::Flawed(f);
-            }
-            Row::Counted { used: u, free: f } => {
-                used += u;
-                free += f;
-            }
-        }
+        let (u, f) = tile(bins, at + 32, next, map)?;
+        used += u;
+        free += f;
         count += 1;
         at = next;
     }
-    Surveyed::Tiled(Tally {
+    Ok(Tally {
         bins: count,
         used,
         free,
@@ -148,7 +120,7 @@ fn tile_bins(bins: &[u8], map: &mut [u8]) -> Surveyed
 }
 
 // The same tests for a caller who has no map: the bits go where nobody reads them.
-pub fn count_tiles(bins: &[u8]) -> Surveyed
+pub fn count_tiles(bins: &[u8]) -> Result<Tally, Flaw>
     requires { Pages bins.now }
     ensures { result ≡ survey_of (layout bins.now 0) 0 0 0 }
 {
@@ -197,7 +169,7 @@ pub fn next_free(bins: &[u8], from: usize, end: usize) -> Gap
 }
 
 // The tests 9 and 10: one pass, with the map complete where the bins are good, else cleared.
-pub fn scan(bins: &[u8], map: &mut [u8]) -> Surveyed
+pub fn scan(bins: &[u8], map: &mut [u8]) -> Result<Tally, Flaw>
     requires { Data bins.now map.old }
     ensures value { result ≡ survey_of (layout bins.now 0) 0 0 0 }
     ensures map_after { map.new ≡ map_after bins.now result map.old }
@@ -205,39 +177,30 @@ pub fn scan(bins: &[u8], map: &mut [u8]) -> Surveyed
     let n = bins.len() / 64;
     bitmap::clear(map, n);
     let r = tile_bins(bins, map);
-    match r {
-        Surveyed::Tiled(_) => {}
-        Surveyed::Flawed(_) => {
-            bitmap::clear(map, n);
-        }
+    if r.is_err() {
+        bitmap::clear(map, n);
     }
     r
 }
 
 // The tests 1 to 8.
-fn front_flaw(hive: &[u8], room: usize) -> Verdict
+fn front_flaw(hive: &[u8], room: usize) -> Result<(), Flaw>
     ensures { result ≡ front_fault hive.now room }
 {
-    match base::base_flaw(hive) {
-        Verdict::Flawed(f) => Verdict::Flawed(f),
-        Verdict::Sound => {
-            if room < base::bins_size(&hive[0..512]) / 64 {
-                return fields::flawed(Fault::MapSmall, Offset(0));
-            }
-            Verdict::Sound
-        }
+    base::base_flaw(hive)?;
+    if room < base::bins_size(&hive[0..512]) / 64 {
+        return fields::flawed(Fault::MapSmall, Offset(0));
     }
+    Ok(())
 }
 
 // The tests 1 to 10, with the work map.
-pub fn survey(hive: &[u8], map: &mut [u8]) -> Surveyed
+pub fn survey(hive: &[u8], map: &mut [u8]) -> Result<Tally, Flaw>
     ensures value { result ≡ survey_answer hive.now (length map.old) }
     ensures map_after { map.new ≡ map_left hive.now map.old }
 {
-    match front_flaw(hive, map.len()) {
-        Verdict::Flawed(f) => Surveyed::Flawed(f),
-        Verdict::Sound => scan(base::bins_of(hive), map),
-    }
+    front_flaw(hive, map.len())?;
+    scan(base::bins_of(hive), map)
 }
 
 // "A cell starts with a signed 32-bit size": the data follow it.
@@ -250,47 +213,32 @@ pub struct Cell {
     pub len: usize,
 }
 
-#[derive(Clone, Copy)]
-pub enum Found {
-    Named(Cell),
-    Flawed(Flaw),
-}
-
-// How long the cell is that an offset names by its own header, or 0 where it names none. A number comes back in a register, a `Found` does not.
-#[tactic(auto, using(crate::proofs::Naming::low))]
+// How long the cell is that an offset names by its own header, or 0 where it names none. A number comes back in a register,
+// a `Result<Cell, Flaw>` does not.
+#[tactic(auto, unfolding(crate::specs::Terms::length_named, crate::specs::Named::is_named))]
 fn header_length(bins: &[u8], o: Offset) -> usize
     ensures { result ≡ length_named bins.now o.0 }
 {
     let at = o.0 as usize;
-    if at < 32 {
-        return 0;
-    }
-    if at % 8 != 0 {
-        return 0;
-    }
-    if bins.len() < at + 4 {
+    if at < 32 || at % 8 != 0 || bins.len() < at + 4 {
         return 0;
     }
     let c = fields::size_at(bins, at);
     let n = c.bytes as usize;
-    if !c.used {
-        return 0;
+    if c.used && good_size(n, bins.len() - at) {
+        n
+    } else {
+        0
     }
-    if !good_size(n, bins.len() - at) {
-        return 0;
-    }
-    n
 }
 
 // Whether the map has the bit of an offset set.
+#[tactic(auto, unfolding(crate::specs::Map::is_marked))]
 pub fn is_marked(map: &[u8], o: Offset) -> bool
     ensures { result ≡ is_marked map.now o.0 }
 {
     let at = o.0 as usize;
-    if at % 8 != 0 {
-        return false;
-    }
-    bitmap::is_marked(map, at / 8)
+    at % 8 == 0 && bitmap::is_marked(map, at / 8)
 }
 
 // By which rule an offset names a cell: the check has a map, and lookup goes by the cell's own header.
@@ -300,34 +248,29 @@ pub enum Rule {
     Header,
 }
 
-// The same by a rule.
+// The same by a rule, in a register too.
+#[tactic(auto, unfolding(crate::specs::Terms::length_by))]
 fn named_length(bins: &[u8], map: &[u8], rule: Rule, o: Offset) -> usize
     ensures { result ≡ length_by rule bins.now map.now o.0 }
 {
     match rule {
-        Rule::Header => header_length(bins, o),
-        Rule::Map => {
-            if is_marked(map, o) {
-                header_length(bins, o)
-            } else {
-                0
-            }
-        }
+        Rule::Map if !is_marked(map, o) => 0,
+        _ => header_length(bins, o),
     }
 }
 
 // The cell in use that an offset names, or 11 at that offset.
-pub fn find_cell(bins: &[u8], map: &[u8], rule: Rule, o: Offset) -> Found
+pub fn find_cell(bins: &[u8], map: &[u8], rule: Rule, o: Offset) -> Result<Cell, Flaw>
     ensures { result ≡ cell_of rule bins.now map.now o }
 {
     let n = named_length(bins, map, rule, o);
     if n == 0 {
-        return Found::Flawed(Flaw {
+        return Err(Flaw {
             fault: Fault::NoCell,
             place: o,
         });
     }
-    Found::Named(Cell {
+    Ok(Cell {
         at: o,
         len: n - SIZE_FIELD,
     })
@@ -339,8 +282,7 @@ pub fn cell_data(bins: &[u8], c: Cell) -> &[u8]
     ensures { result.now ≡ data_of bins.now c }
 {
     let start = c.at.0 as usize + SIZE_FIELD;
-    let end = start + c.len;
-    &bins[start..end]
+    &bins[start..start + c.len]
 }
 
 // What would be the data of a cell that starts at an offset and ends at another.
@@ -349,8 +291,7 @@ pub fn data_to(bins: &[u8], at: usize, end: usize) -> &[u8]
     requires end_in_bounds { end ≤ length bins.now }
     ensures { result.now ≡ data_to bins.now at end }
 {
-    let start = at + SIZE_FIELD;
-    &bins[start..end]
+    &bins[at + SIZE_FIELD..end]
 }
 
 // The first multiple of 8, from an offset on and up to an end, at which the data of a cell would have a byte at a position; or the end.
@@ -359,6 +300,7 @@ pub fn next_with(bins: &[u8], at: usize, end: usize, i: usize, byte: u8) -> usiz
     requires i_bound { i < 4 }
     ensures { Without bins.now at end i byte result }
 {
+    // A cursor: where it stops is the answer.
     let mut o = at;
     while o < end {
         if bins[o + SIZE_FIELD + i] == byte {
@@ -375,8 +317,7 @@ pub fn part_in(bins: &[u8], o: Offset, at: usize, len: usize) -> &[u8]
     ensures { result.now ≡ part_in bins.now o at len }
 {
     let start = o.0 as usize + SIZE_FIELD + at;
-    let end = start + len;
-    &bins[start..end]
+    &bins[start..start + len]
 }
 
 // A number in the data of a cell that was tested.
@@ -388,15 +329,14 @@ pub fn word_in(bins: &[u8], o: Offset, at: usize) -> u32
 }
 
 // Where in the file a part of a cell's data stands; what is no part, at 0.
+#[tactic(auto, unfolding(crate::specs::Named::part_place))]
 pub fn part_place(o: Offset, at: usize, len: usize) -> Place
     requires { at < 4294967296 }
     ensures { result ≡ part_place o at len }
 {
-    if 0 < at {
-        return Place(fields::to_place(o).0 + SIZE_FIELD + at);
+    if at == 0 && len == 0 {
+        Place(0)
+    } else {
+        Place(fields::to_place(o).0 + SIZE_FIELD + at)
     }
-    if 0 < len {
-        return Place(fields::to_place(o).0 + SIZE_FIELD);
-    }
-    Place(0)
 }

@@ -16,15 +16,17 @@ use Rattle.sectors.proofs.Pages.{page-other}
 use Rattle.logs.specs.Logs.{is_logged, versions_of, logged}
 use Rattle.logs.proofs.Laws.{logged-below, version-logged, version-length}
 use Rattle.recovery.specs.declared.Started.TheVariants.{Pages}
-use Rattle.recovery.specs.declared.Stepped.{Stepped}
-use Rattle.recovery.specs.declared.Stepped.TheVariants.{Clean, Done, Refused}
+use Rattle.recovery.specs.declared.Stepped.TheVariants.{Clean, Done}
 use Rattle.recovery.specs.Calls.{start_answer, page_answer, page_hive}
 use Rattle.recovery.proofs.Within.{Within, good, inside, page-done, page-stays, close-all}
 use Rattle.recovery.proofs.Ended.{end-page}
 use Rattle.crash.specs.Trace.{Sent, send, land, Read, Trace, but, landed_in, where_done, done_in, replayed_in, AllLanded}
 use Rattle.crash.proofs.Demand3.{File, Stores, Lids, keeps, memory-of, disk-file, land-keeps, land-in, land-other, read-any}
+use Rattle.fields.specs.declared.Refusal.{Refusal}
+use Rattle.recovery.specs.declared.Stepped.{Stepped}
+use Rattle.std.specs.Prelude.{Err, Ok, Result}
 
-module _ (h l : List ℕ) (n : ℕ) (ok : start_answer h l ≡ Pages n) (bytes : Bytes l) where
+module _ (h l : List ℕ) (n : ℕ) (ok : start_answer h l ≡ Ok (Pages n)) (bytes : Bytes l) where
   -- ---- a store that has landed is on the disk
 
   shut-page : {e c : Bool} {m : List ℕ} {q : List Sent} {k : List (List ℕ)} {d : List ℕ} → Trace h l e c m q k d → (b : List ℕ) → Memᴰ b k
@@ -85,12 +87,12 @@ module _ (h l : List ℕ) (n : ℕ) (ok : start_answer h l ≡ Pages n) (bytes :
   abbrev Came : List ℕ → List Sent → List ℕ → ℕ → Type 0
   Came done q d p = Memᴰ p done ⊎ (((s : Sent) × (s.number ≡ p) × Memᴰ s q) ⊎ (page d p ≡ logged l p))
 
-  more-done : (a : Stepped) (p r : ℕ) (done : List ℕ) → Memᴰ p done → Memᴰ p (where_done a r done)
-  more-done Clean p r done i = i
-  more-done Done p r done i = Memᴰ.tail i
-  more-done (Refused x) p r done i = i
+  more-done : (a : Result Stepped Refusal) (p r : ℕ) (done : List ℕ) → Memᴰ p done → Memᴰ p (where_done a r done)
+  more-done (Ok Clean) p r done i = i
+  more-done (Ok Done) p r done i = Memᴰ.tail i
+  more-done (Err x) p r done i = i
 
-  later : (a : Stepped) (p r : ℕ) (done : List ℕ) (q : List Sent) (d : List ℕ) → Came done q d p → Came (where_done a r done) q d p
+  later : (a : Result Stepped Refusal) (p r : ℕ) (done : List ℕ) (q : List Sent) (d : List ℕ) → Came done q d p → Came (where_done a r done) q d p
   later a p r done q d (inl i) = inl (more-done a p r done i)
   later a p r done q d (inr i) = inr i
 
@@ -113,7 +115,7 @@ module _ (h l : List ℕ) (n : ℕ) (ok : start_answer h l ≡ Pages n) (bytes :
     where
       go : Dec (p ≡ r) → Came (where_done (page_answer m l r) r done) q d p
       go (yes z) =
-          inl (subst (λ (a : Stepped). Memᴰ p (where_done a r done)) (sym (page-done h l n ok m w r (sym (ap (is_logged l) z) ∙ g))) (Memᴰ.head z))
+          inl (subst (λ (a : Result Stepped Refusal). Memᴰ p (where_done a r done)) (sym (page-done h l n ok m w r (sym (ap (is_logged l) z) ∙ g))) (Memᴰ.head z))
       go (no z) = later (page_answer m l r) p r done q d (old (sym (page-stays h l n ok m w r p z) ∙ i))
 
   -- memory as it was read

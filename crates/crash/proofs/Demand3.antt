@@ -24,8 +24,9 @@ use Rattle.recovery.proofs.Repair.{lid, finished-is, close-finishes, pages-withi
 use Rattle.recovery.proofs.Ended.{end-length, end-lid, end-page, end_clean, clean-page, clean_close}
 use Rattle.crash.specs.Trace.{Sent, send, land, Read, Trace, Open, Closed}
 use Rattle.crash.specs.Demand.{Until, Running, Landed}
+use Rattle.std.specs.Prelude.{Ok}
 
-module _ (h l : List ℕ) (n : ℕ) (ok : start_answer h l ≡ Pages n) (bytes : Bytes l) where
+module _ (h l : List ℕ) (n : ℕ) (ok : start_answer h l ≡ Ok (Pages n)) (bytes : Bytes l) where
   abbrev pub end : List ℕ
   end = finished h l
 
@@ -94,13 +95,13 @@ module _ (h l : List ℕ) (n : ℕ) (ok : start_answer h l ≡ Pages n) (bytes :
   file-calls true m (inr w) p = inr (end_stays m w p)
 
   -- a page call that is done is one of a logged page; the finished file's says clean
-  pub done-in : (m : List ℕ) → File true m → (p : ℕ) → page_answer m l p ≡ Done → (is_logged l p ≡ true) × (page (page_hive m l p) p ≡ logged l p)
+  pub done-in : (m : List ℕ) → File true m → (p : ℕ) → page_answer m l p ≡ Ok Done → (is_logged l p ≡ true) × (page (page_hive m l p) p ≡ logged l p)
   done-in m (inl w) p e = let k = done-logged h l n ok m w p e in (k, page-is h l n ok m w p k)
   done-in m (inr w) p e =
-      let clean : page_answer m l p ≡ Clean = ap (λ (x : List ℕ). page_answer x l p) w ∙ (clean-page end l (end_clean h l n ok bytes l) p).0 in
+      let clean : page_answer m l p ≡ (Ok Clean) = ap (λ (x : List ℕ). page_answer x l p) w ∙ (clean-page end l (end_clean h l n ok bytes l) p).0 in
       absurd (let z : ◌≡◌ {A = ℕ} 0 1 = cc in omega arith)
 
-  closed_is : (m : List ℕ) → File true m → close_answer m l ≡ Done → close_hive m l ≡ end
+  closed_is : (m : List ℕ) → File true m → close_answer m l ≡ Ok Done → close_hive m l ≡ end
   closed_is m (inl w) e = close-finishes h l n ok m w (close-all h l n ok m w e)
   closed_is m (inr w) e = ap (λ (x : List ℕ). close_hive x l) w ∙ (clean_close end l (end_clean h l n ok bytes l)).1
 
@@ -326,7 +327,7 @@ module _ (h l : List ℕ) (n : ℕ) (ok : start_answer h l ≡ Pages n) (bytes :
       go (inr w) = ap (λ (x : List ℕ). close_hive x l) (end-pages ps m w) ∙ (clean_close end l (end_clean h l n ok bytes l)).1
 
   -- the closing call on the disk's own bytes tells that the closing sector may be sent
-  pub may-seal : {m : List ℕ} {q : List Sent} {k : List (List ℕ)} {d : List ℕ} → Open h l true m q k d → close_answer d l ≡ Done
+  pub may-seal : {m : List ℕ} {q : List Sent} {k : List (List ℕ)} {d : List ℕ} → Open h l true m q k d → close_answer d l ≡ Ok Done
       → (p : ℕ) → is_logged l p ≡ true → page d p ≡ page m p
   may-seal {d = d} o a p g =
       let i = keeps o in
@@ -338,5 +339,5 @@ module _ (h l : List ℕ) (n : ℕ) (ok : start_answer h l ≡ Pages n) (bytes :
   pub landed : {c : Bool} {m : List ℕ} {q : List Sent} {k : List (List ℕ)} {d : List ℕ} → Closed h l c m q k d → Landed h l d
   landed {d = d} x =
       let e : d ≡ end = (keeps x).disk in
-      let s : (l' : List ℕ) → start_answer d l' ≡ start.Clean = λ l'. ap (λ (y : List ℕ). start_answer y l') e ∙ end_clean h l n ok bytes l' in
+      let s : (l' : List ℕ) → start_answer d l' ≡ (Ok start.Clean) = λ l'. ap (λ (y : List ℕ). start_answer y l') e ∙ end_clean h l n ok bytes l' in
       record { file = e; starts = s; pages = λ l' p. clean-page d l' (s l') p; closes = λ l'. clean_close d l' (s l') }

@@ -16,7 +16,7 @@ use Rattle.logs.specs.Small.{later, hive}
 use Rattle.logs.proofs.Laws.{logged-below, version-length, all_in_lem}
 use Rattle.logs.proofs.Later.{first_byte, second-byte, page-versions, page-logged, page-last, only-page}
 use Rattle.recovery.specs.declared.Started.TheVariants.{Pages}
-use Rattle.recovery.specs.declared.Stepped.TheVariants.{Done, Refused}
+use Rattle.recovery.specs.declared.Stepped.TheVariants.{Done}
 use Rattle.recovery.specs.Calls.{start_answer, page_answer, page_hive, close_answer, close_hive}
 use Rattle.recovery.specs.Finished.{after_pages, AllIn}
 use Rattle.recovery.proofs.ByStart.{close-answer}
@@ -26,8 +26,9 @@ use Rattle.crash.specs.Trace.{Sent, send, land, Trace, Open}
 use Rattle.crash.specs.Demand.{Landed}
 use Rattle.crash.proofs.Demand3.{keeps, memory-within, land-in, until, running, may-seal, landed}
 use Rattle.crash.proofs.Twice.{are_bytes, bytes_of}
+use Rattle.std.specs.Prelude.{Err, Ok}
 
-ok : start_answer hive later ≡ Pages 1
+ok : start_answer hive later ≡ Ok (Pages 1)
 ok = later-accepted
 
 bytes : Bytes later
@@ -49,15 +50,15 @@ begun : Open hive later false behind [] [] behind
 begun = Trace.fails (Trace.replays 1 old is-version Trace.begin)
 
 -- "closing, but a logged page is not in yet"
-pub not_yet : close_answer behind later ≡ Refused (refusal_of no_key (flaw NotIn nowhere))
-not_yet = close-answer behind later (Pages 1) (until hive later 1 ok bytes begun).accepted ∙ go (all_in behind later) refl
+pub not_yet : close_answer behind later ≡ Err (refusal_of no_key (flaw NotIn nowhere))
+not_yet = close-answer behind later (Ok (Pages 1)) (until hive later 1 ok bytes begun).accepted ∙ go (all_in behind later) refl
   where
     holds-old : page behind 1 ≡ old
     holds-old =
         page-same hive 1 old (version-length later (good hive later 1 ok).log 1 old is-version)
         (inside hive later 1 ok 1 (logged-below later (good hive later 1 ok).log 1 page-logged))
 
-    go : (b : Bool) → all_in behind later ≡ b → cond b Done (Refused (refusal_of no_key (flaw NotIn nowhere))) ≡ Refused (refusal_of no_key (flaw NotIn nowhere))
+    go : (b : Bool) → all_in behind later ≡ b → cond b (Ok Done) (Err (refusal_of no_key (flaw NotIn nowhere))) ≡ Err (refusal_of no_key (flaw NotIn nowhere))
     go false e = refl
     go true e =
         absurd
@@ -66,7 +67,7 @@ not_yet = close-answer behind later (Pages 1) (until hive later 1 ok bytes begun
         ∙ ap (λ (x : List ℕ). get_or x 0 0) (sym holds-old ∙ all_in_lem behind later (good hive later 1 ok).log e 1 page-logged ∙ page-last) ∙ second-byte in omega arith)
 
 -- page 1 is then called, stored, and lands
-may-store : page_answer behind later 1 ≡ Done
+may-store : page_answer behind later 1 ≡ Ok Done
 unfolding after_pages
 may-store = (running hive later 1 ok bytes begun).pages [] 1 page-logged
 
@@ -85,7 +86,7 @@ every_in d i p m = let e = only-page p m in ap (page d) e ∙ i ∙ sym (ap (log
 closed-now : Open hive later true (close_hive (page_hive behind later 1) later) (made ∷ []) [] (land made behind)
 closed-now = Trace.closes ((running hive later 1 ok bytes stored-now).until.closes.1 (every_in (page_hive behind later 1) made_in)) stored-now
 
-all-landed : close_answer (land made behind) later ≡ Done
+all-landed : close_answer (land made behind) later ≡ Ok Done
 all-landed =
     (until hive later 1 ok bytes stored-now).closes.1
     (every_in (land made behind) (land-in hive later 1 ok bytes behind (inl (keeps hive later 1 ok bytes begun).disk) made page-logged made_in))

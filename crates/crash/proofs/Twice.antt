@@ -23,6 +23,7 @@ use Rattle.recovery.proofs.Within.{page-is, page-stays}
 use Rattle.crash.specs.Trace.{Sent, send, land, Trace, Open, failures, landed_in, times}
 use Rattle.crash.specs.Demand.{Landed}
 use Rattle.crash.proofs.Demand3.{keeps, memory-within, land-in, land-keeps, until, running, may-seal, landed}
+use Rattle.std.specs.Prelude.{Ok}
 
 -- a list of bytes, by a test that computes
 unfoldable pub are_bytes : List ℕ → Bool
@@ -38,7 +39,7 @@ bytes_of (x ∷ s) e (suc i) = bytes_of s (and-inv (ltb x 256) (are_bytes s) e).
 abbrev pub l : List ℕ
 l = log 512
 
-ok : start_answer hive l ≡ Pages 2
+ok : start_answer hive l ≡ Ok (Pages 2)
 ok = small-accepted
 
 bytes : Bytes l
@@ -55,13 +56,13 @@ pub record Cut (h l : List ℕ) : Type 0 where
   pub trace : Open h l true memory stores [] disk
   pub failed : failures trace ≡ 2
   pub twice : times 0 (landed_in trace) ≡ 2
-  pub all-landed : close_answer disk l ≡ Done
+  pub all-landed : close_answer disk l ≡ Ok Done
 
-cut : {h l m : List ℕ} {q : List Sent} {d : List ℕ} (o : Open h l true m q [] d) → failures o ≡ 2 → times 0 (landed_in o) ≡ 2 → close_answer d l ≡ Done → Cut h l
+cut : {h l m : List ℕ} {q : List Sent} {d : List ℕ} (o : Open h l true m q [] d) → failures o ≡ 2 → times 0 (landed_in o) ≡ 2 → close_answer d l ≡ Ok Done → Cut h l
 cut {m = m} {q = q} {d = d} o a b c = record { memory = m; stores = q; disk = d; trace = o; failed = a; twice = b; all-landed = c }
 
 -- a page call in a run is done where the page is logged
-may-store : {m : List ℕ} {q : List Sent} {d : List ℕ} → Open hive l false m q [] d → (p : ℕ) → is_logged l p ≡ true → page_answer m l p ≡ Done
+may-store : {m : List ℕ} {q : List Sent} {d : List ℕ} → Open hive l false m q [] d → (p : ℕ) → is_logged l p ≡ true → page_answer m l p ≡ Ok Done
 unfolding after_pages
 may-store o p e = (running hive l 2 ok bytes o).pages [] p e
 

@@ -9,13 +9,14 @@
 -- when the power fails, what has not landed is lost, and the next run reads the disk into memory;
 -- a process that is killed loses no store that it has sent: what was under way stays under way, and the next run may read some of it already;
 -- until the closing sector is sent, any version of a logged page may land, as where another repair went entry by entry.
-use Rattle.std.specs.Prelude.{ℕ, suc, ◌+◌, ◌≡◌, Bool, true, false, cond, eqb}
+use Rattle.std.specs.Prelude.{ℕ, suc, ◌+◌, ◌≡◌, Bool, true, false, cond, eqb, Err, Ok, Result}
 use mathlib.Core.List.{List, [], ◌∷◌, Memᴰ}
 use Rattle.sectors.specs.Sector.{sector_at, stored, page_place, page}
 use Rattle.logs.specs.Logs.{is_logged, versions_of}
-use Rattle.recovery.specs.declared.Stepped.{Stepped}
-use Rattle.recovery.specs.declared.Stepped.TheVariants.{Clean, Done, Refused}
+use Rattle.recovery.specs.declared.Stepped.TheVariants.{Clean, Done}
 use Rattle.recovery.specs.Calls.{page_answer, page_hive, close_answer, close_hive}
+use Rattle.fields.specs.declared.Refusal.{Refusal}
+use Rattle.recovery.specs.declared.Stepped.{Stepped}
 
 -- a page store that is under way: the page's number, and the bytes that memory had there when it was sent
 pub record Sent : Type 0 where
@@ -47,7 +48,7 @@ pub data Trace (h l : List ℕ) : Bool → Bool → List ℕ → List Sent → L
   calls : {e c : Bool} {m : List ℕ} {q : List Sent} {k : List (List ℕ)} {d : List ℕ} (p : ℕ) → Trace h l e c m q k d
       → Trace h l e c (page_hive m l p) q k d
   -- a page call that is done, and the store of what it made
-  stores : {e c : Bool} {m : List ℕ} {q : List Sent} {k : List (List ℕ)} {d : List ℕ} (p : ℕ) → page_answer m l p ≡ Done → Trace h l e c m q k d
+  stores : {e c : Bool} {m : List ℕ} {q : List Sent} {k : List (List ℕ)} {d : List ℕ} (p : ℕ) → page_answer m l p ≡ Ok Done → Trace h l e c m q k d
       → Trace h l e c (page_hive m l p) (send (page_hive m l p) p ∷ q) k d
   -- a page store lands; it may land again
   lands : {e c : Bool} {m : List ℕ} {q : List Sent} {k : List (List ℕ)} {d : List ℕ} (s : Sent) → Memᴰ s q → Trace h l e c m q k d
@@ -56,7 +57,7 @@ pub data Trace (h l : List ℕ) : Bool → Bool → List ℕ → List Sent → L
   replays : {c : Bool} {m : List ℕ} {q : List Sent} {d : List ℕ} (p : ℕ) (x : List ℕ) → Memᴰ x (versions_of l p) → Trace h l false c m q [] d
       → Trace h l false c m q [] (stored d (page_place p) x)
   -- a closing call that is done
-  closes : {e c : Bool} {m : List ℕ} {q : List Sent} {k : List (List ℕ)} {d : List ℕ} → close_answer m l ≡ Done → Trace h l e c m q k d
+  closes : {e c : Bool} {m : List ℕ} {q : List Sent} {k : List (List ℕ)} {d : List ℕ} → close_answer m l ≡ Ok Done → Trace h l e c m q k d
       → Trace h l e true (close_hive m l) q k d
   -- the closing sector is sent: the disk holds every logged page as memory does, for all page stores have landed
   seals : {e : Bool} {m : List ℕ} {q : List Sent} {k : List (List ℕ)} {d : List ℕ} → ((p : ℕ) → is_logged l p ≡ true → page d p ≡ page m p)
@@ -120,10 +121,10 @@ sent_in (Trace.seals i o) = sent_in o
 sent_in (Trace.shuts b i o) = sent_in o
 
 -- a page of which a call was done
-abbrev pub where_done : Stepped → ℕ → List ℕ → List ℕ
-where_done Clean p ps = ps
-where_done Done p ps = p ∷ ps
-where_done (Refused r) p ps = ps
+abbrev pub where_done : Result Stepped Refusal → ℕ → List ℕ → List ℕ
+where_done (Ok Clean) p ps = ps
+where_done (Ok Done) p ps = p ∷ ps
+where_done (Err r) p ps = ps
 
 -- the pages of which a call was done in this run
 unfoldable pub done_in : {h l : List ℕ} {e c : Bool} {m : List ℕ} {q : List Sent} {k : List (List ℕ)} {d : List ℕ} → Trace h l e c m q k d → List ℕ

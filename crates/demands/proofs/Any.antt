@@ -18,7 +18,6 @@ use Rattle.lookup.proofs.Agree.{refused-untouched}
 use Rattle.lookup.proofs.Refusals.{info-refuses, view-refuses, copy-refuses, spot-refuses}
 use Rattle.listing.proofs.Any.{subkey-refuses, value-refuses, info-refuses as at-refuses, copy-refuses as copy-at-refuses, copy-stays as copy-at-stays, facts-refuses}
 use Rattle.listing.proofs.Any_pieces.{class-refuses, security-refuses}
-use Rattle.recovery.specs.declared.Marked.TheVariants as marked
 use Rattle.recovery.specs.declared.Stepped.TheVariants as stepped
 use Rattle.recovery.specs.Calls.{page_answer, page_hive, close_answer, close_hive}
 use Rattle.recovery.proofs.Refusals.{start-refuses, page-refuses, close-refuses, next-refuses, all-refuses, mark-refuses, marked-refuses, facts-refuses as log-refuses}
@@ -31,6 +30,7 @@ use Rattle.build_answers.proofs.Hives.{refused-leaves}
 use Rattle.remnants.proofs.Refusals.{next-refuses as remnant-refuses, rows-refuse, rows_stay}
 use Rattle.demands.specs.AnyBytes.{Demand1}
 use Rattle.demands.proofs.As_check.{refuses-as-check}
+use Rattle.std.specs.Prelude.{Err}
 
 listed : (f : Fault) → (1 ≤ number_of f) × (number_of f ≤ 39)
 listed named.HiveShort = (omega arith, omega arith)
@@ -75,19 +75,19 @@ listed named.HiveSize = (omega arith, omega arith)
 
 -- ---- what a refusal leaves
 
-page-stays : (h l : List ℕ) (p : ℕ) (r : Refusal) → page_answer h l p ≡ stepped.Refused r → page_hive h l p ≡ h
+page-stays : (h l : List ℕ) (p : ℕ) (r : Refusal) → page_answer h l p ≡ Err r → page_hive h l p ≡ h
 unfolding page_hive
 page-stays h l p r e = rw e
 
-close-stays : (h l : List ℕ) (r : Refusal) → close_answer h l ≡ stepped.Refused r → close_hive h l ≡ h
+close-stays : (h l : List ℕ) (r : Refusal) → close_answer h l ≡ Err r → close_hive h l ≡ h
 unfolding close_hive
 close-stays h l r e = rw e
 
-all-stays : (h l : List ℕ) (r : Refusal) → all_answer h l ≡ stepped.Refused r → all_hive h l ≡ h
+all-stays : (h l : List ℕ) (r : Refusal) → all_answer h l ≡ Err r → all_hive h l ≡ h
 unfolding all_hive
 all-stays h l r e = rw e
 
-marked-stays : (l m : List ℕ) (r : Refusal) → marked_answer l (length m) ≡ marked.Refused r → marked_map l m ≡ m
+marked-stays : (l m : List ℕ) (r : Refusal) → marked_answer l (length m) ≡ Err r → marked_map l m ≡ m
 unfolding marked_map
 marked-stays l m r e = rw e
 

@@ -14,7 +14,6 @@ use Rattle.base.specs.Block.{bins_limit, bins_data}
 use Rattle.cells.specs.Named.{data_at}
 use Rattle.records.specs.Keys.{key_of, security_of}
 use Rattle.records.specs.Listed.{keys_in}
-use Rattle.tree.specs.declared.Checked.TheVariants.{Accepted}
 use Rattle.tree.specs.declared.Hive.{Hive as Top}
 use Rattle.tree.specs.declared.Report.{Report}
 use Rattle.tree.specs.Tree.{levels, keys_of, check_answer}
@@ -36,18 +35,17 @@ use Rattle.build_laws.proofs.Accepted.{built-accepted}
 use Rattle.build_laws.proofs.Counts.{root-counted}
 use Rattle.build_laws.proofs.Exports.{built-laid, built-exports}
 use Rattle.build_laws.proofs.Builds.{accepted-forest, export-builds}
-use Rattle.build_answers.specs.declared.Built.{Built}
-use Rattle.build_answers.specs.declared.Built.TheVariants.{Done}
 use Rattle.build_answers.specs.declared.Unbuilt.{Unbuilt}
 use Rattle.build_answers.specs.Answers.{unbuilt, too_large, too_long, number_in, measure_answer, build_answer, build_out}
 use Rattle.build_answers.proofs.Cases.{measured-exactly, build-wrong, Answered, done, long, large, wrong, answered, done-exactly, thirty-nine-exactly, twenty-exactly, wrong-exactly}
 use Rattle.build_answers.proofs.Hives.{refused-builds, built-there, built-behind}
 use Rattle.build_answers.proofs.Again.{again-built}
 use Rattle.demands.specs.Build.{Says, AtFault, Answered as Answers, Hive, Again, Building}
+use Rattle.std.specs.Prelude.{Ok, Result}
 
 -- ---- a stream without a fault has none of 30 to 38
 
-fine-answers : (s sd : List ℕ) (room : ℕ) {a : Built} → stream_fault s ≡ Fine → Answered s sd room a → AtFault a → ⊥
+fine-answers : (s sd : List ℕ) (room : ℕ) {a : Result ℕ Unbuilt} → stream_fault s ≡ Fine → Answered s sd room a → AtFault a → ⊥
 unfolding number_in
 fine-answers s sd room p (done z h) x = let y = ap number_in x.refused in let l = x.first in omega arith
 fine-answers s sd room p (long z h) x = let y = ap number_in x.refused in let l = x.first in omega arith
@@ -116,7 +114,7 @@ module _ (s sd : List ℕ) (room : ℕ) (bytes : AllBelow 256 s) where
         (twenty-exactly s sd room).1 (fine x.0 x.1, omega arith, omega arith),
   )
 
-  measured : (n : ℕ) → (measure_answer s (length sd) ≡ Done n) ↔ ((f : Forest) × Says s f × (bins_for f (length sd) ≤ bins_limit) × (n ≡ length (built_hive f sd)))
+  measured : (n : ℕ) → (measure_answer s (length sd) ≡ Ok n) ↔ ((f : Forest) × Says s f × (bins_for f (length sd) ≤ bins_limit) × (n ≡ length (built_hive f sd)))
   measured n = (
     λ e.
         let z = (measured-exactly s (length sd) n).0 e in
@@ -135,7 +133,7 @@ module _ (s sd : List ℕ) (room : ℕ) (bytes : AllBelow 256 s) where
   )
 
   built : (n : ℕ)
-      → (build_answer s sd room ≡ Done n) ↔ ((f : Forest) × Says s f × (bins_for f (length sd) ≤ bins_limit) × (n ≡ length (built_hive f sd)) × (n ≤ room))
+      → (build_answer s sd room ≡ Ok n) ↔ ((f : Forest) × Says s f × (bins_for f (length sd) ≤ bins_limit) × (n ≡ length (built_hive f sd)) × (n ≤ room))
   built n = (
     λ e.
         let w = (done-exactly s sd room n).0 e in
@@ -191,7 +189,7 @@ module _ (f : Forest) (sd : List ℕ) (o : OneRoot f) (fits : bins_for f (length
         exported = built-exports f sd o fits ∙ sym said;
       })
 
-module _ (s sd out : List ℕ) (n : ℕ) (d : build_answer s sd (length out) ≡ Done n) (f : Forest) (w : Says s f) where
+module _ (s sd out : List ℕ) (n : ℕ) (d : build_answer s sd (length out) ≡ Ok n) (f : Forest) (w : Says s f) where
   -- what is in the buffer, where the stream says this forest
   hive-there : Hive s sd (take n (build_out s sd out)) f
   hive-there =
@@ -200,7 +198,7 @@ module _ (s sd out : List ℕ) (n : ℕ) (d : build_answer s sd (length out) ≡
       let b = ap (λ (g : Forest). bins_for g (length sd)) e in
       hive-of f sd w.root (omega arith) w.frames (built-there s sd out d ∙ ap (λ (g : Forest). built_hive g sd) e)
 
-hive-built : (s sd out : List ℕ) (n : ℕ) → AllBelow 256 s → build_answer s sd (length out) ≡ Done n
+hive-built : (s sd out : List ℕ) (n : ℕ) → AllBelow 256 s → build_answer s sd (length out) ≡ Ok n
     → (f : Forest) × Says s f × Hive s sd (take n (build_out s sd out)) f
 hive-built s sd out n bytes d =
     let x = said s sd (length out) bytes ((done-exactly s sd (length out) n).0 d).0.fine in
@@ -208,7 +206,7 @@ hive-built s sd out n bytes d =
 
 -- ---- the export of an accepted hive
 
-module _ (h m sd : List ℕ) (r : Report) (e : check_answer h m ≡ Accepted r) (bytes : AllBelow 256 h)
+module _ (h m sd : List ℕ) (r : Report) (e : check_answer h m ≡ Ok r) (bytes : AllBelow 256 h)
     (few : (k : Offset) → Memᴰ k (keys_of h) → (key_of (bins_data h) k).subkeys ≤ 65535) where
   export-says : Says (stream_of h) (forest_of h)
   export-says = let w = accepted-forest h bytes few m e in record { frames = w.0; root = w.1 }
@@ -220,7 +218,7 @@ module _ (h m sd : List ℕ) (r : Report) (e : check_answer h m ≡ Accepted r) 
         not-at-fault = λ room x. fine-answers (stream_of h) sd room (export-builds h bytes few m e) (answered (stream_of h) sd room) x;
         built = λ room fits enough.
             let k = built-length (forest_of h) sd in
-            again-built h bytes few m e sd room fits (omega arith) ∙ ap Done (sym k);
+            again-built h bytes few m e sd room fits (omega arith) ∙ ap Ok (sym k);
         hive = λ out n d. hive-there (stream_of h) sd out n d (forest_of h) export-says;
       }
 

@@ -18,14 +18,12 @@ use Rattle.names.specs.Codes.{codes, characters_in, has_code}
 use Rattle.records.specs.Keys.{is_key_name, is_key, key_fault, key_in, key_of, security_of, codes_of}
 use Rattle.records.specs.Lists.{children_in, leaves_below, children_below, lists_fault}
 use Rattle.values.specs.Lists.{values_of, value_list_fault, values_fault}
-use Rattle.tree.specs.declared.Checked.TheVariants as checked
 use Rattle.fields.specs.Charges.{◌after◌}
 use Rattle.records.specs.Listed.{joined, keys_in}
 use Rattle.security.specs.Items.{is_item, item_in, item_of, has_room, is_linked, named_by, is_joined, link_fault, count_fault, item_fault, closes_at, ring_fault, ring_of, is_among, off_charge, security_charge}
 use Rattle.namesakes.specs.Namesakes.{repeat_fault, namesake_fault}
 use Rattle.tree.specs.Tree.{place_fault, hash_fault, hint_fault, beside_fault, level_fault, total_fault, rest_fault, own_fault, key_charge, list_charge, tree_charge, values_in, check_answer}
 use Rattle.tree.proofs.Exactly.{accepted-as}
-use Rattle.paths.specs.declared.KeyFound.TheVariants as found
 use Rattle.paths.specs.Paths.{split, parts_of, is_part, are_parts, is_path, path_fault}
 use Rattle.paths.specs.Descent.{descend_by, lookup_key_by}
 use Rattle.paths.specs.Answers.{open_fault, key_look_by, find_by, find_answer}
@@ -38,21 +36,22 @@ use Rattle.recovery.proofs.Small.{small-accepted}
 use Rattle.recovery.proofs.Within.{within-self, page-is, page-stays}
 use Rattle.figures.specs.Inputs.{header, base_block, root_cell, minimal, root_with_item, item_cell, with_item}
 use Rattle.demands.specs.Frauds.{NoFraud}
+use Rattle.std.specs.Prelude.{Err, Ok}
 
 -- "with an empty item after the key, linked to itself, it gives used 112 free 3952"
-item-accepted : check_answer with_item (replicate 64 0) ≡ checked.Accepted (record { bins = 1; keys = 1; values = 0; used = 112; free = 3952 })
+item-accepted : check_answer with_item (replicate 64 0) ≡ Ok (record { bins = 1; keys = 1; values = 0; used = 112; free = 3952 })
 unfolding check_answer survey_answer map_left front_fault base_fault block_fault is_version is_bins_size stored_checksum as_stored xors u32_at u16_at size_at stands_at same_bytes ◌next◌ good_size tiling_n tiling row_of bin_size layout_n layout add_row survey_of mark_at marks is_bad marks_all zeros map_after is_marked is_named by_header cell_of cell_fault data_of data_at codes characters_in has_code is_key_name is_key key_fault key_in key_of codes_of children_in leaves_below children_below lists_fault values_of value_list_fault values_fault fault_over ◌after◌ place_fault hash_fault hint_fault beside_fault repeat_fault namesake_fault level_fault total_fault rest_fault own_fault key_charge list_charge tree_charge joined keys_in values_in security_of is_item item_in item_of has_room is_linked named_by is_joined link_fault count_fault item_fault closes_at ring_fault ring_of is_among off_charge security_charge header base_block root_with_item item_cell with_item
 item-accepted = refl
 
-minimal-root : find_answer minimal [] ≡ found.At (record { 0 = 32 })
+minimal-root : find_answer minimal [] ≡ Ok (record { 0 = 32 })
 unfolding find_by key_look_by open_fault lookup_key_by descend_by path_fault is_path are_parts is_part parts_of split base_fault block_fault is_version is_bins_size stored_checksum as_stored xors u32_at u16_at size_at stands_at same_bytes ◌next◌ good_size is_named by_header cell_of cell_fault data_of data_at codes characters_in has_code is_key_name is_key key_fault header base_block root_cell minimal
 minimal-root = refl
 
-nothing-checked : check_answer [] [] ≡ checked.Refused (refusal_of no_key (flaw HiveShort nowhere))
+nothing-checked : check_answer [] [] ≡ Err (refusal_of no_key (flaw HiveShort nowhere))
 unfolding check_answer survey_answer front_fault base_fault ◌next◌
 nothing-checked = refl
 
-nothing-found : find_answer [] [] ≡ found.Refused (refusal_of no_key (flaw HiveShort nowhere))
+nothing-found : find_answer [] [] ≡ Err (refusal_of no_key (flaw HiveShort nowhere))
 unfolding find_by key_look_by open_fault base_fault ◌next◌
 nothing-found = refl
 

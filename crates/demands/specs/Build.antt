@@ -1,6 +1,6 @@
 -- A hive from frames, the way back: what every stream of bytes is answered, what the built hive is, and what becomes of an export. s is the stream, sd
 -- the security descriptor, out the lent buffer and room its length.
-use Rattle.std.specs.Prelude.{ℕ, ◌-◌, ◌/◌, ◌≤◌, ◌<◌, ◌≡◌, ◌↔◌, length, take, drop}
+use Rattle.std.specs.Prelude.{ℕ, ◌-◌, ◌/◌, ◌≤◌, ◌<◌, ◌≡◌, ◌↔◌, length, take, drop, Err, Ok, Result}
 use mathlib.Core.List.{List, Memᴰ}
 use Rattle.fields.specs.declared.Fault.{Fault}
 use Rattle.fields.specs.declared.Offset.{Offset}
@@ -8,7 +8,6 @@ use Rattle.fields.specs.Faults.{number_of, flaw, nowhere}
 use Rattle.base.specs.Block.{bins_limit, sector, minor_of, bins_data}
 use Rattle.cells.specs.Named.{data_at}
 use Rattle.records.specs.Keys.{key_of, security_of}
-use Rattle.tree.specs.declared.Checked.TheVariants.{Accepted}
 use Rattle.tree.specs.declared.Report.{Report}
 use Rattle.tree.specs.Tree.{keys_of, check_answer}
 use Rattle.stream.specs.Stream.{stream_of}
@@ -17,8 +16,6 @@ use Rattle.forest.specs.Allowed.{AllBelow, OneRoot}
 use Rattle.forest.specs.First.{FirstFault}
 use Rattle.layout.specs.Layout.{item_at, used_of, bins_for, built_hive}
 use Rattle.build_laws.specs.Read.{forest_of}
-use Rattle.build_answers.specs.declared.Built.{Built}
-use Rattle.build_answers.specs.declared.Built.TheVariants.{Done, Refused}
 use Rattle.build_answers.specs.declared.Unbuilt.{Unbuilt}
 use Rattle.build_answers.specs.Answers.{unbuilt, too_large, too_long, measure_answer, build_answer, build_out}
 
@@ -28,9 +25,9 @@ pub record Says (s : List ℕ) (f : Forest) : Type 0 where
   pub root : OneRoot f
 
 -- an answer that is one of the refusals 30 to 38
-pub record AtFault (a : Built) : Type 0 where
+pub record AtFault (a : Result ℕ Unbuilt) : Type 0 where
   pub why : Unbuilt
-  pub refused : a ≡ Refused why
+  pub refused : a ≡ Err why
   pub first : 30 ≤ number_of why.refusal.fault
   pub last : number_of why.refusal.fault ≤ 38
 
@@ -50,11 +47,11 @@ pub record Answered (s sd : List ℕ) (room : ℕ) : Type 0 where
       ↔ ((f : Forest) × Says s f × (bins_for f (length sd) ≤ bins_limit) × (room < length (built_hive f sd)))
   -- else it is built, and the answer is its length
   pub built : (n : ℕ)
-      → (build_answer s sd room ≡ Done n) ↔ ((f : Forest) × Says s f × (bins_for f (length sd) ≤ bins_limit) × (n ≡ length (built_hive f sd)) × (n ≤ room))
+      → (build_answer s sd room ≡ Ok n) ↔ ((f : Forest) × Says s f × (bins_for f (length sd) ≤ bins_limit) × (n ≡ length (built_hive f sd)) × (n ≤ room))
   -- without a buffer the length is the same, and what is refused there is refused with any
   pub measured : (n : ℕ)
-      → (measure_answer s (length sd) ≡ Done n) ↔ ((f : Forest) × Says s f × (bins_for f (length sd) ≤ bins_limit) × (n ≡ length (built_hive f sd)))
-  pub unmeasured : (u : Unbuilt) → measure_answer s (length sd) ≡ Refused u → build_answer s sd room ≡ Refused u
+      → (measure_answer s (length sd) ≡ Ok n) ↔ ((f : Forest) × Says s f × (bins_for f (length sd) ≤ bins_limit) × (n ≡ length (built_hive f sd)))
+  pub unmeasured : (u : Unbuilt) → measure_answer s (length sd) ≡ Err u → build_answer s sd room ≡ Err u
 
 -- the hive h that is built of a stream, which says this forest
 pub record Hive (s sd h : List ℕ) (f : Forest) : Type 0 where
@@ -68,7 +65,7 @@ pub record Hive (s sd h : List ℕ) (f : Forest) : Type 0 where
   -- "The built hive is accepted", with every map that is large enough, as one bin with the forest's keys and values
   pub accepted : (m : List ℕ) → bins_for f (length sd) / 64 ≤ length m
       → check_answer h m
-      ≡ Accepted
+      ≡ Ok
       (record {
         bins = 1;
         keys = key_count f;
@@ -86,15 +83,15 @@ pub record Again (h sd : List ℕ) : Type 0 where
   pub not-at-fault : (room : ℕ) → AtFault (build_answer (stream_of h) sd room) → ⊥
   -- it is built where the layout is within the limit and there is room
   pub built : (room : ℕ) → bins_for (forest_of h) (length sd) ≤ bins_limit → length (built_hive (forest_of h) sd) ≤ room
-      → build_answer (stream_of h) sd room ≡ Done (length (built_hive (forest_of h) sd))
-  pub hive : (out : List ℕ) (n : ℕ) → build_answer (stream_of h) sd (length out) ≡ Done n → Hive (stream_of h) sd (take n (build_out (stream_of h) sd out)) (forest_of h)
+      → build_answer (stream_of h) sd room ≡ Ok (length (built_hive (forest_of h) sd))
+  pub hive : (out : List ℕ) (n : ℕ) → build_answer (stream_of h) sd (length out) ≡ Ok n → Hive (stream_of h) sd (take n (build_out (stream_of h) sd out)) (forest_of h)
 
 pub record Building : Type 0 where
   pub answers : (s sd : List ℕ) (room : ℕ) → AllBelow 256 s → Answered s sd room
-  pub hives : (s sd out : List ℕ) (n : ℕ) → AllBelow 256 s → build_answer s sd (length out) ≡ Done n
+  pub hives : (s sd out : List ℕ) (n : ℕ) → AllBelow 256 s → build_answer s sd (length out) ≡ Ok n
       → (f : Forest) × Says s f × Hive s sd (take n (build_out s sd out)) f
   -- what stands behind the hive stays
-  pub behind : (s sd out : List ℕ) (n : ℕ) → build_answer s sd (length out) ≡ Done n → drop n (build_out s sd out) ≡ drop n out
+  pub behind : (s sd out : List ℕ) (n : ℕ) → build_answer s sd (length out) ≡ Ok n → drop n (build_out s sd out) ≡ drop n out
   -- of a hive whose keys have at most 65,535 subkeys
-  pub again : (h m sd : List ℕ) (r : Report) → check_answer h m ≡ Accepted r → AllBelow 256 h
+  pub again : (h m sd : List ℕ) (r : Report) → check_answer h m ≡ Ok r → AllBelow 256 h
       → ((k : Offset) → Memᴰ k (keys_of h) → (key_of (bins_data h) k).subkeys ≤ 65535) → Again h sd

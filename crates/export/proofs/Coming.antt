@@ -9,7 +9,6 @@ use lib.ListN.{length, get_or, drop, length-take, length-drop}
 use lib.Seq.{sets, length-sets, drop-cons}
 use borrow.Author.Tests.{eqb-true, eqb-false, eq-eqb, leb-true, leb-false}
 use Rattle.fields.specs.declared.Offset.{Offset}
-use Rattle.fields.specs.declared.Verdict.TheVariants.{Sound}
 use Rattle.fields.specs.Faults.{nowhere}
 use Rattle.fields.proofs.Firsts.{sound}
 use Rattle.fields.proofs.Loops.{drop_all}
@@ -30,9 +29,7 @@ use Rattle.lookup.proofs.ValueFinds.{list-good, each-good}
 use Rattle.listing.specs.declared.Entry.{Entry}
 use Rattle.listing.specs.Members.{entry_of}
 use Rattle.walk.specs.declared.Mark.{Mark}
-use Rattle.walk.specs.declared.Offer.{Offer}
 use Rattle.walk.specs.declared.Offer.TheVariants as ahead
-use Rattle.walk.specs.declared.Walked.{Walked}
 use Rattle.walk.specs.declared.Walked.TheVariants as walked
 use Rattle.walk.specs.Answers.{key_at, step_in, answer_of, levels_after, step_answer, step_levels}
 use Rattle.walk.specs.Events.{events_over, events_in, coming, depth_after}
@@ -42,28 +39,31 @@ use Rattle.walk.proofs.Ways.{step-on}
 use Rattle.stream.proofs.Whole.{values-many, own-many}
 use Rattle.stream.specs.Stream.{Framed, holds, opens, closes, value_frames, own_frames, frames_over, frames_in, frames_of}
 use Rattle.export.specs.declared.Cursor.{Cursor}
-use Rattle.export.specs.declared.Due.TheVariants.{Comes}
 use Rattle.export.specs.declared.Frame.{Frame}
 use Rattle.export.specs.declared.What.TheVariants as what
 use Rattle.export.specs.Due.{bytes_due, framed_due, value_due, past, walk_due, top_due, due_at, words_behind, depth_behind}
 use Rattle.export.specs.Answers.{no_frame}
 use Rattle.export.specs.Coming.{filled, coming_frames}
 use Rattle.export.proofs.Ways.{frame_of, due-on, value-is, walk_is}
+use Rattle.fields.specs.declared.Refusal.{Refusal}
+use Rattle.std.specs.Prelude.{Err, None, Ok, Option, Result, Some}
+use Rattle.walk.specs.declared.Offer.{Offer}
+use Rattle.walk.specs.declared.Walked.{Walked}
 
 -- ---- the walk's events with the values put in
 
 module _ (d : List ℕ) (minor : ℕ) where
-  filled-append : (xs ys : List Walked) → filled d minor (xs ++ ys) ≡ filled d minor xs ++ filled d minor ys
+  filled-append : (xs ys : List (Result (Option Walked) Refusal)) → filled d minor (xs ++ ys) ≡ filled d minor xs ++ filled d minor ys
   unfolding filled
   filled-append [] ys = refl
-  filled-append (walked.Opens e ∷ xs) ys =
+  filled-append (Ok (Some (walked.Opens e)) ∷ xs) ys =
       ap (λ (r : List Framed). own_frames d minor e.at ++ r) (filled-append xs ys)
       ∙ sym (append_assoc (own_frames d minor e.at) (filled d minor xs) (filled d minor ys))
-  filled-append (walked.Closes k ∷ xs) ys = ap (λ (r : List Framed). closes k ∷ r) (filled-append xs ys)
-  filled-append (walked.Over ∷ xs) ys = filled-append xs ys
-  filled-append (walked.Refused r ∷ xs) ys = filled-append xs ys
+  filled-append (Ok (Some (walked.Closes k)) ∷ xs) ys = ap (λ (r : List Framed). closes k ∷ r) (filled-append xs ys)
+  filled-append ((Ok None) ∷ xs) ys = filled-append xs ys
+  filled-append (Err r ∷ xs) ys = filled-append xs ys
 
-  filled-over : (f : Offset → List Walked) (g : Offset → List Framed) → ((o : Offset) → filled d minor (f o) ≡ g o) → (cs : List Child)
+  filled-over : (f : Offset → List (Result (Option Walked) Refusal)) (g : Offset → List Framed) → ((o : Offset) → filled d minor (f o) ≡ g o) → (cs : List Child)
       → filled d minor (events_over f cs) ≡ frames_over g cs
   unfolding events_over frames_over filled
   filled-over f g e [] = refl
@@ -77,7 +77,7 @@ module _ (d : List ℕ) (minor : ℕ) where
   filled_in (suc n) k =
       let xs = events_over (events_in d n) (children d k) in
       ap (λ (r : List Framed). own_frames d minor k ++ r)
-      (filled-append xs (walked.Closes k ∷ [])
+      (filled-append xs (Ok (Some (walked.Closes k)) ∷ [])
       ∙ ap (λ (r : List Framed). r ++ (closes k ∷ [])) (filled-over (events_in d n) (frames_in d minor n) (filled_in n) (children d k)))
 
 -- ---- a key's own frames
@@ -117,7 +117,7 @@ module _ (h : List ℕ) (w : CleanAndWellFormed h) where
   abbrev minor : ℕ
   minor = (hive_of h).minor
 
-  base : base_fault h ≡ Sound
+  base : base_fault h ≡ Ok tt
   base = facts-base h w.is-clean w.inside
 
   small : length d ≤ bins_limit
@@ -139,7 +139,7 @@ module _ (h : List ℕ) (w : CleanAndWellFormed h) where
   -- what is due, what it leaves, and where the walk then stands
   pub record Gives (ws : List ℕ) (n due : ℕ) : Type 0 where
     pub frame : Frame
-    pub is : due_at d minor ws (record { depth = n; due = due }) ≡ Comes frame
+    pub is : due_at d minor ws (record { depth = n; due = due }) ≡ Ok (Some frame)
     pub gives : coming_frames d minor ws n due
         ≡ framed_due d frame ∷ coming_frames d minor (words_behind ws n frame.what) (depth_behind n frame.what) frame.due
     pub standing : Standing h (words_behind ws n frame.what) (depth_behind n frame.what)
@@ -154,7 +154,7 @@ module _ (h : List ℕ) (w : CleanAndWellFormed h) where
     top : Open h ws n
     top = st.each n (omega arith)
 
-    tested : key_fault Header d [] k ≡ Sound
+    tested : key_fault Header d [] k ≡ Ok tt
     tested = key-good d (hive_of h) w.formed.tiled (suc top.below) k top.tree
 
     key-stands : KeyStands d minor k
@@ -208,7 +208,7 @@ module _ (h : List ℕ) (w : CleanAndWellFormed h) where
       by-walk : due_at d minor ws c ≡ walk_due d (step_in d ws (suc n))
       by-walk = of-top ∙ walk_is d minor ws c k (key_of d k) refl (λ e. omega arith) p
 
-      module _ {x : Offer} (q : step_in d ws (suc n) ≡ x) where
+      module _ {x : Result (Option Offer) Refusal} (q : step_in d ws (suc n) ≡ x) where
         answers : step_answer h ws (suc n) ≡ answer_of x
         answers = (step-on h ws (suc n) base).0 ∙ ap answer_of q
 
@@ -219,13 +219,13 @@ module _ (h : List ℕ) (w : CleanAndWellFormed h) where
         events = s.gives ∙ rw (answers, moves)
 
         after : Standing h (levels_after ws (suc n) x) (depth_after (answer_of x) (suc n))
-        after = let a = s.stands in subst (λ (u : Walked). Standing h (levels_after ws (suc n) x) (depth_after u (suc n))) answers (subst (λ (u : List ℕ). Standing h u (depth_after (step_answer h ws (suc n)) (suc n))) moves a)
+        after = let a = s.stands in subst (λ (u : Result (Option Walked) Refusal). Standing h (levels_after ws (suc n) x) (depth_after u (suc n))) answers (subst (λ (u : List ℕ). Standing h u (depth_after (step_answer h ws (suc n)) (suc n))) moves a)
 
-      gives-opens : {e : Entry} {m : Mark} → step_in d ws (suc n) ≡ ahead.Opens e m → Gives ws (suc n) due
+      gives-opens : {e : Entry} {m : Mark} → step_in d ws (suc n) ≡ Ok (Some (ahead.Opens e m)) → Gives ws (suc n) due
       unfolding coming_frames filled
       gives-opens {e} {m} q =
           let b = moves-below d ws (suc n) q in
-          let ws' = levels_after ws (suc n) (ahead.Opens e m) in
+          let ws' = levels_after ws (suc n) (Ok (Some (ahead.Opens e m))) in
           let us = e.at.0 ∷ 0 ∷ 0 ∷ [] in
           let l = length-sets ws (3 * (suc n - 1) + 1) (m.leaf ∷ m.element ∷ []) in
           let o : get_or ws' (3 * (suc (suc n) - 1)) 0 ≡ e.at.0 = set_at us (sets ws (3 * (suc n - 1) + 1) (m.leaf ∷ m.element ∷ [])) (3 * suc n) 0 (3 * (suc (suc n) - 1)) (omega arith) (omega arith) (omega (arith, b.room)) in
@@ -242,7 +242,7 @@ module _ (h : List ℕ) (w : CleanAndWellFormed h) where
             standing = after q;
           }
 
-      gives-closes : {x : Offset} → step_in d ws (suc n) ≡ ahead.Closes x → Gives ws (suc n) due
+      gives-closes : {x : Offset} → step_in d ws (suc n) ≡ Ok (Some (ahead.Closes x)) → Gives ws (suc n) due
       unfolding filled coming_frames coming
       gives-closes {x} q =
           let z : suc n - 1 ≡ n = omega arith in
@@ -264,11 +264,11 @@ module _ (h : List ℕ) (w : CleanAndWellFormed h) where
               ap (λ (r : List Framed). r ++ filled d minor (coming d ws (suc i)))
               (own-none d minor (key_at ws (suc i)) past (few (key_at ws (suc i)) (stands u.below (key_at ws (suc i)) u.tree)))
 
-      by-offer : (x : Offer) → step_in d ws (suc n) ≡ x → Gives ws (suc n) due
-      by-offer (ahead.Opens e m) q = gives-opens q
-      by-offer (ahead.Closes x) q = gives-closes q
-      by-offer ahead.Over q = absurd (s.on (answers q))
-      by-offer (ahead.Refused r) q = absurd (s.fine r (answers q))
+      by-offer : (x : Result (Option Offer) Refusal) → step_in d ws (suc n) ≡ x → Gives ws (suc n) due
+      by-offer (Ok (Some (ahead.Opens e m))) q = gives-opens q
+      by-offer (Ok (Some (ahead.Closes x))) q = gives-closes q
+      by-offer (Ok None) q = absurd (s.on (answers q))
+      by-offer (Err r) q = absurd (s.fine r (answers q))
 
     pub one-frame : Gives ws (suc n) due
     one-frame = by due refl

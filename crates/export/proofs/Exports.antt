@@ -9,14 +9,11 @@ use lib.Dec.{leb}
 use lib.ListN.{length, get_or, take, drop, replicate, length-replicate}
 use lib.Seq.{sets, sets-eq, take_at, drop_at, drop-drop}
 use borrow.Author.Tests.{leb-true, leb-false, le-leb, lt-leb}
-use Rattle.fields.specs.declared.Verdict.TheVariants.{Sound}
 use Rattle.fields.proofs.Firsts.{on}
 use Rattle.base.specs.Block.{bins_data, base_fault}
 use Rattle.base.proofs.Laws.{facts-base}
 use Rattle.cells.proofs.Fronts.{front-facts}
 use Rattle.cells.proofs.Mapped.{surveyed}
-use Rattle.tree.specs.declared.Checked.{Checked}
-use Rattle.tree.specs.declared.Checked.TheVariants as checked
 use Rattle.tree.specs.declared.Report.{Report}
 use Rattle.tree.specs.Tree.{hive_of, check_answer}
 use Rattle.tree.specs.WellFormed.{CleanAndWellFormed}
@@ -24,15 +21,9 @@ use Rattle.tree.proofs.Exactly.{accepted-as, accepted-exactly}
 use Rattle.walk.proofs.Lists.{Standing, begun, begun-stands}
 use Rattle.stream.specs.Stream.{Framed, frames_of, stream_of, joined_frames}
 use Rattle.stream.proofs.Whole.{joined-append, frames-joined}
-use Rattle.export.specs.declared.Begun.TheVariants.{At}
 use Rattle.export.specs.declared.Cursor.{Cursor}
-use Rattle.export.specs.declared.Due.{Due}
-use Rattle.export.specs.declared.Due.TheVariants.{Comes, Over, Refused as Bad}
 use Rattle.export.specs.declared.Frame.{Frame}
-use Rattle.export.specs.declared.Passed.TheVariants as passed
 use Rattle.export.specs.declared.Progress.{Progress}
-use Rattle.export.specs.declared.Ran.TheVariants as ran
-use Rattle.export.specs.declared.Stepped.TheVariants.{Written, Done}
 use Rattle.export.specs.Due.{words, run_fault, bytes_due, framed_due, due_at, words_behind, depth_behind, cursor_behind}
 use Rattle.export.specs.Answers.{short, no_frame, fits, step_from, step_answer, out_after, step_out, start, begin_answer, begin_levels, Packed, more, packed, ran_of, run_packed, run_answer, run_out, run_levels}
 use Rattle.export.specs.Terms.{Went, went, stepped_by, bytes_by, root_words, stepped_in, bytes_in}
@@ -41,9 +32,11 @@ use Rattle.export.specs.Runs.{Reached, begins, runs, Goes}
 use Rattle.export.proofs.Ways.{due-over, due-lies}
 use Rattle.export.proofs.Turns.{some_bytes, packed_more}
 use Rattle.export.proofs.Coming.{Gives, one-frame, all-coming}
+use Rattle.fields.specs.declared.Refusal.{Refusal}
+use Rattle.std.specs.Prelude.{Err, None, Ok, Option, Result, Some}
 
 -- a hive that the check accepts is clean and well formed
-pub accepted-formed : (h m : List ℕ) {x : Report} → check_answer h m ≡ checked.Accepted x → CleanAndWellFormed h
+pub accepted-formed : (h m : List ℕ) {x : Report} → check_answer h m ≡ Ok x → CleanAndWellFormed h
 accepted-formed h m {x} e =
     let a = accepted-as h m e in
     let s = surveyed h m a.tally a.surveys in
@@ -59,7 +52,7 @@ step-cons x fs n room = by (leb (length fs) n) refl
     by true e = let p = leb-true (length fs) n e in rw (e, le-leb (suc (length fs)) (suc n) (omega arith))
     by false e = let p = leb-false (length fs) n e in rw (e, lt-leb (suc (length fs)) (suc n) (omega arith))
 
-step-none : (n room : ℕ) → step_from [] n room ≡ Done
+step-none : (n room : ℕ) → step_from [] n room ≡ Ok None
 unfolding step_from
 step-none n room = rw (le-leb 0 n (omega arith))
 
@@ -85,7 +78,7 @@ module _ (h : List ℕ) (w : CleanAndWellFormed h) where
   unfolding coming_frames
   nothing-comes ws due = refl
 
-  over : (ws : List ℕ) (due : ℕ) → due_at d minor ws (at 0 due) ≡ Over
+  over : (ws : List ℕ) (due : ℕ) → due_at d minor ws (at 0 due) ≡ Ok None
   over ws due = due-over d minor ws (at 0 due) refl
 
   -- ---- steps
@@ -99,13 +92,13 @@ module _ (h : List ℕ) (w : CleanAndWellFormed h) where
       answers : stepped_by d minor room g.levels g.answer ≡ step_from fs n room
       leaves : sets out 0 (bytes_by d minor room g.levels g.answer) ≡ out_after (step_from fs n room) (get_or fs n no_frame).bytes out
 
-    now-fits : (f : Frame) (ws : List ℕ) (n due : ℕ) (fs : List Framed) → due_at d minor ws (at n due) ≡ Comes f → f.len ≡ length (bytes_due d f.key f.what)
+    now-fits : (f : Frame) (ws : List ℕ) (n due : ℕ) (fs : List Framed) → due_at d minor ws (at n due) ≡ Ok (Some f) → f.len ≡ length (bytes_due d f.key f.what)
         → (t : Bool) → leb (length (bytes_due d f.key f.what)) room ≡ t
-        → Right (record { answer = passed.At (at n due); levels = ws }) (framed_due d f ∷ fs) 0
+        → Right (record { answer = Ok (Some (at n due)); levels = ws }) (framed_due d f ∷ fs) 0
     now-fits f ws n due fs e l true q =
         let b = bytes_due d f.key f.what in
         record {
-          answers = rw (e, l, q, step-first (framed_due d f) fs room, q) (ap Written (zero-add (length b)));
+          answers = rw (e, l, q, step-first (framed_due d f) fs room, q) (ap (λ (x : ℕ). Ok (Some x)) (zero-add (length b)));
           leaves = rw (e, l, q, step-first (framed_due d f) fs room, q) (put-start out b (leb-true (length b) room q));
         }
     now-fits f ws n due fs e l false q =
@@ -125,7 +118,7 @@ module _ (h : List ℕ) (w : CleanAndWellFormed h) where
     passes zero ws (suc k) due st =
         let g = one-frame h w ws k due st in
         let f = g.frame in
-        subst (λ (fs : List Framed). Right (record { answer = passed.At (at (suc k) due); levels = ws }) fs 0) (sym g.gives)
+        subst (λ (fs : List Framed). Right (record { answer = Ok (Some (at (suc k) due)); levels = ws }) fs 0) (sym g.gives)
         (now-fits f ws (suc k) due _ g.is (due-lies d minor ws (at (suc k) due) g.is).len (leb (length (bytes_due d f.key f.what)) room) refl)
     passes (suc n) ws (suc k) due st =
         let g = one-frame h w ws k due st in
@@ -146,7 +139,7 @@ module _ (h : List ℕ) (w : CleanAndWellFormed h) where
         subst (λ (fs : List Framed). Right (went d minor n (root_words (hive_of h).root) start) fs n) (all-coming h w ws (omega arith))
         (passes n (begun h w ws (omega arith)) 1 0 (begun-stands h w ws (omega arith)))
 
-    pub step_is : (m : List ℕ) {x : Report} → check_answer h m ≡ checked.Accepted x → (n : ℕ)
+    pub step_is : (m : List ℕ) {x : Report} → check_answer h m ≡ Ok x → (n : ℕ)
         → (stepped_in d minor (hive_of h).root n room ≡ step_answer h m n room) × (sets out 0 (bytes_in d minor (hive_of h).root n room) ≡ step_out h m n out)
     unfolding stepped_in bytes_in step_answer step_out
     step_is m e n = let r = root-right n in (rw e r.answers, rw e r.leaves)
@@ -179,7 +172,7 @@ module _ (h : List ℕ) (w : CleanAndWellFormed h) where
       by r true e = rw (g.is, e) (record { splits = g.gives ∙ ap (λ (fs : List Framed). framed_due d f ∷ fs) r.splits; stands = r.stands })
       by r false e = rw (g.is, e) (record { splits = refl; stands = st })
 
-  base : base_fault h ≡ Sound
+  base : base_fault h ≡ Ok tt
   base = facts-base h w.is-clean w.inside
 
   -- the open keys stand in the words
@@ -187,7 +180,7 @@ module _ (h : List ℕ) (w : CleanAndWellFormed h) where
   deep ws zero st = omega arith
   deep ws (suc k) st = let o = st.each k (omega arith) in let v = st.words in omega (arith, o.level)
 
-  run_sound : (ws : List ℕ) (c : Cursor) → Standing h ws c.depth → run_fault h ws c ≡ Sound
+  run_sound : (ws : List ℕ) (c : Cursor) → Standing h ws c.depth → run_fault h ws c ≡ Ok tt
   unfolding run_fault
   run_sound ws c st = on (base_fault h) _ base ∙ rw (le-leb 1539 (length ws) st.words, le-leb (3 * c.depth) (length ws) (deep ws c.depth st))
 
@@ -198,7 +191,7 @@ module _ (h : List ℕ) (w : CleanAndWellFormed h) where
   ran-by ws c st room = rw (run_sound ws c st)
 
   -- with no key open, with room for the frame that is due, and with less
-  ran_over : (ws : List ℕ) (due room : ℕ) → Standing h ws 0 → run_answer h ws (at 0 due) room ≡ ran.Done
+  ran_over : (ws : List ℕ) (due room : ℕ) → Standing h ws 0 → run_answer h ws (at 0 due) room ≡ Ok None
   unfolding packed
   ran_over ws due room st = ran-by ws (at 0 due) st room ∙ rw (over ws due, none-packed room)
     where
@@ -216,14 +209,14 @@ module _ (h : List ℕ) (w : CleanAndWellFormed h) where
     f-len : f.len ≡ length (bytes_due d f.key f.what)
     f-len = (due-lies d minor ws (at (suc k) due) g.is).len
 
-    ran-more : (room : ℕ) → f.len ≤ room → (p : Progress) × (run_answer h ws (at (suc k) due) room ≡ ran.Written p) × (0 < p.frames)
+    ran-more : (room : ℕ) → f.len ≤ room → (p : Progress) × (run_answer h ws (at (suc k) due) room ≡ Ok (Some p)) × (0 < p.frames)
     ran-more zero q = absurd (let s = some_bytes d f.key f.what in let l = f-len in omega arith)
     ran-more (suc room) q =
         let e = packed_more d minor room ws (at (suc k) due) (suc room) f g.is q in
         let pk = more (framed_due d f) (packed d minor room (words_behind ws (suc k) f.what) (cursor_behind (suc k) f) (suc room - f.len)) in
         (record { frames = length pk.frames; bytes = length (joined_frames pk.frames); next = pk.behind }, ran-by ws (at (suc k) due) st (suc room) ∙ rw e, omega arith)
 
-    ran-waits : (room : ℕ) → room < f.len → run_answer h ws (at (suc k) due) room ≡ ran.Refused (short f.key)
+    ran-waits : (room : ℕ) → room < f.len → run_answer h ws (at (suc k) due) room ≡ Err (short f.key)
     unfolding packed
     ran-waits room q = ran-by ws (at (suc k) due) st room ∙ rw (none-packed room, g.is)
       where
@@ -269,7 +262,7 @@ module _ (h : List ℕ) (w : CleanAndWellFormed h) where
         waits = λ x xs e room q.
             let y = head-is (sym r.gives ∙ e) in
             let v = ap (λ (z : Framed). length z.bytes) y in
-            ran-waits ws k due come.stands room (omega arith) ∙ ap (λ (z : Framed). ran.Refused (short z.key)) y;
+            ran-waits ws k due come.stands room (omega arith) ∙ ap (λ (z : Framed). Err (short z.key)) y;
       }
 
   -- what a run that wrote says
@@ -277,15 +270,15 @@ module _ (h : List ℕ) (w : CleanAndWellFormed h) where
     bytes : p.bytes ≡ length (joined_frames x)
     next : p.next ≡ c
 
-  wrote : (y : Due) (x : List Framed) (c : Cursor) {p : Progress} → ran_of y x c ≡ ran.Written p → Wrote x c p
-  wrote (Comes f) [] c e = absurd (let z : ◌≡◌ {A = ℕ} 0 1 = cc in omega arith)
-  wrote Over [] c e = absurd (let z : ◌≡◌ {A = ℕ} 0 1 = cc in omega arith)
-  wrote (Bad r) [] c e = absurd (let z : ◌≡◌ {A = ℕ} 0 1 = cc in omega arith)
+  wrote : (y : Result (Option Frame) Refusal) (x : List Framed) (c : Cursor) {p : Progress} → ran_of y x c ≡ Ok (Some p) → Wrote x c p
+  wrote (Ok (Some f)) [] c e = absurd (let z : ◌≡◌ {A = ℕ} 0 1 = cc in omega arith)
+  wrote (Ok None) [] c e = absurd (let z : ◌≡◌ {A = ℕ} 0 1 = cc in omega arith)
+  wrote (Err r) [] c e = absurd (let z : ◌≡◌ {A = ℕ} 0 1 = cc in omega arith)
   wrote y (f ∷ fs) c {p} e =
       let q : ◌≡◌ {A = Progress} (record { frames = length (f ∷ fs); bytes = length (joined_frames (f ∷ fs)); next = c }) p = cc in
       record { bytes = ap (λ (r : Progress). r.bytes) (sym q); next = ap (λ (r : Progress). r.next) (sym q) }
 
-  come-on : (ws : List ℕ) (c : Cursor) (s out : List ℕ) {p : Progress} → Come ws c s → run_answer h ws c (length out) ≡ ran.Written p
+  come-on : (ws : List ℕ) (c : Cursor) (s out : List ℕ) {p : Progress} → Come ws c s → run_answer h ws c (length out) ≡ Ok (Some p)
       → Come (run_levels h ws c (length out)) p.next (s ++ take p.bytes (run_out h ws c out))
   unfolding run_levels run_out
   come-on ws c s out {p} come e =
@@ -311,18 +304,18 @@ module _ (h : List ℕ) (w : CleanAndWellFormed h) where
 
   module _ (m : List ℕ) where
     -- begin on an accepted hive
-    begun-comes : (ws : List ℕ) {c : Cursor} → begin_answer h m ws ≡ At c → Come (begin_levels h m ws) c []
+    begun-comes : (ws : List ℕ) {c : Cursor} → begin_answer h m ws ≡ Ok c → Come (begin_levels h m ws) c []
     unfolding begin_levels begin_answer begun
     begun-comes ws {c} e = by (check_answer h m) refl
       where
-        by : (x : Checked) → check_answer h m ≡ x → Come (begin_levels h m ws) c []
-        by (checked.Refused r) q = absurd (let y = rw q at e in let z : ◌≡◌ {A = ℕ} 0 1 = cc in omega arith)
-        by (checked.Accepted r) q = room (leb words (length ws)) refl
+        by : (x : Result Report Refusal) → check_answer h m ≡ x → Come (begin_levels h m ws) c []
+        by (Err r) q = absurd (let y = rw q at e in let z : ◌≡◌ {A = ℕ} 0 1 = cc in omega arith)
+        by (Ok r) q = room (leb words (length ws)) refl
           where
             room : (t : Bool) → leb words (length ws) ≡ t → Come (begin_levels h m ws) c []
             room false f = absurd (let y = rw (q, f) at e in let z : ◌≡◌ {A = ℕ} 0 1 = cc in omega arith)
             room true f =
-                let y : At start ≡ At c = rw (q, f) at e in
+                let y : ◌≡◌ {A = Result Cursor Refusal} (Ok start) (Ok c) = rw (q, f) at e in
                 let i : start ≡ c = cc in
                 let v = leb-true words (length ws) f in
                 rw (q, f, ← i)
@@ -340,3 +333,7 @@ module _ (h : List ℕ) (w : CleanAndWellFormed h) where
     -- "begin on an accepted hive, then runs [..] give stream_of h in pieces and then Done; never another refusal"
     pub run-law : {ws : List ℕ} {c : Cursor} {s : List ℕ} → Reached h m ws c s → Goes h ws c s
     run-law {ws} {c} {s} r = goes_on ws c.depth c.due s (comes r)
+
+-- ---- by these names the attributes in the code cite them
+
+pub ruleset accepted = (accepted-formed, step_is)

@@ -8,10 +8,9 @@ use mathlib.Core.List.{List, [], ◌∷◌, ◌++◌, append_assoc, append-nil}
 use lib.Dec.{leb}
 use lib.ListN.{length, length-append}
 use lib.Seq.{sets, length-sets}
-use borrow.Author.Tests.{ne_eqb, leb-true, le-leb, lt-leb}
+use borrow.Author.Tests.{ne_eqb, leb-true, le-leb}
 use Rattle.fields.specs.declared.Offset.{Offset}
 use Rattle.fields.specs.declared.Refusal.{Refusal}
-use Rattle.fields.specs.declared.Verdict.TheVariants.{Sound}
 use Rattle.cells.specs.declared.Rule.TheVariants.{Header}
 use Rattle.records.specs.Keys.{key_fault}
 use Rattle.walk.specs.Answers.{key_at}
@@ -20,103 +19,87 @@ use Rattle.stream.proofs.Puts.{put_then, close-length}
 use Rattle.stream.proofs.Laws.{open-some, value-some}
 use Rattle.stream.proofs.Whole.{joined-append, joined-one, joined-none}
 use Rattle.export.specs.declared.Cursor.{Cursor}
-use Rattle.export.specs.declared.Due.{Due}
-use Rattle.export.specs.declared.Due.TheVariants.{Comes, Over, Refused as Bad}
 use Rattle.export.specs.declared.Frame.{Frame}
-use Rattle.export.specs.declared.Passed.TheVariants as passed
-use Rattle.export.specs.declared.Ran.{Ran}
-use Rattle.export.specs.declared.Ran.TheVariants as ran
-use Rattle.export.specs.declared.Turn.TheVariants as turn
 use Rattle.export.specs.declared.What.{What}
 use Rattle.export.specs.declared.What.TheVariants as what
 use Rattle.export.specs.Due.{bytes_due, framed_due, past, due_at, words_behind, depth_behind, cursor_behind}
 use Rattle.export.specs.Answers.{short, Packed, none, more, packed_on, packed, not_one, ran_of}
 use Rattle.export.specs.Terms.{WhatGoes, FrameLies, turn_of, turn_bytes, turn_words, ended_of, ran_in, went}
 use Rattle.export.proofs.Ways.{due-lies, due-known}
+use Rattle.export.specs.declared.Progress.{Progress}
+use Rattle.std.specs.Prelude.{Err, None, Ok, Option, Result, Some}
 
 -- ---- a turn
 
-module _ {x : Due} {f : Frame} (e : x ≡ Comes f) (n room at : ℕ) where
-  pub turn-short : room < f.len → turn_of x n room at ≡ turn.Refused (short f.key)
-  turn-short p = rw (e, lt-leb f.len room p)
-
-  pub turn_on : f.len ≤ room → turn_of x n room at ≡ turn.On (cursor_behind n f) (at + f.len)
-  turn_on p = rw (e, le-leb f.len room p)
-
-module _ {x : Due} {f : Frame} (e : x ≡ Comes f) (room : ℕ) where
-  pub words-short : (ws : List ℕ) (n : ℕ) → room < f.len → turn_words ws n x room ≡ ws
-  words-short ws n p = rw (e, lt-leb f.len room p)
-
+module _ {x : Result (Option Frame) Refusal} {f : Frame} (e : x ≡ Ok (Some f)) (room : ℕ) where
   pub words-on : (ws : List ℕ) (n : ℕ) → f.len ≤ room → turn_words ws n x room ≡ words_behind ws n f.what
   words-on ws n p = rw (e, le-leb f.len room p)
-
-  pub bytes-short : (d : List ℕ) → room < f.len → turn_bytes d x room ≡ []
-  bytes-short d p = rw (e, lt-leb f.len room p)
 
   pub bytes_on : (d : List ℕ) → f.len ≤ room → turn_bytes d x room ≡ bytes_due d f.key f.what
   bytes_on d p = rw (e, le-leb f.len room p)
 
 -- what a turn that goes on says
-pub record Went-on (x : Due) (n room at : ℕ) (c : Cursor) (end : ℕ) : Type 0 where
+pub record Went-on (x : Result (Option Frame) Refusal) (n room at : ℕ) (c : Cursor) (end : ℕ) : Type 0 where
   pub frame : Frame
-  pub comes : x ≡ Comes frame
+  pub comes : x ≡ Ok (Some frame)
   pub fit : frame.len ≤ room
   pub next : c ≡ cursor_behind n frame
   pub end_is : end ≡ at + frame.len
 
-pub went_on_lem : (x : Due) (n room at : ℕ) {c : Cursor} {end : ℕ} → turn_of x n room at ≡ turn.On c end → Went-on x n room at c end
-went_on_lem (Comes f) n room at {c} {end} e = by (leb f.len room) refl
+pub went_on_lem : (x : Result (Option Frame) Refusal) (n room at : ℕ) {c : Cursor} {end : ℕ} → turn_of x n room at ≡ Ok (Some (c, end)) → Went-on x n room at c end
+went_on_lem (Ok (Some f)) n room at {c} {end} e = by (leb f.len room) refl
   where
-    by : (t : Bool) → leb f.len room ≡ t → Went-on (Comes f) n room at c end
+    by : (t : Bool) → leb f.len room ≡ t → Went-on (Ok (Some f)) n room at c end
     by true p =
-        let q : turn.On (cursor_behind n f) (at + f.len) ≡ turn.On c end = rw p at e in
-        let a : cursor_behind n f ≡ c = cc in
-        let b : at + f.len ≡ end = cc in
+        let q : Ok (Some (cursor_behind n f, at + f.len)) ≡ Ok (Some (c, end)) = rw p at e in
+        let s : (cursor_behind n f, at + f.len) ≡ (c, end) = cc in
+        let a : cursor_behind n f ≡ c = ap (λ (y : Cursor × ℕ). y.0) s in
+        let b : at + f.len ≡ end = ap (λ (y : Cursor × ℕ). y.1) s in
         record { frame = f; comes = refl; fit = leb-true f.len room p; next = sym a; end_is = sym b }
-    by false p = absurd (let q : turn.Refused (short f.key) ≡ turn.On c end = rw p at e in let z : ◌≡◌ {A = ℕ} 0 1 = cc in omega arith)
-went_on_lem Over n room at e = absurd (let z : ◌≡◌ {A = ℕ} 0 1 = cc in omega arith)
-went_on_lem (Bad r) n room at e = absurd (let z : ◌≡◌ {A = ℕ} 0 1 = cc in omega arith)
+    by false p = absurd (let q : Err (short f.key) ≡ Ok (Some (c, end)) = rw p at e in let z : ◌≡◌ {A = ℕ} 0 1 = cc in omega arith)
+went_on_lem (Ok None) n room at e = absurd (let z : ◌≡◌ {A = ℕ} 0 1 = cc in omega arith)
+went_on_lem (Err r) n room at e = absurd (let z : ◌≡◌ {A = ℕ} 0 1 = cc in omega arith)
 
 -- and what it leaves on top was tested, where it does not close
 pub turn-known : (d : List ℕ) (minor : ℕ) (ws : List ℕ) (c : Cursor) (room at : ℕ) {b : Cursor} {end : ℕ}
-    → turn_of (due_at d minor ws c) c.depth room at ≡ turn.On b end → b.due < past
-    → key_fault Header d [] (key_at (turn_words ws c.depth (due_at d minor ws c) room) b.depth) ≡ Sound
+    → turn_of (due_at d minor ws c) c.depth room at ≡ Ok (Some (b, end)) → b.due < past
+    → key_fault Header d [] (key_at (turn_words ws c.depth (due_at d minor ws c) room) b.depth) ≡ Ok tt
 turn-known d minor ws c room at {b} t p =
     let w = went_on_lem (due_at d minor ws c) c.depth room at t in
     let q = subst (λ (x : Cursor). x.due < past) w.next p in
-    subst (λ (us : List ℕ). key_fault Header d [] (key_at us b.depth) ≡ Sound) (sym (words-on w.comes room ws c.depth w.fit))
-    (subst (λ (x : Cursor). key_fault Header d [] (key_at (words_behind ws c.depth w.frame.what) x.depth) ≡ Sound) (sym w.next)
+    subst (λ (us : List ℕ). key_fault Header d [] (key_at us b.depth) ≡ Ok tt) (sym (words-on w.comes room ws c.depth w.fit))
+    (subst (λ (x : Cursor). key_fault Header d [] (key_at (words_behind ws c.depth w.frame.what) x.depth) ≡ Ok tt) (sym w.next)
     (due-known d minor ws c w.comes q))
 
 -- and one that stops
-pub record Stops (x : Due) (room : ℕ) (stop : Ran) : Type 0 where
+pub record Stops (x : Result (Option Frame) Refusal) (room : ℕ) (stop : Result (Option Progress) Refusal) : Type 0 where
   pub pack : (d ws : List ℕ) (c : Cursor) (go : List ℕ → Cursor → ℕ → Packed) → packed_on d x ws c room go ≡ none ws c
   pub words : (ws : List ℕ) (n : ℕ) → turn_words ws n x room ≡ ws
   pub bytes : (d : List ℕ) → turn_bytes d x room ≡ []
   pub not-one : not_one x ≡ stop
 
-pub stops-over : (x : Due) (n room at : ℕ) → turn_of x n room at ≡ turn.Over → Stops x room ran.Done
-stops-over (Comes f) n room at e = by (leb f.len room) refl
+pub stops-over : (x : Result (Option Frame) Refusal) (n room at : ℕ) → turn_of x n room at ≡ Ok None → Stops x room (Ok None)
+stops-over (Ok (Some f)) n room at e = by (leb f.len room) refl
   where
-    by : (t : Bool) → leb f.len room ≡ t → Stops (Comes f) room ran.Done
-    by true p = absurd (let q : turn.On (cursor_behind n f) (at + f.len) ≡ turn.Over = rw p at e in let z : ◌≡◌ {A = ℕ} 0 1 = cc in omega arith)
-    by false p = absurd (let q : turn.Refused (short f.key) ≡ turn.Over = rw p at e in let z : ◌≡◌ {A = ℕ} 0 1 = cc in omega arith)
-stops-over Over n room at e = record { pack = λ d ws c go. refl; words = λ ws n. refl; bytes = λ d. refl; not-one = refl }
-stops-over (Bad r) n room at e = absurd (let z : ◌≡◌ {A = ℕ} 0 1 = cc in omega arith)
+    by : (t : Bool) → leb f.len room ≡ t → Stops (Ok (Some f)) room (Ok None)
+    by true p = absurd (let q : Ok (Some (cursor_behind n f, at + f.len)) ≡ (Ok None) = rw p at e in let z : ◌≡◌ {A = ℕ} 0 1 = cc in omega arith)
+    by false p = absurd (let q : Err (short f.key) ≡ (Ok None) = rw p at e in let z : ◌≡◌ {A = ℕ} 0 1 = cc in omega arith)
+stops-over (Ok None) n room at e = record { pack = λ d ws c go. refl; words = λ ws n. refl; bytes = λ d. refl; not-one = refl }
+stops-over (Err r) n room at e = absurd (let z : ◌≡◌ {A = ℕ} 0 1 = cc in omega arith)
 
-pub stops-bad : (x : Due) (n room at : ℕ) {r : Refusal} → turn_of x n room at ≡ turn.Refused r → Stops x room (ran.Refused r)
-stops-bad (Comes f) n room at {r} e = by (leb f.len room) refl
+pub stops-bad : (x : Result (Option Frame) Refusal) (n room at : ℕ) {r : Refusal} → turn_of x n room at ≡ Err r → Stops x room (Err r)
+stops-bad (Ok (Some f)) n room at {r} e = by (leb f.len room) refl
   where
-    by : (t : Bool) → leb f.len room ≡ t → Stops (Comes f) room (ran.Refused r)
-    by true p = absurd (let q : turn.On (cursor_behind n f) (at + f.len) ≡ turn.Refused r = rw p at e in let z : ◌≡◌ {A = ℕ} 0 1 = cc in omega arith)
+    by : (t : Bool) → leb f.len room ≡ t → Stops (Ok (Some f)) room (Err r)
+    by true p = absurd (let q : Ok (Some (cursor_behind n f, at + f.len)) ≡ Err r = rw p at e in let z : ◌≡◌ {A = ℕ} 0 1 = cc in omega arith)
     by false p =
-        let q : turn.Refused (short f.key) ≡ turn.Refused r = rw p at e in
+        let q : Err (short f.key) ≡ Err r = rw p at e in
         let s : short f.key ≡ r = cc in
-        record { pack = λ d ws c go. rw p; words = λ ws n. rw p; bytes = λ d. rw p; not-one = ap ran.Refused s }
-stops-bad Over n room at e = absurd (let z : ◌≡◌ {A = ℕ} 0 1 = cc in omega arith)
-stops-bad (Bad s) n room at {r} e =
+        record { pack = λ d ws c go. rw p; words = λ ws n. rw p; bytes = λ d. rw p; not-one = ap Err s }
+stops-bad (Ok None) n room at e = absurd (let z : ◌≡◌ {A = ℕ} 0 1 = cc in omega arith)
+stops-bad (Err s) n room at {r} e =
     let q : s ≡ r = cc in
-    record { pack = λ d ws c go. refl; words = λ ws n. refl; bytes = λ d. refl; not-one = ap ran.Refused q }
+    record { pack = λ d ws c go. refl; words = λ ws n. refl; bytes = λ d. refl; not-one = ap Err q }
 
 -- ---- lengths
 
@@ -141,20 +124,20 @@ depth-room ws n (what.Child e m) g p = let s = same-words ws n (what.Child e m) 
 depth-room ws n what.Closing g p = omega arith
 
 -- behind a frame that comes
-pub behind-fits : (d : List ℕ) (minor : ℕ) (ws : List ℕ) (c : Cursor) {f : Frame} → due_at d minor ws c ≡ Comes f → 3 * c.depth ≤ length ws
+pub behind-fits : (d : List ℕ) (minor : ℕ) (ws : List ℕ) (c : Cursor) {f : Frame} → due_at d minor ws c ≡ Ok (Some f) → 3 * c.depth ≤ length ws
     → (3 * (cursor_behind c.depth f).depth ≤ length (words_behind ws c.depth f.what)) × (length (words_behind ws c.depth f.what) ≡ length ws)
 behind-fits d minor ws c {f} e p = (depth-room ws c.depth f.what (due-lies d minor ws c e).goes p, same-words ws c.depth f.what)
 
 -- ---- a run
 
 -- what one more frame adds
-pub packed_more : (d : List ℕ) (minor n : ℕ) (ws : List ℕ) (c : Cursor) (room : ℕ) (f : Frame) → due_at d minor ws c ≡ Comes f → f.len ≤ room
+pub packed_more : (d : List ℕ) (minor n : ℕ) (ws : List ℕ) (c : Cursor) (room : ℕ) (f : Frame) → due_at d minor ws c ≡ Ok (Some f) → f.len ≤ room
     → packed d minor (suc n) ws c room
     ≡ more (framed_due d f) (packed d minor n (words_behind ws c.depth f.what) (cursor_behind c.depth f) (room - f.len))
 unfolding packed
 packed_more d minor n ws c room f e p = rw (e, le-leb f.len room p)
 
-packed_none : (d : List ℕ) (minor n : ℕ) (ws : List ℕ) (c : Cursor) (room : ℕ) {stop : Ran} → Stops (due_at d minor ws c) room stop
+packed_none : (d : List ℕ) (minor n : ℕ) (ws : List ℕ) (c : Cursor) (room : ℕ) {stop : Result (Option Progress) Refusal} → Stops (due_at d minor ws c) room stop
     → packed d minor n ws c room ≡ none ws c
 unfolding packed
 packed_none d minor zero ws c room s = refl
@@ -204,7 +187,7 @@ module _ (d : List ℕ) (minor : ℕ) (ws₀ : List ℕ) (c₀ : Cursor) (out₀
     pub out-size : length out ≡ length out₀
     out-size = ap length r.bytes ∙ length-sets out₀ 0 (joined_frames r.written)
 
-    module _ {c' : Cursor} {end : ℕ} (t : turn_of (due_at d minor ws c) c.depth (length out - at) at ≡ turn.On c' end) where
+    module _ {c' : Cursor} {end : ℕ} (t : turn_of (due_at d minor ws c) c.depth (length out - at) at ≡ Ok (Some (c', end))) where
       abbrev w : Went-on (due_at d minor ws c) c.depth (length out - at) at c' end
       w = went_on_lem (due_at d minor ws c) c.depth (length out - at) at t
 
@@ -274,7 +257,7 @@ module _ (d : List ℕ) (minor : ℕ) (ws₀ : List ℕ) (c₀ : Cursor) (out₀
           })
 
     -- where no turn goes on
-    module _ {stop : Ran} (s : Stops (due_at d minor ws c) (length out - at) stop) where
+    module _ {stop : Result (Option Progress) Refusal} (s : Stops (due_at d minor ws c) (length out - at) stop) where
       last : rest ws c at n ≡ none ws c
       last = packed_none d minor (length out₀ - n) ws c (length out₀ - at) (subst (λ (k : ℕ). Stops (due_at d minor ws c) (k - at) stop) out-size s)
 
@@ -301,12 +284,12 @@ module _ (d : List ℕ) (minor : ℕ) (ws₀ : List ℕ) (c₀ : Cursor) (out₀
           by (x ∷ fs) e =
               let z : n ≡ suc (length fs) = r.many ∙ ap length e in
               let y = r.end ∙ ap (λ (u : List Framed). length (joined_frames u)) e in
-              rw (e, ne_eqb n 0 (λ q. omega arith)) (ap₂ (λ (i j : ℕ). ran.Written (record { frames = i; bytes = j; next = c })) z y)
+              rw (e, ne_eqb n 0 (λ q. omega arith)) (ap₂ (λ (i j : ℕ). Ok (Some (record { frames = i; bytes = j; next = c }))) z y)
 
 -- ---- frames passed over
 
 module _ (d : List ℕ) (minor : ℕ) (n : ℕ) (ws : List ℕ) (c : Cursor) where
-  pub went-none : n ≡ 0 → went d minor n ws c ≡ record { answer = passed.At c; levels = ws }
+  pub went-none : n ≡ 0 → went d minor n ws c ≡ record { answer = Ok (Some c); levels = ws }
   unfolding went
   went-none e = rw e
 
@@ -314,15 +297,21 @@ module _ (d : List ℕ) (minor : ℕ) (n : ℕ) (ws : List ℕ) (c : Cursor) whe
     more_left : n ≡ suc (n - 1)
     more_left = omega arith
 
-    pub went-comes : {f : Frame} → due_at d minor ws c ≡ Comes f
+    pub went-comes : {f : Frame} → due_at d minor ws c ≡ Ok (Some f)
         → went d minor n ws c ≡ went d minor (n - 1) (words_behind ws c.depth f.what) (cursor_behind c.depth f)
     unfolding went
     went-comes e = ap (λ (k : ℕ). went d minor k ws c) more_left ∙ rw e
 
-    pub went-over : due_at d minor ws c ≡ Over → went d minor n ws c ≡ record { answer = passed.Over; levels = ws }
+    pub went-over : due_at d minor ws c ≡ Ok None → went d minor n ws c ≡ record { answer = Ok None; levels = ws }
     unfolding went
     went-over e = ap (λ (k : ℕ). went d minor k ws c) more_left ∙ rw e
 
-    pub went-bad : {r : Refusal} → due_at d minor ws c ≡ Bad r → went d minor n ws c ≡ record { answer = passed.Refused r; levels = ws }
+    pub went-bad : {r : Refusal} → due_at d minor ws c ≡ Err r → went d minor n ws c ≡ record { answer = Err r; levels = ws }
     unfolding went
     went-bad e = ap (λ (k : ℕ). went d minor k ws c) more_left ∙ rw e
+
+-- ---- by these names the attributes in the code cite them
+
+pub ruleset of_run = (turn-known, stops-over, stops-bad, run-start, out-size, run-less, run-turn, stop-levels, stop-out, stop-answer)
+
+pub ruleset of_pass = (due-lies, behind-fits, went-none, went-comes, went-over, went-bad)

@@ -1,27 +1,18 @@
 -- The answers of a step, of the start of runs and of a run, and what is written. h is the hive, m the lent work map, ws the lent words, out the lent buffer.
-use Rattle.std.specs.Prelude.{ℕ, zero, suc, ◌-◌, cond, List, [], ◌∷◌, ◌++◌, leb, length, get_or, drop}
+use Rattle.std.specs.Prelude.{ℕ, zero, suc, ◌-◌, cond, List, [], ◌∷◌, ◌++◌, leb, length, get_or, drop, Err, None, Ok, Option, Result, Some}
 use Rattle.std.proofs.lemmas.List.Edits.{sets}
 use Rattle.fields.specs.declared.Fault.TheVariants.{OutputShort}
 use Rattle.fields.specs.declared.Offset.{Offset}
 use Rattle.fields.specs.declared.Refusal.{Refusal}
-use Rattle.fields.specs.declared.Verdict.{Verdict}
-use Rattle.fields.specs.declared.Verdict.TheVariants.{Sound, Flawed}
-use Rattle.fields.specs.Faults.{flaw, nowhere, no_key, refusal_of}
+use Rattle.fields.specs.Faults.{flaw, nowhere, no_key, refusal_of, Verdict}
 use Rattle.base.specs.Block.{bins_data}
-use Rattle.tree.specs.declared.Checked.{Checked}
-use Rattle.tree.specs.declared.Checked.TheVariants as checked
 use Rattle.tree.specs.Tree.{hive_of, check_answer}
 use Rattle.stream.specs.Stream.{Framed, frames_of, joined_frames}
-use Rattle.export.specs.declared.Begun.{Begun}
-use Rattle.export.specs.declared.Begun.TheVariants.{At, Refused as Unbegun}
 use Rattle.export.specs.declared.Cursor.{Cursor}
-use Rattle.export.specs.declared.Due.{Due}
-use Rattle.export.specs.declared.Due.TheVariants.{Comes, Over, Refused as Bad}
-use Rattle.export.specs.declared.Ran.{Ran}
-use Rattle.export.specs.declared.Ran.TheVariants as ran
-use Rattle.export.specs.declared.Stepped.{Stepped}
-use Rattle.export.specs.declared.Stepped.TheVariants.{Written, Done, Refused}
 use Rattle.export.specs.Due.{words, run_fault, framed_due, due_at, words_behind, cursor_behind}
+use Rattle.export.specs.declared.Frame.{Frame}
+use Rattle.export.specs.declared.Progress.{Progress}
+use Rattle.tree.specs.declared.Report.{Report}
 
 -- ---- a step: "each step takes a frame number and writes that one frame into the lent buffer"
 
@@ -33,26 +24,26 @@ short k = refusal_of k (flaw OutputShort nowhere)
 abbrev pub no_frame : Framed
 no_frame = record { key = no_key; bytes = [] }
 
-abbrev pub fits : Framed → ℕ → Stepped
-fits f room = cond (leb (length f.bytes) room) (Written (length f.bytes)) (Refused (short f.key))
+abbrev pub fits : Framed → ℕ → Result (Option ℕ) Refusal
+fits f room = cond (leb (length f.bytes) room) (Ok (Some (length f.bytes))) (Err (short f.key))
 
 -- "says "done" past the last frame"
-unfoldable pub step_from : List Framed → ℕ → ℕ → Stepped
-step_from fs n room = cond (leb (length fs) n) Done (fits (get_or fs n no_frame) room)
+unfoldable pub step_from : List Framed → ℕ → ℕ → Result (Option ℕ) Refusal
+step_from fs n room = cond (leb (length fs) n) (Ok None) (fits (get_or fs n no_frame) room)
 
 -- "Hives not accepted are refused by the check's own number."
-abbrev pub on_checked : {A : Type 0} → Checked → (Refusal → A) → A → A
-on_checked (checked.Refused r) stop go = stop r
-on_checked (checked.Accepted x) stop go = go
+abbrev pub on_checked : {A : Type 0} → Result Report Refusal → (Refusal → A) → A → A
+on_checked (Err r) stop go = stop r
+on_checked (Ok x) stop go = go
 
-unfoldable pub step_answer : List ℕ → List ℕ → ℕ → ℕ → Stepped
-step_answer h m n room = on_checked (check_answer h m) Refused (step_from (frames_of h) n room)
+unfoldable pub step_answer : List ℕ → List ℕ → ℕ → ℕ → Result (Option ℕ) Refusal
+step_answer h m n room = on_checked (check_answer h m) Err (step_from (frames_of h) n room)
 
 -- the buffer afterwards: frame n, and then what stood behind it; on all else "leaves that buffer"
-abbrev pub out_after : Stepped → List ℕ → List ℕ → List ℕ
-out_after (Written k) bytes out = bytes ++ drop (length bytes) out
-out_after Done bytes out = out
-out_after (Refused r) bytes out = out
+abbrev pub out_after : Result (Option ℕ) Refusal → List ℕ → List ℕ → List ℕ
+out_after (Ok (Some k)) bytes out = bytes ++ drop (length bytes) out
+out_after (Ok None) bytes out = out
+out_after (Err r) bytes out = out
 
 unfoldable pub step_out : List ℕ → List ℕ → ℕ → List ℕ → List ℕ
 step_out h m n out = out_after (step_answer h m n (length out)) (get_or (frames_of h) n no_frame).bytes out
@@ -62,12 +53,12 @@ step_out h m n out = out_after (step_answer h m n (length out)) (get_or (frames_
 abbrev pub start : Cursor
 start = record { depth = 1; due = 0 }
 
-unfoldable pub begin_answer : List ℕ → List ℕ → List ℕ → Begun
-begin_answer h m ws = on_checked (check_answer h m) Unbegun (cond (leb words (length ws)) (At start) (Unbegun (short no_key)))
+unfoldable pub begin_answer : List ℕ → List ℕ → List ℕ → Result Cursor Refusal
+begin_answer h m ws = on_checked (check_answer h m) Err (cond (leb words (length ws)) (Ok start) (Err (short no_key)))
 
-abbrev pub levels_begun : Begun → Offset → List ℕ → List ℕ
-levels_begun (At c) root ws = sets ws 0 (root.0 ∷ 0 ∷ 0 ∷ [])
-levels_begun (Unbegun r) root ws = ws
+abbrev pub levels_begun : Result Cursor Refusal → Offset → List ℕ → List ℕ
+levels_begun (Ok c) root ws = sets ws 0 (root.0 ∷ 0 ∷ 0 ∷ [])
+levels_begun (Err r) root ws = ws
 
 unfoldable pub begin_levels : List ℕ → List ℕ → List ℕ → List ℕ
 begin_levels h m ws = levels_begun (begin_answer h m ws) (hive_of h).root ws
@@ -87,37 +78,37 @@ abbrev pub more : Framed → Packed → Packed
 more f p = record { frames = f ∷ p.frames; levels = p.levels; behind = p.behind }
 
 -- with so much room; each frame has some bytes, so that there are at most as many frames as bytes
-abbrev pub packed_on : List ℕ → Due → List ℕ → Cursor → ℕ → (List ℕ → Cursor → ℕ → Packed) → Packed
-packed_on d (Comes f) ws c room go =
+abbrev pub packed_on : List ℕ → Result (Option Frame) Refusal → List ℕ → Cursor → ℕ → (List ℕ → Cursor → ℕ → Packed) → Packed
+packed_on d (Ok (Some f)) ws c room go =
     cond (leb f.len room) (more (framed_due d f) (go (words_behind ws c.depth f.what) (cursor_behind c.depth f) (room - f.len))) (none ws c)
-packed_on d Over ws c room go = none ws c
-packed_on d (Bad r) ws c room go = none ws c
+packed_on d (Ok None) ws c room go = none ws c
+packed_on d (Err r) ws c room go = none ws c
 
 unfoldable pub packed : List ℕ → ℕ → ℕ → List ℕ → Cursor → ℕ → Packed
 packed d minor zero ws c room = none ws c
 packed d minor (suc n) ws c room = packed_on d (due_at d minor ws c) ws c room (packed d minor n)
 
 -- "not even one: 20 with the frame's key"; "A refusal met behind written frames is left to the next run."
-abbrev pub not_one : Due → Ran
-not_one (Comes f) = ran.Refused (short f.key)
-not_one Over = ran.Done
-not_one (Bad r) = ran.Refused r
+abbrev pub not_one : Result (Option Frame) Refusal → Result (Option Progress) Refusal
+not_one (Ok (Some f)) = Err (short f.key)
+not_one (Ok None) = Ok None
+not_one (Err r) = Err r
 
-abbrev pub ran_of : Due → List Framed → Cursor → Ran
+abbrev pub ran_of : Result (Option Frame) Refusal → List Framed → Cursor → Result (Option Progress) Refusal
 ran_of x [] c = not_one x
-ran_of x (f ∷ fs) c = ran.Written (record { frames = length (f ∷ fs); bytes = length (joined_frames (f ∷ fs)); next = c })
+ran_of x (f ∷ fs) c = Ok (Some (record { frames = length (f ∷ fs); bytes = length (joined_frames (f ∷ fs)); next = c }))
 
 abbrev pub run_packed : List ℕ → List ℕ → Cursor → ℕ → Packed
 run_packed h ws c room = packed (bins_data h) (hive_of h).minor room ws c room
 
 abbrev pub on_run : {A : Type 0} → Verdict → (Refusal → A) → A → A
-on_run Sound stop go = go
-on_run (Flawed f) stop go = stop (refusal_of no_key f)
+on_run (Ok tt) stop go = go
+on_run (Err f) stop go = stop (refusal_of no_key f)
 
-unfoldable pub run_answer : List ℕ → List ℕ → Cursor → ℕ → Ran
+unfoldable pub run_answer : List ℕ → List ℕ → Cursor → ℕ → Result (Option Progress) Refusal
 run_answer h ws c room =
     let p = run_packed h ws c room in
-    on_run (run_fault h ws c) ran.Refused (ran_of (due_at (bins_data h) (hive_of h).minor ws c) p.frames p.behind)
+    on_run (run_fault h ws c) Err (ran_of (due_at (bins_data h) (hive_of h).minor ws c) p.frames p.behind)
 
 unfoldable pub run_out : List ℕ → List ℕ → Cursor → List ℕ → List ℕ
 run_out h ws c out =

@@ -1,6 +1,6 @@
 -- What a refusal of an export says: the check's own reasons, the table's rows 1 to 7, 11, 12 and 15, and 20, with the key under examination. h is the hive, m the
 -- lent work map, ws the lent words.
-use Rattle.std.specs.Prelude.{ℕ, ◌*◌, ◌<◌, ◌≡◌, length, get_or}
+use Rattle.std.specs.Prelude.{ℕ, ◌*◌, ◌<◌, ◌≡◌, length, get_or, Ok, Some}
 use mathlib.Core.List.{List, Memᴰ}
 use Rattle.fields.specs.declared.Fault.TheVariants.{OutputShort}
 use Rattle.fields.specs.declared.Flaw.{Flaw}
@@ -19,7 +19,6 @@ use Rattle.walk.specs.Answers.{key_at}
 use Rattle.walk.specs.Refused.{OfStep}
 use Rattle.stream.specs.Stream.{frames_of}
 use Rattle.export.specs.declared.Cursor.{Cursor}
-use Rattle.export.specs.declared.Due.TheVariants.{Comes}
 use Rattle.export.specs.declared.Frame.{Frame}
 use Rattle.export.specs.Due.{words, due_at}
 use Rattle.export.specs.Answers.{no_frame}
@@ -49,4 +48,4 @@ pub data OfRun (h ws : List ℕ) (c : Cursor) (room : ℕ) : Offset → Flaw →
   -- the walk's own
   of-walk : {k : Offset} {f : Flaw} → OfStep h ws c.depth k f → OfRun h ws c room k f
   -- 20: "not even one"
-  too-long : {x : Frame} → due_at (bins_data h) (hive_of h).minor ws c ≡ Comes x → room < x.len → OfRun h ws c room x.key (flaw OutputShort nowhere)
+  too-long : {x : Frame} → due_at (bins_data h) (hive_of h).minor ws c ≡ Ok (Some x) → room < x.len → OfRun h ws c room x.key (flaw OutputShort nowhere)

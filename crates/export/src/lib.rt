@@ -2,9 +2,8 @@
 // the cursor, and no call depends on the size of a buffer.
 #![tactic(auto)]
 
-ghost use Rattle.std.specs.Prelude.{◌≡◌, [], ◌++◌, true, ltb, ◌+◌, ◌-◌, ◌*◌, ◌≤◌, ◌<◌, length, drop};
+ghost use Rattle.std.specs.Prelude.{◌≡◌, [], ◌++◌, true, ltb, ◌+◌, ◌-◌, ◌*◌, ◌≤◌, ◌<◌, length, drop, Ok};
 ghost use Rattle.std.proofs.lemmas.List.Edits.{sets};
-ghost use Rattle.fields.specs.declared.Verdict.TheVariants.{Sound};
 ghost use Rattle.fields.specs.Faults.{flaw, nowhere, refusal_of};
 ghost use Rattle.cells.specs.declared.Rule.TheVariants.{Header};
 ghost use Rattle.cells.specs.Survey.{map_left};
@@ -18,11 +17,10 @@ ghost use Rattle.export.specs.Answers.{short, step_answer, step_out, begin_answe
 ghost use Rattle.export.specs.Terms.{WhatLies, WhatGoes, turn_of, turn_bytes, turn_words, ended_of, ran_in, went, PassedLies, stepped_in, bytes_in};
 
 use cells::Rule;
-use fields::{Fault, Flaw, Offset, Refusal, Verdict};
+use fields::{Fault, Flaw, Offset, Refusal};
 use listing::Entry;
-use records::{Called, Key};
-use tree::Checked;
-use values::{Entered, Value, Valued};
+use records::Key;
+use values::Value;
 use walk::{Mark, Offer};
 
 #[derive(Clone, Copy)]
@@ -49,13 +47,6 @@ pub struct Frame {
     pub due: usize,
 }
 
-#[derive(Clone, Copy)]
-pub enum Due {
-    Comes(Frame),
-    Over,
-    Refused(Refusal),
-}
-
 pub fn short(key: Offset) -> Refusal
     ensures { result ≡ short key }
 {
@@ -69,122 +60,131 @@ pub fn short(key: Offset) -> Refusal
 }
 
 // A value of the top key whose record stands at v.
-fn value_frame(bins: &[u8], minor: u32, key: Offset, v: Offset, due: usize) -> Due
+#[tactic(auto, using(crate::proofs::Ways::of_value))]
+fn value_frame(
+    bins: &[u8],
+    minor: u32,
+    key: Offset,
+    v: Offset,
+    due: usize,
+) -> Result<Option<Frame>, Refusal>
     ensures { result ≡ due_where key (whole_value_fault Header bins.now [] minor v) (comes bins.now (What.Value (value_of bins.now minor v)) key due) }
 {
-    match values::value_at(bins, b"", Rule::Header, minor, v) {
-        Valued::Flawed(f) => Due::Refused(fields::refused(key, f)),
-        Valued::Whole(x) => {
-            let content = x.content;
-            match values::data_flaw(bins, b"", Rule::Header, content) {
-                Verdict::Flawed(f) => Due::Refused(fields::refused(key, f)),
-                Verdict::Sound => {
-                    let len = stream::value_len(x);
-                    Due::Comes(Frame {
-                        what: What::Value(x),
-                        key,
-                        len,
-                        due,
-                    })
-                }
-            }
-        }
-    }
+    let x = values::value_at(bins, b"", Rule::Header, minor, v).map_err(|f| fields::refused(
+        key, f,
+    ))?;
+    values::data_flaw(bins, b"", Rule::Header, x.content).map_err(|f| fields::refused(key, f))?;
+    let len = stream::value_len(x);
+    Ok(Some(Frame {
+        what: What::Value(x),
+        key,
+        len,
+        due,
+    }))
 }
 
 // Value i of the top key.
-fn value_due(bins: &[u8], minor: u32, key: Offset, k: Key, i: usize) -> Due
+#[tactic(auto, using(crate::proofs::Ways::of_list))]
+fn value_due(
+    bins: &[u8],
+    minor: u32,
+    key: Offset,
+    k: Key,
+    i: usize,
+) -> Result<Option<Frame>, Refusal>
     requires { (k ≡ key_of bins.now key) × (i < k.values) }
     ensures { result ≡ value_due bins.now minor key i }
 {
-    match values::value_list(bins, b"", Rule::Header, k) {
-        Entered::Flawed(f) => Due::Refused(fields::refused(key, f)),
-        Entered::Whole(e) => value_frame(bins, minor, key, values::entry(bins, e, i), i + 2),
-    }
+    let e = values::value_list(bins, b"", Rule::Header, k).map_err(|f| fields::refused(key, f))?;
+    value_frame(bins, minor, key, values::entry(bins, e, i), i + 2)
 }
 
 // What the walk does next. The open key was tested, and is not tested again.
-fn walk_due(bins: &[u8], levels: &[u32], depth: usize) -> Due
+#[tactic(auto, using(crate::proofs::Ways::of_walk))]
+fn walk_due(bins: &[u8], levels: &[u32], depth: usize) -> Result<Option<Frame>, Refusal>
     requires depth_nonzero { (0 < depth) × (3 * depth ≤ length levels.now) }
-    requires depth_value { key_fault Header bins.now [] (key_at levels.now depth) ≡ Sound }
+    requires depth_value { key_fault Header bins.now [] (key_at levels.now depth) ≡ Ok tt }
     ensures { result ≡ walk_due bins.now (step_in bins.now levels.now depth) }
 {
-    match walk::ahead_of(bins, levels, depth) {
-        Offer::Refused(r) => Due::Refused(r),
-        Offer::Over => Due::Over,
-        Offer::Closes(k) => Due::Comes(Frame {
+    match walk::ahead_of(bins, levels, depth)? {
+        None => Ok(None),
+        Some(Offer::Closes(key)) => Ok(Some(Frame {
             what: What::Closing,
-            key: k,
+            key,
             len: 6,
-            due: 18446744073709551615,
-        }),
-        Offer::Opens(e, m) => {
-            let at = e.at;
+            due: usize::MAX,
+        })),
+        Some(Offer::Opens(e, m)) => {
             let len = 14 + 2 * names::characters(e.len, e.narrow);
-            Due::Comes(Frame {
+            Ok(Some(Frame {
                 what: What::Child(e, m),
-                key: at,
+                key: e.at,
                 len,
                 due: 1,
-            })
+            }))
         }
     }
 }
 
-fn top_due(bins: &[u8], minor: u32, levels: &[u32], c: Cursor, key: Offset, k: Key) -> Due
-    requires k_value { (k ≡ key_of bins.now key) × (key_fault Header bins.now [] key ≡ Sound) }
+#[tactic(auto, using(crate::proofs::Ways::of_top))]
+fn top_due(
+    bins: &[u8],
+    minor: u32,
+    levels: &[u32],
+    c: Cursor,
+    key: Offset,
+    k: Key,
+) -> Result<Option<Frame>, Refusal>
+    requires k_value { (k ≡ key_of bins.now key) × (key_fault Header bins.now [] key ≡ Ok tt) }
     requires depth_nonzero { (0 < c.depth) × (3 * c.depth ≤ length levels.now) × (key ≡ key_at levels.now c.depth) }
     ensures { result ≡ top_due bins.now minor levels.now c key }
 {
-    let due = c.due;
-    if due == 0 {
-        let name = k.name;
-        let len = stream::open_len(name);
-        return Due::Comes(Frame {
+    if c.due == 0 {
+        let len = stream::open_len(k.name);
+        Ok(Some(Frame {
             what: What::Own,
             key,
             len,
             due: 1,
-        });
+        }))
+    } else if c.due <= k.values as usize {
+        value_due(bins, minor, key, k, c.due - 1)
+    } else {
+        walk_due(bins, levels, c.depth)
     }
-    if due <= k.values as usize {
-        return value_due(bins, minor, key, k, due - 1);
-    }
-    walk_due(bins, levels, c.depth)
 }
 
 // The top key's own test, which a key that is known has had.
-fn top_flaw(bins: &[u8], key: Offset, known: bool) -> Verdict
-    requires { known ≡ true → key_fault Header bins.now [] key ≡ Sound }
+fn top_flaw(bins: &[u8], key: Offset, known: bool) -> Result<(), Flaw>
+    requires { known ≡ true → key_fault Header bins.now [] key ≡ Ok tt }
     ensures { result ≡ key_fault Header bins.now [] key }
 {
     if known {
-        return Verdict::Sound;
+        return Ok(());
     }
-    match records::name_at(bins, key) {
-        Called::Flawed(f) => Verdict::Flawed(f),
-        Called::Whole(_) => Verdict::Sound,
-    }
+    records::name_at(bins, key)?;
+    Ok(())
 }
 
 // The frame that is due, found before anything is written or moved.
-fn due_frame(bins: &[u8], minor: u32, levels: &[u32], c: Cursor, known: bool) -> Due
-    requires { (3 * c.depth ≤ length levels.now) × (known ≡ true → key_fault Header bins.now [] (key_at levels.now c.depth) ≡ Sound) }
+#[tactic(auto, using(crate::proofs::Ways::of_due))]
+fn due_frame(
+    bins: &[u8],
+    minor: u32,
+    levels: &[u32],
+    c: Cursor,
+    known: bool,
+) -> Result<Option<Frame>, Refusal>
+    requires { (3 * c.depth ≤ length levels.now) × (known ≡ true → key_fault Header bins.now [] (key_at levels.now c.depth) ≡ Ok tt) }
     ensures { result ≡ due_at bins.now minor levels.now c }
 {
-    let depth = c.depth;
-    if depth == 0 {
-        return Due::Over;
+    if c.depth == 0 {
+        return Ok(None);
     }
-    let i = 3 * (depth - 1);
-    let key = Offset(levels[i]);
-    match top_flaw(bins, key, known) {
-        Verdict::Flawed(f) => Due::Refused(fields::refused(Offset(fields::NO_KEY), f)),
-        Verdict::Sound => {
-            let k = records::key_fields(bins, key);
-            top_due(bins, minor, levels, c, key, k)
-        }
-    }
+    let key = Offset(levels[3 * (c.depth - 1)]);
+    top_flaw(bins, key, known)?;
+    let k = records::key_fields(bins, key);
+    top_due(bins, minor, levels, c, key, k)
 }
 
 // The one writer: a frame at a position of the buffer.
@@ -193,12 +193,9 @@ fn put_frame(bins: &[u8], f: Frame, out: &mut [u8], at: usize)
     requires what_in_bounds { at + length (bytes_due bins.now f.key f.what) ≤ length out.old }
     ensures { out.new ≡ sets out.old at (bytes_due bins.now f.key f.what) }
 {
-    let what = f.what;
-    let key = f.key;
-    match what {
-        What::Own => stream::put_open(bins, key, out, at),
+    match f.what {
+        What::Own | What::Child(_, _) => stream::put_open(bins, f.key, out, at),
         What::Value(x) => stream::put_value(bins, x, out, at),
-        What::Child(_, _) => stream::put_open(bins, key, out, at),
         What::Closing => stream::put_close(out, at),
     }
 }
@@ -209,31 +206,15 @@ fn move_on(levels: &mut [u32], depth: usize, f: Frame) -> Cursor
     ensures value { result ≡ cursor_behind depth f }
     ensures levels_after { levels.new ≡ words_behind levels.old depth f.what }
 {
-    let what = f.what;
-    let due = f.due;
-    match what {
-        What::Own => Cursor { depth, due },
-        What::Value(_) => Cursor { depth, due },
+    let depth = match f.what {
+        What::Own | What::Value(_) => depth,
         What::Child(e, m) => {
             walk::go_below(levels, depth, e, m);
-            Cursor {
-                depth: depth + 1,
-                due,
-            }
+            depth + 1
         }
-        What::Closing => Cursor {
-            depth: depth - 1,
-            due,
-        },
-    }
-}
-
-// One frame written and the move behind it; or nothing of both.
-#[derive(Clone, Copy)]
-pub enum Turn {
-    On(Cursor, usize),
-    Over,
-    Refused(Refusal),
+        What::Closing => depth - 1,
+    };
+    Cursor { depth, due: f.due }
 }
 
 fn take_turn(
@@ -244,28 +225,22 @@ fn take_turn(
     known: bool,
     out: &mut [u8],
     at: usize,
-) -> Turn
-    requires depth_in_bounds { (3 * c.depth ≤ length levels.old) × (known ≡ true → key_fault Header bins.now [] (key_at levels.old c.depth) ≡ Sound) }
+) -> Result<Option<(Cursor, usize)>, Refusal>
+    requires depth_in_bounds { (3 * c.depth ≤ length levels.old) × (known ≡ true → key_fault Header bins.now [] (key_at levels.old c.depth) ≡ Ok tt) }
     requires at_in_bounds { at ≤ length out.old }
     ensures value { result ≡ turn_of (due_at bins.now minor levels.old c) c.depth (length out.old - at) at }
     ensures levels_after { levels.new ≡ turn_words levels.old c.depth (due_at bins.now minor levels.old c) (length out.old - at) }
     ensures out_after { out.new ≡ sets out.old at (turn_bytes bins.now (due_at bins.now minor levels.old c) (length out.old - at)) }
 {
-    match due_frame(bins, minor, levels, c, known) {
-        Due::Over => Turn::Over,
-        Due::Refused(r) => Turn::Refused(r),
-        Due::Comes(f) => {
-            let key = f.key;
-            let len = f.len;
-            if out.len() - at < len {
-                return Turn::Refused(short(key));
-            }
-            let end = at + len;
-            put_frame(bins, f, out, at);
-            let next = move_on(levels, c.depth, f);
-            Turn::On(next, end)
-        }
+    let Some(f) = due_frame(bins, minor, levels, c, known)? else {
+        return Ok(None);
+    };
+    if out.len() - at < f.len {
+        return Err(short(f.key));
     }
+    put_frame(bins, f, out, at);
+    let next = move_on(levels, c.depth, f);
+    Ok(Some((next, at + f.len)))
 }
 
 #[derive(Clone, Copy)]
@@ -275,54 +250,57 @@ pub struct Progress {
     pub next: Cursor,
 }
 
-#[derive(Clone, Copy)]
-pub enum Ran {
-    Written(Progress),
-    Done,
-    Refused(Refusal),
-}
-
 // The end of a run: what was written, or why there was nothing.
-fn ended(stop: Ran, frames: usize, bytes: usize, next: Cursor) -> Ran
+fn ended(
+    stop: Result<Option<Progress>, Refusal>,
+    frames: usize,
+    bytes: usize,
+    next: Cursor,
+) -> Result<Option<Progress>, Refusal>
     ensures { result ≡ ended_of stop frames bytes next }
 {
     if frames == 0 {
-        return stop;
+        stop
+    } else {
+        Ok(Some(Progress {
+            frames,
+            bytes,
+            next,
+        }))
     }
-    Ran::Written(Progress {
-        frames,
-        bytes,
-        next,
-    })
 }
 
 // Whether the frame before has tested the key that is on top now: all do but one that closes, behind which an older key is on top.
 fn is_known(c: Cursor) -> bool
     ensures { result ≡ ltb c.due past }
 {
-    c.due < 18446744073709551615
+    c.due < usize::MAX
 }
 
 // As many whole frames as fit, one after the other. The first one's key is the caller's, and is tested.
-fn run_in(bins: &[u8], minor: u32, levels: &mut [u32], c: Cursor, out: &mut [u8]) -> Ran
+#[tactic(auto, using(crate::proofs::Turns::of_run))]
+fn run_in(
+    bins: &[u8],
+    minor: u32,
+    levels: &mut [u32],
+    c: Cursor,
+    out: &mut [u8],
+) -> Result<Option<Progress>, Refusal>
     requires { 3 * c.depth ≤ length levels.old }
     ensures value { result ≡ ran_in bins.now minor levels.old c (length out.old) }
     ensures levels_after { levels.new ≡ (packed bins.now minor (length out.old) levels.old c (length out.old)).levels }
     ensures out_after { out.new ≡ sets out.old 0 (joined_frames (packed bins.now minor (length out.old) levels.old c (length out.old)).frames) }
 {
     let mut next = c;
-    let mut at: usize = 0;
-    let mut frames: usize = 0;
+    let mut at = 0;
+    let mut frames = 0;
     let mut known = false;
     loop {
+        // No `?`: a refusal behind written frames is left to the next run.
         match take_turn(bins, minor, levels, next, known, out, at) {
-            Turn::Over => {
-                return ended(Ran::Done, frames, at, next);
-            }
-            Turn::Refused(r) => {
-                return ended(Ran::Refused(r), frames, at, next);
-            }
-            Turn::On(behind, end) => {
+            Ok(None) => return ended(Ok(None), frames, at, next),
+            Err(r) => return ended(Err(r), frames, at, next),
+            Ok(Some((behind, end))) => {
                 next = behind;
                 at = end;
                 frames += 1;
@@ -336,122 +314,96 @@ const WORDS: usize = 1539;
 
 // As many whole frames as fit, from where the last run ended. The hive is not checked anew: the words and the cursor are the caller's, and whatever they
 // are, nothing outside is read or written.
-pub fn run(hive: &[u8], levels: &mut [u32], c: Cursor, out: &mut [u8]) -> Ran
+#[tactic(auto, using(crate::proofs::Calls::of_run, crate::proofs::Refusals::unread))]
+pub fn run(
+    hive: &[u8],
+    levels: &mut [u32],
+    c: Cursor,
+    out: &mut [u8],
+) -> Result<Option<Progress>, Refusal>
     ensures value { result ≡ run_answer hive.now levels.old c (length out.old) }
     ensures levels_after { levels.new ≡ run_levels hive.now levels.old c (length out.old) }
     ensures out_after { out.new ≡ run_out hive.now levels.old c out.old }
 {
-    match base::base_flaw(hive) {
-        Verdict::Flawed(f) => Ran::Refused(fields::refused(Offset(fields::NO_KEY), f)),
-        Verdict::Sound => {
-            if levels.len() < WORDS {
-                return Ran::Refused(short(Offset(fields::NO_KEY)));
-            }
-            if levels.len() / 3 < c.depth {
-                return Ran::Refused(short(Offset(fields::NO_KEY)));
-            }
-            run_in(base::bins_of(hive), base::minor_of(hive), levels, c, out)
-        }
+    base::base_flaw(hive)?;
+    if levels.len() < WORDS || levels.len() / 3 < c.depth {
+        return Err(short(Offset(fields::NO_KEY)));
     }
-}
-
-#[derive(Clone, Copy)]
-pub enum Begun {
-    At(Cursor),
-    Refused(Refusal),
+    run_in(base::bins_of(hive), base::minor_of(hive), levels, c, out)
 }
 
 // The start of runs: the check, and then the root is open.
-pub fn begin(hive: &[u8], map: &mut [u8], levels: &mut [u32]) -> Begun
+#[tactic(auto, using(crate::proofs::Calls::of_begin, crate::proofs::Refusals::unread))]
+pub fn begin(hive: &[u8], map: &mut [u8], levels: &mut [u32]) -> Result<Cursor, Refusal>
     ensures value { result ≡ begin_answer hive.now map.old levels.old }
     ensures map_after { map.new ≡ map_left hive.now map.old }
     ensures levels_after { levels.new ≡ begin_levels hive.now map.old levels.old }
 {
-    match tree::check(hive, map) {
-        Checked::Refused(r) => Begun::Refused(r),
-        Checked::Accepted(_) => {
-            if levels.len() < WORDS {
-                return Begun::Refused(short(Offset(fields::NO_KEY)));
-            }
-            walk::put_key(levels, 0, base::root_of(hive));
-            Begun::At(Cursor { depth: 1, due: 0 })
-        }
+    tree::check(hive, map)?;
+    if levels.len() < WORDS {
+        return Err(short(Offset(fields::NO_KEY)));
     }
-}
-
-// Where a walk stands that passed over frames.
-#[derive(Clone, Copy)]
-pub enum Passed {
-    At(Cursor),
-    Over,
-    Refused(Refusal),
+    walk::put_key(levels, 0, base::root_of(hive));
+    Ok(Cursor { depth: 1, due: 0 })
 }
 
 // Passes over so many frames.
-fn pass(bins: &[u8], minor: u32, levels: &mut [u32], c: Cursor, n: usize) -> Passed
+#[tactic(auto, using(crate::proofs::Turns::of_pass))]
+fn pass(
+    bins: &[u8],
+    minor: u32,
+    levels: &mut [u32],
+    c: Cursor,
+    n: usize,
+) -> Result<Option<Cursor>, Refusal>
     requires { 3 * c.depth ≤ length levels.old }
     ensures value { result ≡ (went bins.now minor n levels.old c).answer }
     ensures levels_after { levels.new ≡ (went bins.now minor n levels.old c).levels }
     ensures passed_lies { PassedLies levels.new result }
 {
     let mut next = c;
-    let mut left = n;
-    while 0 < left {
-        match due_frame(bins, minor, levels, next, false) {
-            Due::Over => {
-                return Passed::Over;
-            }
-            Due::Refused(r) => {
-                return Passed::Refused(r);
-            }
-            Due::Comes(f) => {
-                next = move_on(levels, next.depth, f);
-            }
-        }
-        left -= 1;
+    for _ in 0..n {
+        let Some(f) = due_frame(bins, minor, levels, next, false)? else {
+            return Ok(None);
+        };
+        next = move_on(levels, next.depth, f);
     }
-    Passed::At(next)
-}
-
-#[derive(Clone, Copy)]
-pub enum Stepped {
-    Written(usize),
-    Done,
-    Refused(Refusal),
+    Ok(Some(next))
 }
 
 // The frame behind so many others, in a hive that is accepted.
-fn step_in(bins: &[u8], minor: u32, root: Offset, n: usize, out: &mut [u8]) -> Stepped
+#[tactic(auto, using(crate::proofs::Calls::of_step))]
+fn step_in(
+    bins: &[u8],
+    minor: u32,
+    root: Offset,
+    n: usize,
+    out: &mut [u8],
+) -> Result<Option<usize>, Refusal>
     ensures value { result ≡ stepped_in bins.now minor root n (length out.old) }
     ensures out_after { out.new ≡ sets out.old 0 (bytes_in bins.now minor root n (length out.old)) }
 {
-    let mut levels = [0u32; 1539];
+    let mut levels = [0u32; WORDS];
     walk::put_key(&mut levels, 0, root);
-    match pass(bins, minor, &mut levels, Cursor { depth: 1, due: 0 }, n) {
-        Passed::Over => Stepped::Done,
-        Passed::Refused(r) => Stepped::Refused(r),
-        Passed::At(c) => match take_turn(bins, minor, &mut levels, c, false, out, 0) {
-            Turn::Over => Stepped::Done,
-            Turn::Refused(r) => Stepped::Refused(r),
-            Turn::On(_, end) => Stepped::Written(end),
-        },
-    }
+    let Some(c) = pass(bins, minor, &mut levels, Cursor { depth: 1, due: 0 }, n)? else {
+        return Ok(None);
+    };
+    Ok(take_turn(bins, minor, &mut levels, c, false, out, 0)?.map(|(_, end)| end))
 }
 
 // Frame n of an accepted hive, counted from 0. Every step is the check first.
-pub fn step(hive: &[u8], map: &mut [u8], n: usize, out: &mut [u8]) -> Stepped
+#[tactic(auto, using(crate::proofs::Calls::of_begin, crate::proofs::Refusals::unread, crate::proofs::Exports::accepted))]
+pub fn step(hive: &[u8], map: &mut [u8], n: usize, out: &mut [u8]) -> Result<Option<usize>, Refusal>
     ensures value { result ≡ step_answer hive.now map.old n (length out.old) }
     ensures map_after { map.new ≡ map_left hive.now map.old }
     ensures out_after { out.new ≡ step_out hive.now map.old n out.old }
 {
-    match tree::check(hive, map) {
-        Checked::Refused(r) => Stepped::Refused(r),
-        Checked::Accepted(_) => step_in(
-            base::bins_of(hive),
-            base::minor_of(hive),
-            base::root_of(hive),
-            n,
-            out,
-        ),
-    }
+    tree::check(hive, map)?;
+    step_in(
+        base::bins_of(hive),
+        base::minor_of(hive),
+        base::root_of(hive),
+        n,
+        out,
+    )
 }

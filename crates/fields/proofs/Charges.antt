@@ -5,11 +5,10 @@ use mathlib.Core.Path.{◌≡◌, refl, sym}
 use Rattle.fields.specs.declared.Flaw.{Flaw}
 use Rattle.fields.specs.declared.Offset.{Offset}
 use Rattle.fields.specs.declared.Refusal.{Refusal}
-use Rattle.fields.specs.declared.Verdict.{Verdict}
-use Rattle.fields.specs.declared.Verdict.TheVariants.{Sound, Flawed}
-use Rattle.fields.specs.Faults.{refusal_of, Because}
+use Rattle.fields.specs.Faults.{refusal_of, Because, Verdict}
 use Rattle.fields.specs.Charges.{Charge, Free, Of, charge_of, ◌after◌}
 use Rattle.fields.proofs.Every.{Every}
+use Rattle.std.specs.Prelude.{Err, Ok}
 
 pub both-free : (a b : Charge) → a after b ≡ Free → (a ≡ Free) × (b ≡ Free)
 unfolding ◌after◌
@@ -25,9 +24,9 @@ unfolding ◌after◌
 after-assoc Free b c = refl
 after-assoc (Of f) b c = refl
 
-pub clear_of : (key : Offset) (v : Verdict) → charge_of key v ≡ Free → v ≡ Sound
-clear_of key Sound e = refl
-clear_of key (Flawed f) e = absurd (let z : ◌≡◌ {A = ℕ} 0 1 = cc in omega arith)
+pub clear_of : (key : Offset) (v : Verdict) → charge_of key v ≡ Free → v ≡ Ok tt
+clear_of key (Ok tt) e = refl
+clear_of key (Err f) e = absurd (let z : ◌≡◌ {A = ℕ} 0 1 = cc in omega arith)
 
 -- a charge is said for a reason, and for every weaker one
 module _ (P Q : Offset → Flaw → Type 0) (weaker : (k : Offset) (f : Flaw) → P k f → Q k f) where
@@ -45,5 +44,5 @@ module _ (P : Offset → Flaw → Type 0) where
   after-charges (Of g) b p q r e = p r e
 
   pub flaw-charges : (key : Offset) (v : Verdict) → Every (P key) v → Charges (charge_of key v)
-  flaw-charges key Sound p r e = absurd (let z : ◌≡◌ {A = ℕ} 0 1 = cc in omega arith)
-  flaw-charges key (Flawed f) p r e = (key, f, let z : refusal_of key f ≡ r = cc in sym z, p f refl)
+  flaw-charges key (Ok tt) p r e = absurd (let z : ◌≡◌ {A = ℕ} 0 1 = cc in omega arith)
+  flaw-charges key (Err f) p r e = (key, f, let z : refusal_of key f ≡ r = cc in sym z, p f refl)

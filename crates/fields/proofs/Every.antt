@@ -5,28 +5,27 @@ use mathlib.Core.Path.{◌≡◌, refl, subst}
 use mathlib.Core.Bool.{Bool, true, false, cond}
 use mathlib.Core.List.{List, [], ◌∷◌, Memᴰ}
 use Rattle.fields.specs.declared.Flaw.{Flaw}
-use Rattle.fields.specs.declared.Verdict.{Verdict}
-use Rattle.fields.specs.declared.Verdict.TheVariants.{Sound, Flawed}
-use Rattle.fields.specs.Faults.{◌next◌, unless, fault_over}
+use Rattle.fields.specs.Faults.{◌next◌, unless, fault_over, Verdict}
+use Rattle.std.specs.Prelude.{Err, Ok}
 
 module _ (P : Flaw → Type 0) where
   abbrev pub Every : Verdict → Type 0
-  Every v = (f : Flaw) → v ≡ Flawed f → P f
+  Every v = (f : Flaw) → v ≡ Err f → P f
 
-  pub every-sound : Every Sound
+  pub every-sound : Every (Ok tt)
   every-sound f e = absurd (let z : ◌≡◌ {A = ℕ} 0 1 = cc in omega arith)
 
-  pub every-flaw : {g : Flaw} → P g → Every (Flawed g)
+  pub every-flaw : {g : Flaw} → P g → Every (Err g)
   every-flaw {g} p f e = let q : g ≡ f = cc in subst P q p
 
   pub every-unless : (t : Bool) (g : Flaw) → (t ≡ false → P g) → Every (unless t g)
   every-unless true g p = every-sound
   every-unless false g p = every-flaw (p refl)
 
-  pub every-next : (a b : Verdict) → Every a → (a ≡ Sound → Every b) → Every (a next b)
+  pub every-next : (a b : Verdict) → Every a → (a ≡ Ok tt → Every b) → Every (a next b)
   unfolding ◌next◌
-  every-next Sound b p q = q refl
-  every-next (Flawed g) b p q = p
+  every-next (Ok tt) b p q = q refl
+  every-next (Err g) b p q = p
 
   pub every-cond : (t : Bool) (a b : Verdict) → (t ≡ true → Every a) → (t ≡ false → Every b) → Every (cond t a b)
   every-cond true a b p q = p refl

@@ -1,4 +1,3 @@
-pub mod Below
 pub mod Bools
 pub mod Charges
 pub mod Every

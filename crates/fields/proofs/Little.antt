@@ -4,7 +4,9 @@ use native.Mathlib.Omega.{arith}
 use mathlib.Core.Path.{◌≡◌, refl, sym, ap, ap₂, ◌∙◌}
 use mathlib.Core.List.{List, [], ◌∷◌, ◌++◌, append_assoc}
 use lib.ListN.{length, get_or, take, drop, set, length-append, length-take, length-drop}
-use lib.Seq.{sets, get_or-append-add, get_or-take, get_or-drop, drop-drop, take-add}
+use lib.Seq.{sets, sets-eq, get_or-append-add, get_or-take, get_or-drop, drop-drop, take-add}
+use Rattle.std.specs.Int.{w16, w32, to_le_bytes}
+use borrow.Rule.Slice.PartMut.{put_mid}
 use Rattle.fields.specs.Number.{u16_at, u32_at, le16, le32, le64}
 
 pub length-le16 : (n : ℕ) → length (le16 n) ≡ 2
@@ -34,20 +36,21 @@ sets-append (x ∷ xs) ys l i =
     let e : suc i + length xs ≡ i + suc (length xs) = omega arith in
     sets-append xs ys (set l i x) (suc i) ∙ ap (λ (n : ℕ). sets (sets (set l i x) (suc i) xs) n ys) e
 
--- a number that is put byte by byte, and by its halves
-pub put_two : (l : List ℕ) (i v : ℕ) → v < 65536 → set (set l i (v % 256)) (i + 1) (v / 256) ≡ sets l i (le16 v)
-unfolding le16
-put_two l i v p =
-    let one : i + 1 ≡ suc i = omega arith in
-    let e : v / 256 ≡ v / 256 % 256 = omega arith in
-    ap₂ (λ (k x : ℕ). set (set l i (v % 256)) k x) one e
+-- a part that is written over by the bytes of a number, which are std's
+put_part : (l ys : List ℕ) (i n : ℕ) → n ≡ length ys → i + n ≤ length l → put_mid i n l ys ≡ sets l i ys
+put_part l ys i n e h = rw (e, drop-drop (length ys) i l) (sym (simp append_assoc at (sets-eq ys l i (omega arith))))
 
-pub put_four : (l : List ℕ) (i v : ℕ) → sets (sets l i (le16 (v % 65536))) (i + 2) (le16 (v / 65536)) ≡ sets l i (le32 v)
-unfolding le32
-put_four l i v =
-    let n = length-le16 (v % 65536) in
-    let e : i + length (le16 (v % 65536)) ≡ i + 2 = omega arith in
-    sym (sets-append (le16 (v % 65536)) (le16 (v / 65536)) l i ∙ ap (λ (k : ℕ). sets (sets l i (le16 (v % 65536))) k (le16 (v / 65536))) e)
+pub put_two : (l ys : List ℕ) (i n v : ℕ) → ys ≡ to_le_bytes w16 v → n ≡ 2 → i + 2 ≤ length l → put_mid i n l ys ≡ sets l i (le16 v)
+unfolding le16
+put_two l ys i n v e m h = rw (e, m) (put_part l (to_le_bytes w16 v) i 2 refl h)
+
+pub put_four : (l ys : List ℕ) (i n v : ℕ) → ys ≡ to_le_bytes w32 v → n ≡ 4 → i + 4 ≤ length l → put_mid i n l ys ≡ sets l i (le32 v)
+unfolding le32 le16
+put_four l ys i n v e m h =
+    let a : v % 65536 % 256 ≡ v % 256 = omega arith in
+    let b : v % 65536 / 256 % 256 ≡ v / 256 % 256 = omega arith in
+    let c : v / 65536 / 256 % 256 ≡ v / 16777216 % 256 = omega arith in
+    rw (e, m, a, b, c) (put_part l (to_le_bytes w32 v) i 4 refl h)
 
 -- a number is read back where its bytes stand
 module _ (s : List ℕ) where

@@ -1,20 +1,17 @@
 -- What is written and read again: a fixed byte string, and the size field of a cell.
-use Prim.Native.Nat.{ℕ, suc, ◌-◌, ◌^◌, ◌≤◌, ◌<◌}
+use Prim.Native.Nat.{ℕ, suc, ◌-◌, ◌≤◌, ◌<◌}
 use native.Mathlib.Omega.{arith}
 use mathlib.Core.Path.{◌≡◌, refl, ap, ◌∙◌}
 use mathlib.Core.Bool.{true, false}
 use mathlib.Core.List.{List, [], ◌∷◌, ◌++◌}
-use lib.IntN.{negsuc}
 use lib.ListN.{length, take}
 use lib.Seq.{take-append_seam, drop-append_seam}
 use mir.Syntax.{w32}
-use mir.Val.{to_z}
-use mir.ValLaws.{to_z_pos}
+use Rattle.std.proofs.lemmas.Int.{to_z_pos}
+use Rattle.std.proofs.Math.Facts.{to_z-neg}
 use borrow.Author.Tests.{eq-eqb}
-use Rattle.fields.specs.declared.Size.{Size}
 use Rattle.fields.specs.Bytes.{same_bytes, stands_at}
-use Rattle.fields.specs.Number.{u32_at, size_of, size_at}
-use Rattle.fields.proofs.Below.{to_z-high}
+use Rattle.fields.specs.Number.{u32_at, size_at}
 use Rattle.fields.proofs.Bools.{and_both}
 
 pub same_refl : (a : List ℕ) → same_bytes a a ≡ true
@@ -35,12 +32,9 @@ module _ (s : List ℕ) (i n : ℕ) where
   pub size-used : u32_at s i ≡ 4294967296 - n → 0 < n → n ≤ 2147483648 → size_at s i ≡ record { used = true; bytes = n }
   unfolding size_at
   size-used e some most =
-      let f : 2 ^ 32 - suc (4294967296 - n) ≡ n - 1 = omega arith in
       let g : suc (n - 1) ≡ n = omega arith in
-      ap (λ (v : ℕ). size_of (to_z w32 v)) e
-      ∙ ap size_of (to_z-high (4294967296 - n) (omega arith) ∙ ap negsuc f)
-      ∙ ap (λ (k : ℕ). let z : Size = record { used = true; bytes = k } in z) g
+      rw (e, ← g, to_z-neg w32 (n - 1) (omega arith))
 
   pub size-free : u32_at s i ≡ n → n < 2147483648 → size_at s i ≡ record { used = false; bytes = n }
   unfolding size_at
-  size-free e most = ap (λ (v : ℕ). size_of (to_z w32 v)) e ∙ ap size_of (to_z_pos w32 n (omega arith))
+  size-free e most = rw (e, to_z_pos w32 n (omega arith))

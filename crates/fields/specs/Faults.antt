@@ -1,12 +1,10 @@
 -- The numbers given back, and the first fault of several tests.
-use Rattle.std.specs.Prelude.{ℕ, ◌≡◌, Bool, true, false, List, [], ◌∷◌}
+use Rattle.std.specs.Prelude.{ℕ, ◌≡◌, Bool, true, false, List, [], ◌∷◌, Err, Ok, Result}
 use Rattle.fields.specs.declared.Fault.{Fault}
 use Rattle.fields.specs.declared.Fault.TheVariants as named
 use Rattle.fields.specs.declared.Offset.{Offset}
 use Rattle.fields.specs.declared.Flaw.{Flaw}
 use Rattle.fields.specs.declared.Refusal.{Refusal}
-use Rattle.fields.specs.declared.Verdict.{Verdict}
-use Rattle.fields.specs.declared.Verdict.TheVariants.{Sound, Flawed}
 
 abbrev pub number_of : Fault → ℕ
 number_of named.HiveShort = 1
@@ -64,6 +62,10 @@ no_key = record { 0 = 4294967295 }
 abbrev pub refusal_of : Offset → Flaw → Refusal
 refusal_of key f = record { fault = f.fault; place = f.place; key = key }
 
+-- what a test finds: nothing, or a flaw
+abbrev pub Verdict : Type 0
+Verdict = Result (Unit {0}) Flaw
+
 -- why a refusal: a reason for its key, its number and its place
 abbrev pub Because : (Offset → Flaw → Type 0) → Refusal → Type 0
 Because reason r = (k : Offset) × (f : Flaw) × (r ≡ refusal_of k f) × reason k f
@@ -74,21 +76,21 @@ Keyless reason r = (f : Flaw) × (r ≡ refusal_of no_key f) × reason f
 
 -- a flaw where a test fails
 abbrev pub unless : Bool → Flaw → Verdict
-unless true f = Sound
-unless false f = Flawed f
+unless true f = Ok tt
+unless false f = Err f
 
 -- whether a test found nothing
 abbrev pub is_sound : Verdict → Bool
-is_sound Sound = true
-is_sound (Flawed f) = false
+is_sound (Ok tt) = true
+is_sound (Err f) = false
 
 -- "The first fault in this order answers."
 infixr 60 ◌next◌
 unfoldable pub ◌next◌ : Verdict → Verdict → Verdict
-Sound next b = b
-(Flawed f) next b = Flawed f
+(Ok tt) next b = b
+(Err f) next b = Err f
 
 -- the first fault of some things, one after the other
 unfoldable pub fault_over : {A : Type 0} → (A → Verdict) → List A → Verdict
-fault_over each [] = Sound
+fault_over each [] = Ok tt
 fault_over each (x ∷ xs) = each x next fault_over each xs

@@ -3,4 +3,3 @@ pub mod Bytes
 pub mod Position
 pub mod Faults
 pub mod Charges
-pub mod Terms

@@ -1,52 +1,51 @@
 -- "The P figures form a single table under a single proved claim."
-use Rattle.std.specs.Prelude.{ℕ, ◌+◌, ◌/◌, ◌≡◌, Bool, true, false, cond, length, replicate}
+use Rattle.std.specs.Prelude.{ℕ, ◌+◌, ◌/◌, ◌≡◌, Bool, true, false, cond, length, replicate, Err, None, Ok, Option, Result, Some}
 use mathlib.Core.List.{List, [], ◌∷◌, Memᴰ}
 use Rattle.fields.specs.Faults.{number_of}
 use Rattle.base.specs.Block.{bins_limit, is_bins_size, stored_checksum}
-use Rattle.cells.specs.declared.Surveyed.{Surveyed}
-use Rattle.cells.specs.declared.Surveyed.TheVariants.{Tiled, Flawed as Untiled}
 use Rattle.cells.specs.Survey.{survey_answer, map_left}
-use Rattle.names.specs.declared.Order.{Order}
-use Rattle.names.specs.declared.Order.TheVariants.{Before, Same, After}
 use Rattle.names.specs.Codes.{codes}
 use Rattle.names.specs.Comparison.{compare}
 use Rattle.names.specs.Hashing.{hash_of}
-use Rattle.tree.specs.declared.Checked.{Checked}
-use Rattle.tree.specs.declared.Checked.TheVariants as checked
 use Rattle.tree.specs.Tree.{check_answer}
 use Rattle.old_log.specs.Layout.{page_count, map_size, pages_at}
 use Rattle.sectors.specs.Sector.{page_place}
-use Rattle.recovery.specs.declared.Started.{Started}
-use Rattle.recovery.specs.declared.Started.TheVariants.{Clean, Pages, Refused}
-use Rattle.recovery.specs.declared.NextPage.{NextPage}
-use Rattle.recovery.specs.declared.NextPage.TheVariants.{At, NoMore, Refused as Unread}
+use Rattle.recovery.specs.declared.Started.TheVariants.{Clean, Pages}
 use Rattle.recovery.specs.Calls.{start_answer, next_answer}
 use Rattle.figures.specs.Inputs.{bare, minimal, with_item, lone, lowest, highest, used, sized}
 use Rattle.logs.specs.Small.{log, hive}
+use Rattle.cells.specs.declared.Tally.{Tally}
+use Rattle.fields.specs.declared.Flaw.{Flaw}
+use Rattle.fields.specs.declared.Refusal.{Refusal}
+use Rattle.recovery.specs.declared.LoggedPage.{LoggedPage}
+use Rattle.recovery.specs.declared.Started.{Started}
+use Rattle.std.specs.declared.cmp.Ordering.{Ordering}
+use Rattle.std.specs.declared.cmp.Ordering.TheVariants.{Equal, Greater, Less}
+use Rattle.tree.specs.declared.Report.{Report}
 
 -- what an answer gives, as numbers in the table's order: a count or none, or the refusal's number and place
-unfoldable pub survey_numbers : Surveyed → List ℕ
-survey_numbers (Tiled t) = t.bins ∷ t.used ∷ t.free ∷ []
-survey_numbers (Untiled f) = number_of f.fault ∷ f.place.0 ∷ []
+unfoldable pub survey_numbers : Result Tally Flaw → List ℕ
+survey_numbers (Ok t) = t.bins ∷ t.used ∷ t.free ∷ []
+survey_numbers (Err f) = number_of f.fault ∷ f.place.0 ∷ []
 
-unfoldable pub check_numbers : Checked → List ℕ
-check_numbers (checked.Accepted r) = r.bins ∷ r.keys ∷ r.values ∷ r.used ∷ r.free ∷ []
-check_numbers (checked.Refused r) = number_of r.fault ∷ r.place.0 ∷ []
+unfoldable pub check_numbers : Result Report Refusal → List ℕ
+check_numbers (Ok r) = r.bins ∷ r.keys ∷ r.values ∷ r.used ∷ r.free ∷ []
+check_numbers (Err r) = number_of r.fault ∷ r.place.0 ∷ []
 
-unfoldable pub start_numbers : Started → List ℕ
-start_numbers Clean = []
-start_numbers (Pages n) = n ∷ []
-start_numbers (Refused r) = number_of r.fault ∷ r.place.0 ∷ []
+unfoldable pub start_numbers : Result Started Refusal → List ℕ
+start_numbers (Ok Clean) = []
+start_numbers (Ok (Pages n)) = n ∷ []
+start_numbers (Err r) = number_of r.fault ∷ r.place.0 ∷ []
 
-unfoldable pub next_numbers : NextPage → List ℕ
-next_numbers (At page from to) = page ∷ from.0 ∷ to.0 ∷ []
-next_numbers NoMore = []
-next_numbers (Unread r) = number_of r.fault ∷ r.place.0 ∷ []
+unfoldable pub next_numbers : Result (Option LoggedPage) Refusal → List ℕ
+next_numbers (Ok (Some x)) = x.page ∷ x.from.0 ∷ x.to.0 ∷ []
+next_numbers (Ok None) = []
+next_numbers (Err r) = number_of r.fault ∷ r.place.0 ∷ []
 
-unfoldable pub order_number : Order → ℕ
-order_number Before = 0
-order_number Same = 1
-order_number After = 2
+unfoldable pub order_number : Ordering → ℕ
+order_number Less = 0
+order_number Equal = 1
+order_number Greater = 2
 
 unfoldable pub test_number : Bool → ℕ
 test_number b = cond b 1 0
@@ -92,9 +91,9 @@ table =
     ∷ is (hash_of (codes true (0xff ∷ [])) ∷ []) (376 ∷ [])
     ∷ is (hash_of (codes true (0xf7 ∷ [])) ∷ []) (247 ∷ [])
     ∷ is (hash_of (codes true (97 ∷ 0xff ∷ [])) ∷ []) (2781 ∷ [])
-    ∷ is (order_number (compare (codes true (0xe4 ∷ [])) (codes true (0xc5 ∷ []))) ∷ []) (order_number Before ∷ [])
-    ∷ is (order_number (compare (codes true (0xff ∷ [])) (codes false (0x78 ∷ 1 ∷ []))) ∷ []) (order_number Same ∷ [])
-    ∷ is (order_number (compare (codes true (0xd7 ∷ [])) (codes true (0xf7 ∷ []))) ∷ []) (order_number Before ∷ [])
+    ∷ is (order_number (compare (codes true (0xe4 ∷ [])) (codes true (0xc5 ∷ []))) ∷ []) (order_number Less ∷ [])
+    ∷ is (order_number (compare (codes true (0xff ∷ [])) (codes false (0x78 ∷ 1 ∷ []))) ∷ []) (order_number Equal ∷ [])
+    ∷ is (order_number (compare (codes true (0xd7 ∷ [])) (codes true (0xf7 ∷ []))) ∷ []) (order_number Less ∷ [])
     -- Of its amendment by request 7: the work map and the bitmap of the largest bins data; sizes at the limit and past it; the log's pages, how many and from
     -- where, and where the last one goes; a cell of the size 0x7FFFFFF8 in a bin of 4,096.
     ∷ is (bins_limit / 64 ∷ bins_limit / 4096 ∷ []) (33554368 ∷ 524287 ∷ [])

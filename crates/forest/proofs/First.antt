@@ -11,14 +11,13 @@ use lib.Seq.{drop-drop}
 use borrow.Author.Tests.{eqb-true, eqb-false}
 use Rattle.fields.specs.declared.Flaw.{Flaw}
 use Rattle.fields.specs.declared.Fault.TheVariants.{Unbalanced}
-use Rattle.fields.specs.declared.Verdict.{Verdict}
-use Rattle.fields.specs.declared.Verdict.TheVariants.{Sound, Flawed}
-use Rattle.fields.specs.Faults.{number_of, flaw, nowhere}
+use Rattle.fields.specs.Faults.{number_of, flaw, nowhere, Verdict}
 use Rattle.forest.specs.Faults.{frame_len, shape_of, State, within, over, behind, frame_fault, Judged, Wrong, ended, judged, judge, stream_fault}
 use Rattle.forest.specs.First.{Comes, start, past, FirstFault, in_frame, at-end}
 use Rattle.forest.proofs.Judge.{judge-step, judge-end, judge-stop, judge-on}
 use Rattle.forest.proofs.Lowest.{flawed-lowest, lowest-number}
 use Rattle.forest.proofs.Tests.{sound-fits}
+use Rattle.std.specs.Prelude.{Err, Ok}
 
 module _ (s : List ℕ) where
   -- where none was at fault before, what is left answers
@@ -40,13 +39,13 @@ module _ (s : List ℕ) where
         at-end (subst (λ (n : ℕ). Comes s n (within ks)) place c) (sym place ∙ l) (sym same)
 
     -- a frame is left
-    judged-first : (at : ℕ) (st : State) → Comes s at st → at < length s → (go : Judged) → (frame_fault (shape_of (drop at s)) st ≡ Sound → go ≡ Wrong f p → FirstFault s f p)
+    judged-first : (at : ℕ) (st : State) → Comes s at st → at < length s → (go : Judged) → (frame_fault (shape_of (drop at s)) st ≡ Ok tt → go ≡ Wrong f p → FirstFault s f p)
         → (v : Verdict) → frame_fault (shape_of (drop at s)) st ≡ v → judged v at go ≡ Wrong f p → FirstFault s f p
-    judged-first at st c l go rest Sound g e = rest g e
-    judged-first at st c l go rest (Flawed h) g e =
+    judged-first at st c l go rest (Ok tt) g e = rest g e
+    judged-first at st c l go rest (Err h) g e =
         let place : at ≡ p = cc in
         let same : h ≡ f = cc in
-        let fault = g ∙ ap Flawed same in
+        let fault = g ∙ ap Err same in
         subst (FirstFault s f) place (in_frame c l fault (flawed-lowest (shape_of (drop at s)) st f fault))
 
     seek : (m at : ℕ) (st : State) → Comes s at st → at ≤ length s → length s ≤ at + m → judge (drop at s) at st ≡ Wrong f p → FirstFault s f p

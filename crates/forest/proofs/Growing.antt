@@ -9,14 +9,14 @@ use mathlib.Core.List.{List, [], ◌∷◌, Memᴰ}
 use lib.ListN.{length}
 use borrow.Author.Tests.{not-true}
 use Rattle.fields.proofs.Bools.{and-inv, and_both}
-use Rattle.names.specs.declared.Order.{Order}
-use Rattle.names.specs.declared.Order.TheVariants.{Before, Same, After}
 use Rattle.names.specs.Comparison.{compare, same_name}
 use Rattle.names.proofs.LawsOrder.{transitive}
 use Rattle.tree.specs.Tree.{is_before}
 use Rattle.forest.specs.Forest.{Item, Forest, none, more, count_of, names_of, item_names}
 use Rattle.forest.specs.Allowed.{Sorted, sorted_none, sorted_more, Apart, apart_none, apart_more, KeyName, ItemAllowed, KeyAllowed, Allowed, allowed-none, allowed-more}
 use Rattle.forest.specs.Faults.{is_above, is_new}
+use Rattle.std.specs.declared.cmp.Ordering.{Ordering}
+use Rattle.std.specs.declared.cmp.Ordering.TheVariants.{Equal, Greater, Less}
 
 -- ---- the values of a key, behind those whose names were seen
 
@@ -72,12 +72,12 @@ pub data Growing : ℕ → List (List ℕ) → Forest → Type 0 where
   a_key : {n s : ℕ} {x : List ℕ} {vs : List Item} {b r : Forest} {ys : List (List ℕ)} → s < 2 ^ 64 → KeyName x → is_above x ys ≡ true → length ys < 65535
       → Adding [] vs → Growing n [] b → Growing (suc n) (x ∷ ys) r → Growing (suc n) ys (more s x vs b r)
 
-before_of : (o : Order) → is_before o ≡ true → o ≡ Before
-before_of Before e = refl
-before_of Same e = absurd (let z : ◌≡◌ {A = ℕ} 0 1 = cc in omega arith)
-before_of After e = absurd (let z : ◌≡◌ {A = ℕ} 0 1 = cc in omega arith)
+before_of : (o : Ordering) → is_before o ≡ true → o ≡ Less
+before_of Less e = refl
+before_of Equal e = absurd (let z : ◌≡◌ {A = ℕ} 0 1 = cc in omega arith)
+before_of Greater e = absurd (let z : ◌≡◌ {A = ℕ} 0 1 = cc in omega arith)
 
-growing-above : {n : ℕ} {y : List ℕ} {ys : List (List ℕ)} {f : Forest} → Growing n (y ∷ ys) f → (z : List ℕ) → Memᴰ z (names_of f) → compare y z ≡ Before
+growing-above : {n : ℕ} {y : List ℕ} {ys : List (List ℕ)} {f : Forest} → Growing n (y ∷ ys) f → (z : List ℕ) → Memᴰ z (names_of f) → compare y z ≡ Less
 unfolding names_of is_above
 growing-above no-key z m = absurd (Memᴰ.not-nil m)
 growing-above {y = y} (a_key {x = x} s n e c a b g) z m =
@@ -103,7 +103,7 @@ pub growing-allowed : {n : ℕ} {ys : List (List ℕ)} {f : Forest} → Growing 
 growing-allowed no-key = allowed-none
 growing-allowed (a_key s n e c a b g) = allowed-more (growing-key s n a b) (growing-allowed b) (growing-allowed g)
 
-sorted-inv : {x : List ℕ} {xs : List (List ℕ)} → Sorted (x ∷ xs) → ((y : List ℕ) → Memᴰ y xs → compare x y ≡ Before) × Sorted xs
+sorted-inv : {x : List ℕ} {xs : List (List ℕ)} → Sorted (x ∷ xs) → ((y : List ℕ) → Memᴰ y xs → compare x y ≡ Less) × Sorted xs
 sorted-inv (sorted_more f a) = (f, a)
 
 pub key-adding : {s : ℕ} {x : List ℕ} {vs : List Item} {b : Forest} → KeyAllowed s x vs b → Adding [] vs

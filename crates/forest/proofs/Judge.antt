@@ -8,8 +8,8 @@ use lib.Dec.{eqb}
 use lib.ListN.{length, drop, length-drop}
 use borrow.Author.Tests.{eq-eqb, ne_eqb, eqb-true, eqb-false}
 use Rattle.fields.specs.declared.Flaw.{Flaw}
-use Rattle.fields.specs.declared.Verdict.TheVariants.{Sound, Flawed}
 use Rattle.forest.specs.Faults.{State, frame_len, shape_of, behind, frame_fault, ended, judged, Wrong, judge_n, judge}
+use Rattle.std.specs.Prelude.{Err, Ok}
 
 -- a frame has at least its header
 pub frame-some : (r : List ℕ) → 6 ≤ frame_len r
@@ -68,8 +68,8 @@ judge-step (x ∷ xs) at st p =
 
 -- it is at fault, or the next one is asked
 module _ (r : List ℕ) (at : ℕ) (st : State) (p : 0 < length r) where
-  pub judge-stop : {f : Flaw} → frame_fault (shape_of r) st ≡ Flawed f → judge r at st ≡ Wrong f at
+  pub judge-stop : {f : Flaw} → frame_fault (shape_of r) st ≡ Err f → judge r at st ≡ Wrong f at
   judge-stop e = judge-step r at st p ∙ rw e
 
-  pub judge-on : frame_fault (shape_of r) st ≡ Sound → judge r at st ≡ judge (drop (frame_len r) r) (at + frame_len r) (behind (shape_of r) st)
+  pub judge-on : frame_fault (shape_of r) st ≡ Ok tt → judge r at st ≡ judge (drop (frame_len r) r) (at + frame_len r) (behind (shape_of r) st)
   judge-on e = judge-step r at st p ∙ rw e

@@ -8,21 +8,20 @@ use mathlib.Core.List.Memᴰ
 use mathlib.Core.List.{List, [], ◌∷◌, Memᴰ}
 use Rattle.fields.specs.declared.Fault.{Fault}
 use Rattle.fields.specs.declared.Flaw.{Flaw}
-use Rattle.fields.specs.declared.Verdict.{Verdict}
-use Rattle.fields.specs.declared.Verdict.TheVariants.{Sound, Flawed}
-use Rattle.fields.specs.Faults.{number_of, flaw, nowhere, unless, ◌next◌}
+use Rattle.fields.specs.Faults.{number_of, flaw, nowhere, unless, ◌next◌, Verdict}
 use Rattle.forest.specs.Faults.{Shape, State, frame_fault}
 use Rattle.forest.specs.First.{Test, tests, Lowest}
+use Rattle.std.specs.Prelude.{Err, Ok}
 
 -- the first of some tests to fail
 first_of : List Test → Verdict
-first_of [] = Sound
+first_of [] = Ok tt
 first_of (t ∷ ts) = unless t.passes (flaw t.cause nowhere) next first_of ts
 
-next-sound : (a : Verdict) → a next Sound ≡ a
+next-sound : (a : Verdict) → a next (Ok tt) ≡ a
 unfolding ◌next◌
-next-sound Sound = refl
-next-sound (Flawed f) = refl
+next-sound (Ok tt) = refl
+next-sound (Err f) = refl
 
 as-tests : (f : Shape) (st : State) → first_of (tests f st) ≡ frame_fault f st
 unfolding frame_fault tests first_of
@@ -44,12 +43,12 @@ tests-rising : (f : Shape) (st : State) → Rising 30 (tests f st)
 unfolding tests
 tests-rising f st = omega arith
 
-lowest : (n : ℕ) (ts : List Test) → Rising n ts → (f : Flaw) → first_of ts ≡ Flawed f → Lowest ts f.fault
+lowest : (n : ℕ) (ts : List Test) → Rising n ts → (f : Flaw) → first_of ts ≡ Err f → Lowest ts f.fault
 unfolding first_of ◌next◌
 lowest n [] r f e = absurd (let z : ◌≡◌ {A = ℕ} 0 1 = cc in omega arith)
 lowest n (t ∷ ts) r f e = by (lowest (number_of t.cause) ts r.1 f) t.passes refl e
   where
-    by : (first_of ts ≡ Flawed f → Lowest ts f.fault) → (b : Bool) → t.passes ≡ b → unless b (flaw t.cause nowhere) next first_of ts ≡ Flawed f
+    by : (first_of ts ≡ Err f → Lowest ts f.fault) → (b : Bool) → t.passes ≡ b → unless b (flaw t.cause nowhere) next first_of ts ≡ Err f
         → Lowest (t ∷ ts) f.fault
     by rest true g e =
         let l = rest e in
@@ -66,7 +65,7 @@ lowest n (t ∷ ts) r f e = by (lowest (number_of t.cause) ts r.1 f) t.passes re
           lower = λ u m h. absurd (let z : number_of t.cause ≤ number_of u.cause = rising-all (number_of t.cause) (t ∷ ts) (omega arith, r.1) u m in omega arith);
         }
 
-pub flawed-lowest : (f : Shape) (st : State) (g : Flaw) → frame_fault f st ≡ Flawed g → Lowest (tests f st) g.fault
+pub flawed-lowest : (f : Shape) (st : State) (g : Flaw) → frame_fault f st ≡ Err g → Lowest (tests f st) g.fault
 flawed-lowest f st g e = lowest 30 (tests f st) (tests-rising f st) g (as-tests f st ∙ e)
 
 -- the numbers of a stream's faults: 30 to 38

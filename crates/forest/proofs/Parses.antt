@@ -7,8 +7,6 @@ use mathlib.Core.List.{List, [], ◌∷◌, ◌++◌, append_assoc}
 use lib.Dec.{eqb}
 use lib.ListN.{length, drop}
 use borrow.Author.Tests.{eqb-true, eqb-false}
-use Rattle.fields.specs.declared.Verdict.{Verdict}
-use Rattle.fields.specs.declared.Verdict.TheVariants.{Sound, Flawed}
 use Rattle.stream.specs.Stream.{close_frame}
 use Rattle.forest.specs.Forest.{Item, Forest, none, more, count_of, key_frame, item_frame, item_frames, forest_frames}
 use Rattle.forest.specs.Allowed.{AllBelow, KeyName, allowed-none, allowed-more, OneRoot}
@@ -19,15 +17,17 @@ use Rattle.forest.proofs.Back.{key_back, key-back-fits, item_back, item-back-fit
 use Rattle.forest.proofs.Tests.{KeyHere, sound-key, sound-item, unlaid-flawed, root-opens, over-flawed, sound-passes, passed-name}
 use Rattle.forest.proofs.Growing.{Adding, no_value, value, Growing, no-key, a_key, growing-key, growing-allowed}
 use Rattle.forest.proofs.Written.{close-any}
+use Rattle.fields.specs.Faults.{Verdict}
+use Rattle.std.specs.Prelude.{Err, Ok}
 
 -- ---- one frame of a stream without a fault
 
-judged-fine : (v : Verdict) (at : ℕ) (g : Judged) → judged v at g ≡ Fine → (v ≡ Sound) × (g ≡ Fine)
-judged-fine Sound at g e = (refl, e)
-judged-fine (Flawed f) at g e = absurd (let z : ◌≡◌ {A = ℕ} 0 1 = cc in omega arith)
+judged-fine : (v : Verdict) (at : ℕ) (g : Judged) → judged v at g ≡ Fine → (v ≡ Ok tt) × (g ≡ Fine)
+judged-fine (Ok tt) at g e = (refl, e)
+judged-fine (Err f) at g e = absurd (let z : ◌≡◌ {A = ℕ} 0 1 = cc in omega arith)
 
 record Goes (r : List ℕ) (at : ℕ) (st : State) (f : Shape) : Type 0 where
-  sound : frame_fault f st ≡ Sound
+  sound : frame_fault f st ≡ Ok tt
   on : judge (drop (frame_len r) r) (at + frame_len r) (behind f st) ≡ Fine
 
 goes : (r : List ℕ) (at : ℕ) (st : State) → 0 < length r → judge r at st ≡ Fine → Goes r at st (shape_of r)

@@ -10,7 +10,6 @@ use lib.Dec.{eqb, leb}
 use lib.ListN.{length}
 use borrow.Author.Tests.{leb-true, le-leb, eqb-true, eq-eqb, ne_eqb, not-true}
 use Rattle.fields.specs.declared.Fault.TheVariants.{NoFrame, ValueLate, Unbalanced, Unsorted, Repeated, NameSize, DataSize, Depth, Subkeys}
-use Rattle.fields.specs.declared.Verdict.TheVariants.{Sound}
 use Rattle.fields.specs.Faults.{flaw, nowhere}
 use Rattle.fields.specs.Number.{u16_at}
 use Rattle.fields.proofs.Bools.{and-inv, and_both, never}
@@ -22,6 +21,7 @@ use Rattle.forest.specs.Faults.{Shape, unlaid, opens, holds, closes, frame_len, 
 use Rattle.forest.proofs.Judge.{frame-some}
 use Rattle.forest.proofs.Frames.{there-fits}
 use Rattle.forest.proofs.Shapes.{ItemFits}
+use Rattle.std.specs.Prelude.{Ok}
 
 -- ---- all nine
 
@@ -37,7 +37,7 @@ pub record Passes (f : Shape) (st : State) : Type 0 where
   pub few : is_few f st ≡ true
 
 module _ (f : Shape) (st : State) where
-  pub passes-sound : Passes f st → frame_fault f st ≡ Sound
+  pub passes-sound : Passes f st → frame_fault f st ≡ Ok tt
   unfolding frame_fault
   passes-sound p =
       sound _ _ (passes (flaw NoFrame nowhere) p.laid)
@@ -50,7 +50,7 @@ module _ (f : Shape) (st : State) where
       (sound _ _ (passes (flaw Depth nowhere) p.shallow)
       (passes (flaw Subkeys nowhere) p.few))))))))
 
-  pub sound-passes : frame_fault f st ≡ Sound → Passes f st
+  pub sound-passes : frame_fault f st ≡ Ok tt → Passes f st
   unfolding frame_fault
   sound-passes e =
       let a = both _ _ e in
@@ -83,7 +83,7 @@ laid-fits r e = by (is_there r) refl e
     by true q e = (frame-some r, (there-fits r q).1)
     by false q e = absurd (never false e refl)
 
-pub sound-fits : (r : List ℕ) (st : State) → frame_fault (shape_of r) st ≡ Sound → (6 ≤ frame_len r) × (frame_len r ≤ length r)
+pub sound-fits : (r : List ℕ) (st : State) → frame_fault (shape_of r) st ≡ Ok tt → (6 ≤ frame_len r) × (frame_len r ≤ length r)
 sound-fits r st e = laid-fits r (sound-passes (shape_of r) st e).laid
 
 -- ---- names
@@ -129,7 +129,7 @@ module _ (k : Open) (ks : List Open) where
     pub level : suc (length ks) ≤ 512
     pub few : length k.subkeys < 65535
 
-  pub sound-key : (s : ℕ) (x : List ℕ) → AllBelow 65536 x → frame_fault (opens s x) (within (k ∷ ks)) ≡ Sound → KeyName x × KeyHere x
+  pub sound-key : (s : ℕ) (x : List ℕ) → AllBelow 65536 x → frame_fault (opens s x) (within (k ∷ ks)) ≡ Ok tt → KeyName x × KeyHere x
   unfolding is_sorted is_shallow is_few subkeys_seen level_of
   sound-key s x f e =
       let p = sound-passes (opens s x) (within (k ∷ ks)) e in (
@@ -141,7 +141,7 @@ module _ (k : Open) (ks : List Open) where
         },
       )
 
-  pub key-sound : (s : ℕ) (x : List ℕ) → KeyName x → KeyHere x → frame_fault (opens s x) (within (k ∷ ks)) ≡ Sound
+  pub key-sound : (s : ℕ) (x : List ℕ) → KeyName x → KeyHere x → frame_fault (opens s x) (within (k ∷ ks)) ≡ Ok tt
   unfolding is_laid is_timely is_inside is_sorted is_single is_small is_shallow is_few subkeys_seen level_of is_over
   key-sound s x n h =
       passes-sound (opens s x) (within (k ∷ ks)) (record {
@@ -161,7 +161,7 @@ module _ (k : Open) (ks : List Open) where
     pub timely : length k.subkeys ≡ 0
     pub new : is_new v.name k.values ≡ true
 
-  pub sound-item : (v : Item) → ItemFits v → AllBelow 256 v.bytes → frame_fault (holds v) (within (k ∷ ks)) ≡ Sound → ItemAllowed v × ItemHere v
+  pub sound-item : (v : Item) → ItemFits v → AllBelow 256 v.bytes → frame_fault (holds v) (within (k ∷ ks)) ≡ Ok tt → ItemAllowed v × ItemHere v
   unfolding is_timely is_single is_named is_small values_seen subkeys_seen
   sound-item v f b e =
       let p = sound-passes (holds v) (within (k ∷ ks)) e in (
@@ -175,7 +175,7 @@ module _ (k : Open) (ks : List Open) where
         record { timely = eqb-true (length k.subkeys) 0 p.timely; new = p.single },
       )
 
-  pub item-sound : (v : Item) → ItemAllowed v → ItemHere v → frame_fault (holds v) (within (k ∷ ks)) ≡ Sound
+  pub item-sound : (v : Item) → ItemAllowed v → ItemHere v → frame_fault (holds v) (within (k ∷ ks)) ≡ Ok tt
   unfolding is_laid is_timely is_inside is_sorted is_single is_named is_small is_shallow is_few values_seen subkeys_seen level_of
   item-sound v a h =
       passes-sound (holds v) (within (k ∷ ks)) (record {
@@ -190,7 +190,7 @@ module _ (k : Open) (ks : List Open) where
         few = refl;
       })
 
-  pub close-sound : frame_fault closes (within (k ∷ ks)) ≡ Sound
+  pub close-sound : frame_fault closes (within (k ∷ ks)) ≡ Ok tt
   unfolding is_laid is_timely is_inside is_sorted is_single is_named is_small is_shallow is_few level_of
   close-sound =
       passes-sound closes (within (k ∷ ks)) (record {
@@ -207,7 +207,7 @@ module _ (k : Open) (ks : List Open) where
 
 -- ---- a frame outside of any key
 
-pub root-sound : (s : ℕ) (x : List ℕ) → KeyName x → frame_fault (opens s x) (within []) ≡ Sound
+pub root-sound : (s : ℕ) (x : List ℕ) → KeyName x → frame_fault (opens s x) (within []) ≡ Ok tt
 unfolding is_laid is_timely is_inside is_above is_sorted is_single is_small is_shallow is_few subkeys_seen level_of is_over
 root-sound s x n =
     passes-sound (opens s x) (within []) (record {
@@ -222,12 +222,12 @@ root-sound s x n =
       few = refl;
     })
 
-pub unlaid-flawed : (st : State) → frame_fault unlaid st ≡ Sound → ⊥
+pub unlaid-flawed : (st : State) → frame_fault unlaid st ≡ Ok tt → ⊥
 unfolding is_laid
 unlaid-flawed st e = never false (sound-passes unlaid st e).laid refl
 
 -- before the root a value and a closing are at fault
-pub root-opens : (f : Shape) → frame_fault f (within []) ≡ Sound → (s : ℕ) × (x : List ℕ) × (f ≡ opens s x)
+pub root-opens : (f : Shape) → frame_fault f (within []) ≡ Ok tt → (s : ℕ) × (x : List ℕ) × (f ≡ opens s x)
 unfolding is_laid is_inside level_of
 root-opens unlaid e = absurd (unlaid-flawed (within []) e)
 root-opens (opens s x) e = (s, x, refl)
@@ -235,7 +235,7 @@ root-opens (holds v) e = absurd (never false (sound-passes (holds v) (within [])
 root-opens closes e = absurd (never false (sound-passes closes (within []) e).inside refl)
 
 -- behind the root every frame is
-pub over-flawed : (f : Shape) → frame_fault f over ≡ Sound → ⊥
+pub over-flawed : (f : Shape) → frame_fault f over ≡ Ok tt → ⊥
 unfolding is_inside level_of is_over
 over-flawed unlaid e = unlaid-flawed over e
 over-flawed (opens s x) e = never false (sound-passes (opens s x) over e).inside refl

@@ -5,7 +5,6 @@ use mathlib.Core.Path.{◌≡◌, refl, ap, subst, ◌∙◌}
 use mathlib.Core.List.{List, [], ◌∷◌, ◌++◌, append_assoc}
 use lib.ListN.{length, length-append}
 use lib.Seq.{drop-append_seam}
-use Rattle.fields.specs.declared.Verdict.TheVariants.{Sound}
 use Rattle.stream.specs.Stream.{close_frame}
 use Rattle.forest.specs.Forest.{Item, Forest, none, more, count_of, key_frame, item_frame, item_frames, forest_frames}
 use Rattle.forest.specs.Allowed.{KeyAllowed, Allowed, allowed-more, OneRoot}
@@ -15,9 +14,10 @@ use Rattle.forest.proofs.Judge.{frame-some, judge-step, judge-end}
 use Rattle.forest.proofs.Shapes.{key-shape, key-len, item-shape, item-len, close-shape, close-len, key_fits, item-fits}
 use Rattle.forest.proofs.Tests.{key-sound, item-sound, close-sound, root-sound}
 use Rattle.forest.proofs.Growing.{Adding, no_value, value, Growing, no-key, a_key, key-adding, allowed-growing}
+use Rattle.std.specs.Prelude.{Ok}
 
 -- a frame without a fault is passed
-pub pass : (w t : List ℕ) (at : ℕ) (st : State) (f : Shape) → shape_of (w ++ t) ≡ f → frame_len (w ++ t) ≡ length w → frame_fault f st ≡ Sound
+pub pass : (w t : List ℕ) (at : ℕ) (st : State) (f : Shape) → shape_of (w ++ t) ≡ f → frame_len (w ++ t) ≡ length w → frame_fault f st ≡ Ok tt
     → judge (w ++ t) at st ≡ judge t (at + length w) (behind f st)
 pass w t at st f e l s =
     let some : 0 < length (w ++ t) = let a = length-append w t in let b = frame-some (w ++ t) in omega arith in
@@ -78,7 +78,7 @@ module _ (s : ℕ) (x : List ℕ) (vs : List Item) (b r : Forest) where
   in_a_row t = simp append_assoc
 
 opened : (s : ℕ) (x : List ℕ) (k : Open) (ks : List Open) (at : ℕ) (u : List ℕ) → shape_of (key_frame s x ++ u) ≡ opens s x → frame_len (key_frame s x ++ u) ≡ length (key_frame s x)
-    → frame_fault (opens s x) (within (k ∷ ks)) ≡ Sound
+    → frame_fault (opens s x) (within (k ∷ ks)) ≡ Ok tt
     → judge (key_frame s x ++ u) at (within (k ∷ ks)) ≡ judge u (at + length (key_frame s x)) (within (fresh ∷ (with_subkey x k ∷ ks)))
 unfolding behind open_in
 opened s x k ks at u e f g = pass (key_frame s x) u at (within (k ∷ ks)) (opens s x) e f g

@@ -1,9 +1,9 @@
 -- What a forest must be for a hive to be made of it, as plain facts: what is left when no cause of a refusal 30 to 38 is there.
 use Rattle.std.specs.Prelude.{ℕ, suc, ◌^◌, ◌≤◌, ◌<◌, ◌≡◌, false, length}
 use mathlib.Core.List.{List, [], ◌∷◌, Memᴰ}
-use Rattle.names.specs.declared.Order.TheVariants.{Before}
 use Rattle.names.specs.Comparison.{compare, same_name}
 use Rattle.forest.specs.Forest.{Item, Forest, none, more, count_of, names_of, item_names}
+use Rattle.std.specs.declared.cmp.Ordering.TheVariants.{Less}
 
 -- every number of a list is below a bound: bytes and codes
 abbrev pub AllBelow : ℕ → List ℕ → Type 0
@@ -12,7 +12,7 @@ AllBelow n xs = (x : ℕ) → Memᴰ x xs → x < n
 -- each name before all later ones, by "compared by code after upper-casing", strictly
 pub data Sorted : List (List ℕ) → Type 0 where
   sorted_none : Sorted []
-  sorted_more : {x : List ℕ} {xs : List (List ℕ)} → ((y : List ℕ) → Memᴰ y xs → compare x y ≡ Before) → Sorted xs → Sorted (x ∷ xs)
+  sorted_more : {x : List ℕ} {xs : List (List ℕ)} → ((y : List ℕ) → Memᴰ y xs → compare x y ≡ Less) → Sorted xs → Sorted (x ∷ xs)
 
 -- "no two values of a key have the same name"
 pub data Apart : List (List ℕ) → Type 0 where

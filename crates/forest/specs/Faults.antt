@@ -1,11 +1,9 @@
 -- What is wrong with a stream, a number for each cause: the earliest frame at fault answers, and of its faults the lowest number. Total on any bytes.
-use Rattle.std.specs.Prelude.{ℕ, zero, suc, ◌+◌, ◌-◌, ◌%◌, Bool, true, false, cond, not, ◌&&◌, List, [], ◌∷◌, eqb, leb, length, take, drop}
+use Rattle.std.specs.Prelude.{ℕ, zero, suc, ◌+◌, ◌-◌, ◌%◌, Bool, true, false, cond, not, ◌&&◌, List, [], ◌∷◌, eqb, leb, length, take, drop, Err, Ok}
 use Rattle.fields.specs.declared.Fault.TheVariants.{NoFrame, ValueLate, Unbalanced, Unsorted, Repeated, NameSize, DataSize, Depth, Subkeys}
 use Rattle.fields.specs.declared.Flaw.{Flaw}
-use Rattle.fields.specs.declared.Verdict.{Verdict}
-use Rattle.fields.specs.declared.Verdict.TheVariants.{Sound, Flawed}
 use Rattle.fields.specs.Number.{u16_at, u32_at, u64_at}
-use Rattle.fields.specs.Faults.{flaw, nowhere, unless, ◌next◌}
+use Rattle.fields.specs.Faults.{flaw, nowhere, unless, ◌next◌, Verdict}
 use Rattle.names.specs.Codes.{codes, has_code, backslash}
 use Rattle.names.specs.Comparison.{compare, same_name}
 use Rattle.tree.specs.Tree.{is_before}
@@ -220,8 +218,8 @@ ended over at = Fine
 ended (within ks) at = Wrong (flaw Unbalanced nowhere) at
 
 abbrev pub judged : Verdict → ℕ → Judged → Judged
-judged Sound at go = go
-judged (Flawed f) at go = Wrong f at
+judged (Ok tt) at go = go
+judged (Err f) at go = Wrong f at
 
 -- frame by frame; r is what is left of the stream from a position on. Each frame has at least 6 bytes, so as many turns as there are bytes are enough.
 unfoldable pub judge_n : ℕ → List ℕ → ℕ → State → Judged

@@ -22,7 +22,7 @@
 // stream, and stands in `at` of a HiveBuilt.
 #![tactic(auto)]
 
-ghost use Rattle.std.specs.Prelude.{◌<◌, ◌≡◌, true, length};
+ghost use Rattle.std.specs.Prelude.{◌<◌, ◌≡◌, true, length, Ok, Some};
 ghost use Rattle.cells.specs.Survey.{map_left};
 ghost use Rattle.names.specs.Comparison.{compare};
 ghost use Rattle.tree.specs.Tree.{check_answer};
@@ -40,18 +40,17 @@ ghost use Rattle.recovery.specs.Calls.{start_answer, page_answer, page_hive, clo
 ghost use Rattle.recovery.specs.AtOnce.{all_answer, all_hive, mark_answer, marked_answer, marked_map, facts_answer as log_answer};
 ghost use Rattle.recovery.specs.Settling.{settle_answer, settle_hive};
 ghost use Rattle.remnants.specs.Remnants.{kind_word, remnant_answer, rows_answer, rows_out};
-ghost use Rattle.hive_c.specs.Flat.{remnant_in, rows_in, walk_with, walk_in, frame_in, export_with, begun_in, export_in, cursor_at, built_in, granted as granted_of, refused as refused_of, report_in, key_in, spotted_in, form_of, value_in, copy_in, narrow_in, member_in, facts_in, piece_with, class_in, security_in, start_in, step_in, page_in, mark_in, map_in, log_in, order_in};
+ghost use Rattle.hive_c.specs.Flat.{remnant_in, rows_in, walk_with, walk_in, frame_in, export_with, begun_in, export_in, cursor_at, built_in, granted as granted_of, refused as refused_of, report_in, key_in, form_of, value_in, copy_in, narrow_in, member_in, facts_in, piece_with, class_in, security_in, start_in, step_in, page_in, mark_in, map_in, log_in, order_in};
 
-use build_answers::Built;
-use export::{Begun, Cursor, Ran};
+use build_answers::Unbuilt;
+use export::{Cursor, Progress};
 use fields::{Offset, Refusal};
-use listing::{Entry, Facts, KeyClass, KeyFacts, KeySecurity, Member, Piece};
-use lookup::{Copied, Info, Spotted, ValueFound};
-use names::Order;
-use paths::KeyFound;
-use recovery::{LogFacts, NextMark, NextPage, Started, Stepped};
-use remnants::{Filled, Kind, Remain, Remnant};
-use tree::Checked;
+use listing::{Entry, Facts, Piece};
+use lookup::Info;
+use recovery::{LoggedMark, LoggedPage, Started, Stepped};
+use remnants::{Kind, Remain};
+use std::cmp::Ordering;
+use tree::Report;
 use values::ValueData;
 use walk::Walked;
 
@@ -314,15 +313,16 @@ fn granted(value: u32) -> HiveAnswer
 }
 
 // "Each refusal is a number and a place", and the key under examination.
-fn refused(f: Refusal) -> HiveAnswer
-    ensures { result ≡ refused_of f }
-{
-    let fault = f.fault;
-    HiveAnswer {
-        number: fault.number(),
-        place: f.place.0,
-        key: f.key.0,
-        value: 0,
+impl From<Refusal> for HiveAnswer {
+    ghost from_gives = { λ f a. a ≡ refused_of f };
+
+    fn from(f: Refusal) -> HiveAnswer {
+        HiveAnswer {
+            number: f.fault.number(),
+            place: f.place.0,
+            key: f.key.0,
+            value: 0,
+        }
     }
 }
 
@@ -335,26 +335,28 @@ pub extern "C" fn hive_abi() -> u32
     3
 }
 
-fn reported(c: Checked) -> HiveReport
-    ensures { result ≡ report_in c }
-{
-    match c {
-        Checked::Accepted(r) => HiveReport {
-            answer: granted(0),
-            bins: r.bins as u64,
-            keys: r.keys,
-            values: r.values,
-            used: r.used as u64,
-            free: r.free as u64,
-        },
-        Checked::Refused(f) => HiveReport {
-            answer: refused(f),
-            bins: 0,
-            keys: 0,
-            values: 0,
-            used: 0,
-            free: 0,
-        },
+impl From<Result<Report, Refusal>> for HiveReport {
+    ghost from_gives = { λ c a. a ≡ report_in c };
+
+    fn from(c: Result<Report, Refusal>) -> HiveReport {
+        match c {
+            Ok(r) => HiveReport {
+                answer: granted(0),
+                bins: r.bins as u64,
+                keys: r.keys,
+                values: r.values,
+                used: r.used as u64,
+                free: r.free as u64,
+            },
+            Err(f) => HiveReport {
+                answer: HiveAnswer::from(f),
+                bins: 0,
+                keys: 0,
+                values: 0,
+                used: 0,
+                free: 0,
+            },
+        }
     }
 }
 
@@ -375,15 +377,17 @@ pub extern "C" fn hive_check(hive: &[u8], map: &mut [u8]) -> HiveReport
     ensures value { result ≡ report_in (check_answer hive.now map.old) }
     ensures map_after { map.new ≡ map_left hive.now map.old }
 {
-    reported(tree::check(hive, map))
+    HiveReport::from(tree::check(hive, map))
 }
 
-fn key_answer(k: KeyFound) -> HiveAnswer
-    ensures { result ≡ key_in k }
-{
-    match k {
-        KeyFound::At(o) => granted(o.0),
-        KeyFound::Refused(f) => refused(f),
+impl From<Result<Offset, Refusal>> for HiveAnswer {
+    ghost from_gives = { λ k a. a ≡ key_in k };
+
+    fn from(k: Result<Offset, Refusal>) -> HiveAnswer {
+        match k {
+            Ok(o) => granted(o.0),
+            Err(f) => HiveAnswer::from(f),
+        }
     }
 }
 
@@ -395,45 +399,45 @@ fn key_answer(k: KeyFound) -> HiveAnswer
 pub extern "C" fn hive_find_key(hive: &[u8], path: &[u16]) -> HiveAnswer
     ensures { result ≡ key_in (find_answer hive.now path.now) }
 {
-    key_answer(paths::find_key(hive, path))
+    HiveAnswer::from(paths::find_key(hive, path))
 }
 
 fn form_of(d: ValueData) -> u32
     ensures { result ≡ form_of d }
 {
     match d {
-        ValueData::Inline { cell: _, len: _ } => INLINE,
-        ValueData::OneCell { cell: _, len: _ } => ONE_CELL,
-        ValueData::Segments { cell: _, len: _ } => SEGMENTS,
+        ValueData::Inline { .. } => INLINE,
+        ValueData::OneCell { .. } => ONE_CELL,
+        ValueData::Segments { .. } => SEGMENTS,
     }
 }
 
 fn value_facts(i: Info) -> HiveValue
-    ensures { result ≡ value_in (ValueFound.At i) }
+    ensures { result ≡ value_in (Ok i) }
 {
-    let content = i.content;
-    let form = form_of(content);
     HiveValue {
         answer: granted(0),
         kind: i.kind,
-        form,
+        form: form_of(i.content),
         at: i.at.0 as u64,
         length: i.len as u64,
     }
 }
 
-fn value_answer(v: ValueFound) -> HiveValue
-    ensures { result ≡ value_in v }
-{
-    match v {
-        ValueFound::At(i) => value_facts(i),
-        ValueFound::Refused(f) => HiveValue {
-            answer: refused(f),
-            kind: 0,
-            form: 0,
-            at: 0,
-            length: 0,
-        },
+impl From<Result<Info, Refusal>> for HiveValue {
+    ghost from_gives = { λ v a. a ≡ value_in v };
+
+    fn from(v: Result<Info, Refusal>) -> HiveValue {
+        match v {
+            Ok(i) => value_facts(i),
+            Err(f) => HiveValue {
+                answer: HiveAnswer::from(f),
+                kind: 0,
+                form: 0,
+                at: 0,
+                length: 0,
+            },
+        }
     }
 }
 
@@ -443,7 +447,7 @@ fn value_answer(v: ValueFound) -> HiveValue
 pub extern "C" fn hive_value_info(hive: &[u8], path: &[u16], name: &[u16]) -> HiveValue
     ensures { result ≡ value_in (info_answer hive.now path.now name.now) }
 {
-    value_answer(lookup::value_info(hive, path, name))
+    HiveValue::from(lookup::value_info(hive, path, name))
 }
 
 // The same for a caller who wants to read the data where they lie: with number 0 they are the `length` bytes from hive + at.
@@ -452,21 +456,23 @@ pub extern "C" fn hive_value_info(hive: &[u8], path: &[u16], name: &[u16]) -> Hi
 pub extern "C" fn hive_value_view(hive: &[u8], path: &[u16], name: &[u16]) -> HiveValue
     ensures { result ≡ value_in (view_answer hive.now path.now name.now) }
 {
-    value_answer(lookup::view_info(hive, path, name))
+    HiveValue::from(lookup::view_info(hive, path, name))
 }
 
-fn copied(c: Copied) -> HiveCopy
-    ensures { result ≡ copy_in c }
-{
-    match c {
-        Copied::Done(n) => HiveCopy {
-            answer: granted(0),
-            length: n as u64,
-        },
-        Copied::Refused(f) => HiveCopy {
-            answer: refused(f),
-            length: 0,
-        },
+impl From<Result<usize, Refusal>> for HiveCopy {
+    ghost from_gives = { λ c a. a ≡ copy_in c };
+
+    fn from(c: Result<usize, Refusal>) -> HiveCopy {
+        match c {
+            Ok(n) => HiveCopy {
+                answer: granted(0),
+                length: n as u64,
+            },
+            Err(f) => HiveCopy {
+                answer: HiveAnswer::from(f),
+                length: 0,
+            },
+        }
     }
 }
 
@@ -482,7 +488,7 @@ pub extern "C" fn hive_value_copy(
     ensures value { result ≡ copy_in (copy_answer hive.now path.now name.now (length out.old)) }
     ensures out_after { out.new ≡ copy_out hive.now path.now name.now out.old }
 {
-    copied(lookup::value_copy(hive, path, name, out))
+    HiveCopy::from(lookup::value_copy(hive, path, name, out))
 }
 
 // Finds a key as hive_find_key does, by halving: a key's leaves by the first and last name of each, then one leaf. So it reads some
@@ -497,7 +503,7 @@ pub extern "C" fn hive_value_copy(
 pub extern "C" fn hive_quick_key(hive: &[u8], path: &[u16]) -> HiveAnswer
     ensures { result ≡ key_in (quick_answer hive.now path.now) }
 {
-    key_answer(paths::quick_key(hive, path))
+    HiveAnswer::from(paths::quick_key(hive, path))
 }
 
 // As hive_value_info, of the key that hive_quick_key finds: the two answer the same on a hive that hive_check accepts. The values of
@@ -506,7 +512,7 @@ pub extern "C" fn hive_quick_key(hive: &[u8], path: &[u16]) -> HiveAnswer
 pub extern "C" fn hive_quick_info(hive: &[u8], path: &[u16], name: &[u16]) -> HiveValue
     ensures { result ≡ value_in (quick_info hive.now path.now name.now) }
 {
-    value_answer(lookup::quick_info(hive, path, name))
+    HiveValue::from(lookup::quick_info(hive, path, name))
 }
 
 // As hive_value_view, of the key that hive_quick_key finds.
@@ -514,7 +520,7 @@ pub extern "C" fn hive_quick_info(hive: &[u8], path: &[u16], name: &[u16]) -> Hi
 pub extern "C" fn hive_quick_view(hive: &[u8], path: &[u16], name: &[u16]) -> HiveValue
     ensures { result ≡ value_in (quick_view hive.now path.now name.now) }
 {
-    value_answer(lookup::quick_view_info(hive, path, name))
+    HiveValue::from(lookup::quick_view_info(hive, path, name))
 }
 
 // As hive_value_copy, of the key that hive_quick_key finds. A refusal leaves `out` as it was.
@@ -528,7 +534,7 @@ pub extern "C" fn hive_quick_copy(
     ensures value { result ≡ copy_in (quick_copy hive.now path.now name.now (length out.old)) }
     ensures out_after { out.new ≡ quick_out hive.now path.now name.now out.old }
 {
-    copied(lookup::quick_copy(hive, path, name, out))
+    HiveCopy::from(lookup::quick_copy(hive, path, name, out))
 }
 
 // One step of a path: finds the child of that name of the key at an offset and answers its offset in `value`, so that a caller who holds a
@@ -540,7 +546,7 @@ pub extern "C" fn hive_quick_copy(
 pub extern "C" fn hive_child_of(hive: &[u8], key: u32, name: &[u16]) -> HiveAnswer
     ensures { result ≡ key_in (child_answer hive.now (record { 0 = key }) name.now) }
 {
-    key_answer(lookup::child_of(hive, Offset(key), name))
+    HiveAnswer::from(lookup::child_of(hive, Offset(key), name))
 }
 
 // As hive_child_of, by halving, as hive_quick_key does it. In a hive that hive_check accepts the two answer the same for every key of its
@@ -549,16 +555,7 @@ pub extern "C" fn hive_child_of(hive: &[u8], key: u32, name: &[u16]) -> HiveAnsw
 pub extern "C" fn hive_quick_child_of(hive: &[u8], key: u32, name: &[u16]) -> HiveAnswer
     ensures { result ≡ key_in (quick_child hive.now (record { 0 = key }) name.now) }
 {
-    key_answer(lookup::quick_child_of(hive, Offset(key), name))
-}
-
-fn spot_answer(s: Spotted) -> HiveAnswer
-    ensures { result ≡ spotted_in s }
-{
-    match s {
-        Spotted::At(v) => granted(v.0),
-        Spotted::Refused(f) => refused(f),
-    }
+    HiveAnswer::from(lookup::quick_child_of(hive, Offset(key), name))
 }
 
 // Finds the first value of that name of the key at an offset and answers its offset in `value`, which hive_value_at and hive_copy_at take:
@@ -566,9 +563,9 @@ fn spot_answer(s: Spotted) -> HiveAnswer
 // the unnamed value. Refuses 1 to 7, 11 and 12 of the given key, then with it as the key 11 and 12 of its value list and its values, 18.
 #[unsafe(no_mangle)]
 pub extern "C" fn hive_value_of(hive: &[u8], key: u32, name: &[u16]) -> HiveAnswer
-    ensures { result ≡ spotted_in (spot_answer hive.now (record { 0 = key }) name.now) }
+    ensures { result ≡ key_in (spot_answer hive.now (record { 0 = key }) name.now) }
 {
-    spot_answer(lookup::value_of(hive, Offset(key), name))
+    HiveAnswer::from(lookup::value_of(hive, Offset(key), name))
 }
 
 fn narrow_of(narrow: bool) -> u64
@@ -578,7 +575,7 @@ fn narrow_of(narrow: bool) -> u64
 }
 
 fn member_facts(e: Entry) -> HiveMember
-    ensures { result ≡ member_in (Member.At e) }
+    ensures { result ≡ member_in (Ok (Some e)) }
 {
     HiveMember {
         answer: granted(e.at.0),
@@ -589,25 +586,27 @@ fn member_facts(e: Entry) -> HiveMember
     }
 }
 
-fn member(m: Member) -> HiveMember
-    ensures { result ≡ member_in m }
-{
-    match m {
-        Member::At(e) => member_facts(e),
-        Member::NoMore => HiveMember {
-            answer: granted(0),
-            state: NO_MORE,
-            name: 0,
-            length: 0,
-            narrow: 0,
-        },
-        Member::Refused(f) => HiveMember {
-            answer: refused(f),
-            state: REFUSED,
-            name: 0,
-            length: 0,
-            narrow: 0,
-        },
+impl From<Result<Option<Entry>, Refusal>> for HiveMember {
+    ghost from_gives = { λ m a. a ≡ member_in m };
+
+    fn from(m: Result<Option<Entry>, Refusal>) -> HiveMember {
+        match m {
+            Ok(Some(e)) => member_facts(e),
+            Ok(None) => HiveMember {
+                answer: granted(0),
+                state: NO_MORE,
+                name: 0,
+                length: 0,
+                narrow: 0,
+            },
+            Err(f) => HiveMember {
+                answer: HiveAnswer::from(f),
+                state: REFUSED,
+                name: 0,
+                length: 0,
+                narrow: 0,
+            },
+        }
     }
 }
 
@@ -618,7 +617,7 @@ fn member(m: Member) -> HiveMember
 pub extern "C" fn hive_nth_subkey(hive: &[u8], key: u32, n: usize) -> HiveMember
     ensures { result ≡ member_in (subkey_answer hive.now (record { 0 = key }) n) }
 {
-    member(listing::nth_subkey(hive, Offset(key), n))
+    HiveMember::from(listing::nth_subkey(hive, Offset(key), n))
 }
 
 // Value n, from 0 on, of the key at an offset, in the order of its value list. A name of no bytes is the unnamed value's.
@@ -627,7 +626,7 @@ pub extern "C" fn hive_nth_subkey(hive: &[u8], key: u32, n: usize) -> HiveMember
 pub extern "C" fn hive_nth_value(hive: &[u8], key: u32, n: usize) -> HiveMember
     ensures { result ≡ member_in (value_answer hive.now (record { 0 = key }) n) }
 {
-    member(listing::nth_value(hive, Offset(key), n))
+    HiveMember::from(listing::nth_value(hive, Offset(key), n))
 }
 
 // The type, form, place and length of the data of the value at an offset, as hive_value_info answers. Refuses 1 to 7, then 11
@@ -636,7 +635,7 @@ pub extern "C" fn hive_nth_value(hive: &[u8], key: u32, n: usize) -> HiveMember
 pub extern "C" fn hive_value_at(hive: &[u8], value: u32) -> HiveValue
     ensures { result ≡ value_in (info_at hive.now (record { 0 = value })) }
 {
-    value_answer(listing::info_at(hive, Offset(value)))
+    HiveValue::from(listing::info_at(hive, Offset(value)))
 }
 
 // Copies the data of the value at an offset, as hive_value_copy does: the only way to a second value of one name. Refuses as
@@ -646,11 +645,11 @@ pub extern "C" fn hive_copy_at(hive: &[u8], value: u32, out: &mut [u8]) -> HiveC
     ensures value { result ≡ copy_in (copy_at hive.now (record { 0 = value }) (length out.old)) }
     ensures out_after { out.new ≡ out_at hive.now (record { 0 = value }) out.old }
 {
-    copied(listing::copy_at(hive, Offset(value), out))
+    HiveCopy::from(listing::copy_at(hive, Offset(value), out))
 }
 
 fn key_facts(k: Facts) -> HiveKey
-    ensures { result ≡ facts_in (KeyFacts.At k) }
+    ensures { result ≡ facts_in (Ok k) }
 {
     let e = k.entry;
     HiveKey {
@@ -665,21 +664,23 @@ fn key_facts(k: Facts) -> HiveKey
     }
 }
 
-fn key_told(k: KeyFacts) -> HiveKey
-    ensures { result ≡ facts_in k }
-{
-    match k {
-        KeyFacts::At(f) => key_facts(f),
-        KeyFacts::Refused(f) => HiveKey {
-            answer: refused(f),
-            written: 0,
-            parent: 0,
-            subkeys: 0,
-            values: 0,
-            name: 0,
-            length: 0,
-            narrow: 0,
-        },
+impl From<Result<Facts, Refusal>> for HiveKey {
+    ghost from_gives = { λ k a. a ≡ facts_in k };
+
+    fn from(k: Result<Facts, Refusal>) -> HiveKey {
+        match k {
+            Ok(f) => key_facts(f),
+            Err(f) => HiveKey {
+                answer: HiveAnswer::from(f),
+                written: 0,
+                parent: 0,
+                subkeys: 0,
+                values: 0,
+                name: 0,
+                length: 0,
+                narrow: 0,
+            },
+        }
     }
 }
 
@@ -688,7 +689,7 @@ fn key_told(k: KeyFacts) -> HiveKey
 pub extern "C" fn hive_key_at(hive: &[u8], key: u32) -> HiveKey
     ensures { result ≡ facts_in (facts_answer hive.now (record { 0 = key })) }
 {
-    key_told(listing::key_facts(hive, Offset(key)))
+    HiveKey::from(listing::key_facts(hive, Offset(key)))
 }
 
 fn piece(p: Piece) -> HivePiece
@@ -711,13 +712,15 @@ fn no_piece(answer: HiveAnswer) -> HivePiece
     }
 }
 
-fn class_told(c: KeyClass) -> HivePiece
-    ensures { result ≡ class_in c }
-{
-    match c {
-        KeyClass::None => no_piece(granted(0)),
-        KeyClass::At(p) => piece(p),
-        KeyClass::Refused(f) => no_piece(refused(f)),
+impl From<Result<Option<Piece>, Refusal>> for HivePiece {
+    ghost from_gives = { λ c a. a ≡ class_in c };
+
+    fn from(c: Result<Option<Piece>, Refusal>) -> HivePiece {
+        match c {
+            Ok(None) => no_piece(granted(0)),
+            Ok(Some(p)) => piece(p),
+            Err(f) => no_piece(HiveAnswer::from(f)),
+        }
     }
 }
 
@@ -728,15 +731,17 @@ fn class_told(c: KeyClass) -> HivePiece
 pub extern "C" fn hive_key_class(hive: &[u8], key: u32) -> HivePiece
     ensures { result ≡ class_in (class_answer hive.now (record { 0 = key })) }
 {
-    class_told(listing::key_class(hive, Offset(key)))
+    HivePiece::from(listing::key_class(hive, Offset(key)))
 }
 
-fn security_told(s: KeySecurity) -> HivePiece
-    ensures { result ≡ security_in s }
-{
-    match s {
-        KeySecurity::At(p) => piece(p),
-        KeySecurity::Refused(f) => no_piece(refused(f)),
+impl From<Result<Piece, Refusal>> for HivePiece {
+    ghost from_gives = { λ s a. a ≡ security_in s };
+
+    fn from(s: Result<Piece, Refusal>) -> HivePiece {
+        match s {
+            Ok(p) => piece(p),
+            Err(f) => no_piece(HiveAnswer::from(f)),
+        }
     }
 }
 
@@ -747,12 +752,12 @@ fn security_told(s: KeySecurity) -> HivePiece
 pub extern "C" fn hive_key_security(hive: &[u8], key: u32) -> HivePiece
     ensures { result ≡ security_in (security_answer hive.now (record { 0 = key })) }
 {
-    security_told(listing::key_security(hive, Offset(key)))
+    HivePiece::from(listing::key_security(hive, Offset(key)))
 }
 
 fn opening(e: Entry, depth: usize) -> HiveWalk
     requires { depth < 513 }
-    ensures { result ≡ walk_in (Walked.Opens e) depth }
+    ensures { result ≡ walk_in (Ok (Some (Walked.Opens e))) depth }
 {
     let deeper = depth as u64 + 1;
     HiveWalk {
@@ -778,15 +783,15 @@ fn nameless(answer: HiveAnswer, state: u64, depth: usize) -> HiveWalk
     }
 }
 
-fn walked(w: Walked, depth: usize) -> HiveWalk
+fn walked(w: Result<Option<Walked>, Refusal>, depth: usize) -> HiveWalk
     requires { keeps_count w depth ≡ true }
     ensures { result ≡ walk_in w depth }
 {
     match w {
-        Walked::Opens(e) => opening(e, depth),
-        Walked::Closes(k) => nameless(granted(k.0), CLOSES, depth - 1),
-        Walked::Over => nameless(granted(0), OVER, depth),
-        Walked::Refused(f) => nameless(refused(f), REFUSED, depth),
+        Ok(Some(Walked::Opens(e))) => opening(e, depth),
+        Ok(Some(Walked::Closes(k))) => nameless(granted(k.0), CLOSES, depth - 1),
+        Ok(None) => nameless(granted(0), OVER, depth),
+        Err(f) => nameless(HiveAnswer::from(f), REFUSED, depth),
     }
 }
 
@@ -818,25 +823,27 @@ pub extern "C" fn hive_walk_step(hive: &[u8], levels: &mut [u32], depth: usize) 
     walked(walk::step(hive, levels, depth), depth)
 }
 
-fn framed(s: export::Stepped) -> HiveFrame
-    ensures { result ≡ frame_in s }
-{
-    match s {
-        export::Stepped::Written(n) => HiveFrame {
-            answer: granted(0),
-            state: WRITTEN,
-            length: n as u64,
-        },
-        export::Stepped::Done => HiveFrame {
-            answer: granted(0),
-            state: NO_MORE,
-            length: 0,
-        },
-        export::Stepped::Refused(f) => HiveFrame {
-            answer: refused(f),
-            state: REFUSED,
-            length: 0,
-        },
+impl From<Result<Option<usize>, Refusal>> for HiveFrame {
+    ghost from_gives = { λ s a. a ≡ frame_in s };
+
+    fn from(s: Result<Option<usize>, Refusal>) -> HiveFrame {
+        match s {
+            Ok(Some(n)) => HiveFrame {
+                answer: granted(0),
+                state: WRITTEN,
+                length: n as u64,
+            },
+            Ok(None) => HiveFrame {
+                answer: granted(0),
+                state: NO_MORE,
+                length: 0,
+            },
+            Err(f) => HiveFrame {
+                answer: HiveAnswer::from(f),
+                state: REFUSED,
+                length: 0,
+            },
+        }
     }
 }
 
@@ -855,7 +862,7 @@ pub extern "C" fn hive_export_step(
     ensures map_after { map.new ≡ map_left hive.now map.old }
     ensures out_after { out.new ≡ step_out hive.now map.old n out.old }
 {
-    framed(export::step(hive, map, n, out))
+    HiveFrame::from(export::step(hive, map, n, out))
 }
 
 fn stands(answer: HiveAnswer, state: u64, c: Cursor) -> HiveExport
@@ -871,12 +878,14 @@ fn stands(answer: HiveAnswer, state: u64, c: Cursor) -> HiveExport
     }
 }
 
-fn begun(b: Begun) -> HiveExport
-    ensures { result ≡ begun_in b }
-{
-    match b {
-        Begun::At(c) => stands(granted(0), WRITTEN, c),
-        Begun::Refused(f) => stands(refused(f), REFUSED, Cursor { depth: 0, due: 0 }),
+impl From<Result<Cursor, Refusal>> for HiveExport {
+    ghost from_gives = { λ b a. a ≡ begun_in b };
+
+    fn from(b: Result<Cursor, Refusal>) -> HiveExport {
+        match b {
+            Ok(c) => stands(granted(0), WRITTEN, c),
+            Err(f) => stands(HiveAnswer::from(f), REFUSED, Cursor { depth: 0, due: 0 }),
+        }
     }
 }
 
@@ -888,14 +897,14 @@ pub extern "C" fn hive_export_begin(hive: &[u8], map: &mut [u8], levels: &mut [u
     ensures map_after { map.new ≡ map_left hive.now map.old }
     ensures levels_after { levels.new ≡ export_levels hive.now map.old levels.old }
 {
-    begun(export::begin(hive, map, levels))
+    HiveExport::from(export::begin(hive, map, levels))
 }
 
-fn ran(r: Ran, c: Cursor) -> HiveExport
+fn ran(r: Result<Option<Progress>, Refusal>, c: Cursor) -> HiveExport
     ensures { result ≡ export_in r c }
 {
     match r {
-        Ran::Written(p) => {
+        Ok(Some(p)) => {
             let next = p.next;
             HiveExport {
                 answer: granted(0),
@@ -906,8 +915,8 @@ fn ran(r: Ran, c: Cursor) -> HiveExport
                 bytes: p.bytes as u64,
             }
         }
-        Ran::Done => stands(granted(0), NO_MORE, c),
-        Ran::Refused(f) => stands(refused(f), REFUSED, c),
+        Ok(None) => stands(granted(0), NO_MORE, c),
+        Err(f) => stands(HiveAnswer::from(f), REFUSED, c),
     }
 }
 
@@ -935,22 +944,21 @@ pub extern "C" fn hive_export_run(
     ran(export::run(hive, levels, c, out), c)
 }
 
-fn made(b: Built) -> HiveBuilt
-    ensures { result ≡ built_in b }
-{
-    match b {
-        Built::Done(n) => HiveBuilt {
-            answer: granted(0),
-            at: 0,
-            length: n as u64,
-        },
-        Built::Refused(u) => {
-            let f = u.refusal;
-            HiveBuilt {
-                answer: refused(f),
+impl From<Result<usize, Unbuilt>> for HiveBuilt {
+    ghost from_gives = { λ b a. a ≡ built_in b };
+
+    fn from(b: Result<usize, Unbuilt>) -> HiveBuilt {
+        match b {
+            Ok(n) => HiveBuilt {
+                answer: granted(0),
+                at: 0,
+                length: n as u64,
+            },
+            Err(u) => HiveBuilt {
+                answer: HiveAnswer::from(u.refusal),
                 at: u.at.0 as u64,
                 length: 0,
-            }
+            },
         }
     }
 }
@@ -961,7 +969,7 @@ fn made(b: Built) -> HiveBuilt
 pub extern "C" fn hive_build_size(stream: &[u8], descriptor_len: usize) -> HiveBuilt
     ensures { result ≡ built_in (measure_answer stream.now descriptor_len) }
 {
-    made(build::measure(stream, descriptor_len))
+    HiveBuilt::from(build::measure(stream, descriptor_len))
 }
 
 // Makes a hive of version 1.5 from a stream of frames, as an export writes them (docs/FRAMES.md), and one security descriptor,
@@ -981,7 +989,7 @@ pub extern "C" fn hive_build(stream: &[u8], descriptor: &[u8], out: &mut [u8]) -
     ensures value { result ≡ built_in (build_answer stream.now descriptor.now (length out.old)) }
     ensures out_after { out.new ≡ build_out stream.now descriptor.now out.old }
 {
-    made(build::build(stream, descriptor, out))
+    HiveBuilt::from(build::build(stream, descriptor, out))
 }
 
 fn kind_of(k: Kind) -> u64
@@ -990,12 +998,11 @@ fn kind_of(k: Kind) -> u64
     match k {
         Kind::Key => OLD_KEY,
         Kind::Value => OLD_VALUE,
-        Kind::Neither => 0,
     }
 }
 
 fn remain_facts(x: Remain) -> HiveRemnant
-    ensures { result ≡ remnant_in (Remnant.At x) }
+    ensures { result ≡ remnant_in (Ok (Some x)) }
 {
     let kind = x.kind;
     HiveRemnant {
@@ -1008,27 +1015,29 @@ fn remain_facts(x: Remain) -> HiveRemnant
     }
 }
 
-fn remnant(n: Remnant) -> HiveRemnant
-    ensures { result ≡ remnant_in n }
-{
-    match n {
-        Remnant::At(x) => remain_facts(x),
-        Remnant::Done => HiveRemnant {
-            answer: granted(0),
-            state: NO_MORE,
-            kind: 0,
-            name: 0,
-            length: 0,
-            narrow: 0,
-        },
-        Remnant::Refused(f) => HiveRemnant {
-            answer: refused(f),
-            state: REFUSED,
-            kind: 0,
-            name: 0,
-            length: 0,
-            narrow: 0,
-        },
+impl From<Result<Option<Remain>, Refusal>> for HiveRemnant {
+    ghost from_gives = { λ n a. a ≡ remnant_in n };
+
+    fn from(n: Result<Option<Remain>, Refusal>) -> HiveRemnant {
+        match n {
+            Ok(Some(x)) => remain_facts(x),
+            Ok(None) => HiveRemnant {
+                answer: granted(0),
+                state: NO_MORE,
+                kind: 0,
+                name: 0,
+                length: 0,
+                narrow: 0,
+            },
+            Err(f) => HiveRemnant {
+                answer: HiveAnswer::from(f),
+                state: REFUSED,
+                kind: 0,
+                name: 0,
+                length: 0,
+                narrow: 0,
+            },
+        }
     }
 }
 
@@ -1040,28 +1049,30 @@ fn remnant(n: Remnant) -> HiveRemnant
 pub extern "C" fn hive_next_remnant(hive: &[u8], from: usize) -> HiveRemnant
     ensures { result ≡ remnant_in (remnant_answer hive.now from) }
 {
-    remnant(remnants::next(hive, from))
+    HiveRemnant::from(remnants::next(hive, from))
 }
 
-fn filled(f: Filled) -> HiveRows
-    ensures { result ≡ rows_in f }
-{
-    match f {
-        Filled::With(n) => HiveRows {
-            answer: granted(0),
-            state: THERE,
-            rows: n as u64,
-        },
-        Filled::Done => HiveRows {
-            answer: granted(0),
-            state: NO_MORE,
-            rows: 0,
-        },
-        Filled::Refused(f) => HiveRows {
-            answer: refused(f),
-            state: REFUSED,
-            rows: 0,
-        },
+impl From<Result<Option<usize>, Refusal>> for HiveRows {
+    ghost from_gives = { λ f a. a ≡ rows_in f };
+
+    fn from(f: Result<Option<usize>, Refusal>) -> HiveRows {
+        match f {
+            Ok(Some(n)) => HiveRows {
+                answer: granted(0),
+                state: THERE,
+                rows: n as u64,
+            },
+            Ok(None) => HiveRows {
+                answer: granted(0),
+                state: NO_MORE,
+                rows: 0,
+            },
+            Err(f) => HiveRows {
+                answer: HiveAnswer::from(f),
+                state: REFUSED,
+                rows: 0,
+            },
+        }
     }
 }
 
@@ -1075,28 +1086,30 @@ pub extern "C" fn hive_remnants(hive: &[u8], from: usize, rows: &mut [u32]) -> H
     ensures value { result ≡ rows_in (rows_answer hive.now from (length rows.old)) }
     ensures rows_after { rows.new ≡ rows_out hive.now from rows.old }
 {
-    filled(remnants::rows(hive, from, rows))
+    HiveRows::from(remnants::rows(hive, from, rows))
 }
 
-fn started(s: Started) -> HiveRecovery
-    ensures { result ≡ start_in s }
-{
-    match s {
-        Started::Clean => HiveRecovery {
-            answer: granted(0),
-            state: CLEAN,
-            pages: 0,
-        },
-        Started::Pages(n) => HiveRecovery {
-            answer: granted(0),
-            state: DONE,
-            pages: n as u64,
-        },
-        Started::Refused(f) => HiveRecovery {
-            answer: refused(f),
-            state: REFUSED,
-            pages: 0,
-        },
+impl From<Result<Started, Refusal>> for HiveRecovery {
+    ghost from_gives = { λ s a. a ≡ start_in s };
+
+    fn from(s: Result<Started, Refusal>) -> HiveRecovery {
+        match s {
+            Ok(Started::Clean) => HiveRecovery {
+                answer: granted(0),
+                state: CLEAN,
+                pages: 0,
+            },
+            Ok(Started::Pages(n)) => HiveRecovery {
+                answer: granted(0),
+                state: DONE,
+                pages: n as u64,
+            },
+            Err(f) => HiveRecovery {
+                answer: HiveAnswer::from(f),
+                state: REFUSED,
+                pages: 0,
+            },
+        }
     }
 }
 
@@ -1114,28 +1127,30 @@ fn started(s: Started) -> HiveRecovery
 pub extern "C" fn hive_recover_start(hive: &[u8], log: &[u8]) -> HiveRecovery
     ensures { result ≡ start_in (start_answer hive.now log.now) }
 {
-    started(recovery::start(hive, log))
+    HiveRecovery::from(recovery::start(hive, log))
 }
 
-fn stepped(s: Stepped) -> HiveRecovery
-    ensures { result ≡ step_in s }
-{
-    match s {
-        Stepped::Clean => HiveRecovery {
-            answer: granted(0),
-            state: CLEAN,
-            pages: 0,
-        },
-        Stepped::Done => HiveRecovery {
-            answer: granted(0),
-            state: DONE,
-            pages: 0,
-        },
-        Stepped::Refused(f) => HiveRecovery {
-            answer: refused(f),
-            state: REFUSED,
-            pages: 0,
-        },
+impl From<Result<Stepped, Refusal>> for HiveRecovery {
+    ghost from_gives = { λ s a. a ≡ step_in s };
+
+    fn from(s: Result<Stepped, Refusal>) -> HiveRecovery {
+        match s {
+            Ok(Stepped::Clean) => HiveRecovery {
+                answer: granted(0),
+                state: CLEAN,
+                pages: 0,
+            },
+            Ok(Stepped::Done) => HiveRecovery {
+                answer: granted(0),
+                state: DONE,
+                pages: 0,
+            },
+            Err(f) => HiveRecovery {
+                answer: HiveAnswer::from(f),
+                state: REFUSED,
+                pages: 0,
+            },
+        }
     }
 }
 
@@ -1147,7 +1162,7 @@ pub extern "C" fn hive_recover_page(hive: &mut [u8], log: &[u8], page: usize) ->
     ensures value { result ≡ step_in (page_answer hive.old log.now page) }
     ensures hive_after { hive.new ≡ page_hive hive.old log.now page }
 {
-    stepped(recovery::page(hive, log, page))
+    HiveRecovery::from(recovery::page(hive, log, page))
 }
 
 // Writes the closing sector to the first 512 bytes of the hive in memory, once every logged page is in: the log's first 512
@@ -1158,34 +1173,36 @@ pub extern "C" fn hive_recover_close(hive: &mut [u8], log: &[u8]) -> HiveRecover
     ensures value { result ≡ step_in (close_answer hive.old log.now) }
     ensures hive_after { hive.new ≡ close_hive hive.old log.now }
 {
-    stepped(recovery::close(hive, log))
+    HiveRecovery::from(recovery::close(hive, log))
 }
 
-fn next(n: NextPage) -> HivePage
-    ensures { result ≡ page_in n }
-{
-    match n {
-        NextPage::At { page, from, to } => HivePage {
-            answer: granted(0),
-            state: THERE,
-            page: page as u64,
-            from: from.0 as u64,
-            to: to.0 as u64,
-        },
-        NextPage::NoMore => HivePage {
-            answer: granted(0),
-            state: NO_MORE,
-            page: 0,
-            from: 0,
-            to: 0,
-        },
-        NextPage::Refused(f) => HivePage {
-            answer: refused(f),
-            state: REFUSED,
-            page: 0,
-            from: 0,
-            to: 0,
-        },
+impl From<Result<Option<LoggedPage>, Refusal>> for HivePage {
+    ghost from_gives = { λ n a. a ≡ page_in n };
+
+    fn from(n: Result<Option<LoggedPage>, Refusal>) -> HivePage {
+        match n {
+            Ok(Some(LoggedPage { page, from, to })) => HivePage {
+                answer: granted(0),
+                state: THERE,
+                page: page as u64,
+                from: from.0 as u64,
+                to: to.0 as u64,
+            },
+            Ok(None) => HivePage {
+                answer: granted(0),
+                state: NO_MORE,
+                page: 0,
+                from: 0,
+                to: 0,
+            },
+            Err(f) => HivePage {
+                answer: HiveAnswer::from(f),
+                state: REFUSED,
+                page: 0,
+                from: 0,
+                to: 0,
+            },
+        }
     }
 }
 
@@ -1195,7 +1212,7 @@ fn next(n: NextPage) -> HivePage
 pub extern "C" fn hive_recover_next(log: &[u8], from: usize) -> HivePage
     ensures { result ≡ page_in (next_answer log.now from) }
 {
-    next(recovery::next_page(log, from))
+    HivePage::from(recovery::next_page(log, from))
 }
 
 // Installs every page that the log holds in the hive in memory, after one round of tests: what hive_recover_page does for each
@@ -1205,31 +1222,33 @@ pub extern "C" fn hive_recover_all(hive: &mut [u8], log: &[u8]) -> HiveRecovery
     ensures value { result ≡ step_in (all_answer hive.old log.now) }
     ensures hive_after { hive.new ≡ all_hive hive.old log.now }
 {
-    stepped(recovery::all_pages(hive, log))
+    HiveRecovery::from(recovery::all_pages(hive, log))
 }
 
-fn marked(m: NextMark) -> HiveMark
-    ensures { result ≡ mark_in m }
-{
-    match m {
-        NextMark::At { page, to } => HiveMark {
-            answer: granted(0),
-            state: THERE,
-            page: page as u64,
-            to: to.0 as u64,
-        },
-        NextMark::NoMore => HiveMark {
-            answer: granted(0),
-            state: NO_MORE,
-            page: 0,
-            to: 0,
-        },
-        NextMark::Refused(f) => HiveMark {
-            answer: refused(f),
-            state: REFUSED,
-            page: 0,
-            to: 0,
-        },
+impl From<Result<Option<LoggedMark>, Refusal>> for HiveMark {
+    ghost from_gives = { λ m a. a ≡ mark_in m };
+
+    fn from(m: Result<Option<LoggedMark>, Refusal>) -> HiveMark {
+        match m {
+            Ok(Some(LoggedMark { page, to })) => HiveMark {
+                answer: granted(0),
+                state: THERE,
+                page: page as u64,
+                to: to.0 as u64,
+            },
+            Ok(None) => HiveMark {
+                answer: granted(0),
+                state: NO_MORE,
+                page: 0,
+                to: 0,
+            },
+            Err(f) => HiveMark {
+                answer: HiveAnswer::from(f),
+                state: REFUSED,
+                page: 0,
+                to: 0,
+            },
+        }
     }
 }
 
@@ -1240,23 +1259,25 @@ fn marked(m: NextMark) -> HiveMark
 pub extern "C" fn hive_recover_mark(log: &[u8], from: usize) -> HiveMark
     ensures { result ≡ mark_in (mark_answer log.now from) }
 {
-    marked(recovery::next_mark(log, from))
+    HiveMark::from(recovery::next_mark(log, from))
 }
 
-fn mapped(m: recovery::Marked) -> HiveRecovery
-    ensures { result ≡ map_in m }
-{
-    match m {
-        recovery::Marked::Pages(n) => HiveRecovery {
-            answer: granted(0),
-            state: DONE,
-            pages: n as u64,
-        },
-        recovery::Marked::Refused(f) => HiveRecovery {
-            answer: refused(f),
-            state: REFUSED,
-            pages: 0,
-        },
+impl From<Result<usize, Refusal>> for HiveRecovery {
+    ghost from_gives = { λ m a. a ≡ map_in m };
+
+    fn from(m: Result<usize, Refusal>) -> HiveRecovery {
+        match m {
+            Ok(n) => HiveRecovery {
+                answer: granted(0),
+                state: DONE,
+                pages: n as u64,
+            },
+            Err(f) => HiveRecovery {
+                answer: HiveAnswer::from(f),
+                state: REFUSED,
+                pages: 0,
+            },
+        }
     }
 }
 
@@ -1269,29 +1290,31 @@ pub extern "C" fn hive_recover_mark_pages(log: &[u8], map: &mut [u8]) -> HiveRec
     ensures value { result ≡ map_in (marked_answer log.now (length map.old)) }
     ensures map_after { map.new ≡ marked_map log.now map.old }
 {
-    mapped(recovery::mark_pages(log, map))
+    HiveRecovery::from(recovery::mark_pages(log, map))
 }
 
-fn told(t: LogFacts) -> HiveLog
-    ensures { result ≡ log_in t }
-{
-    match t {
-        LogFacts::Of(f) => HiveLog {
-            answer: granted(0),
-            entries: f.entries as u64,
-            first: f.first as u64,
-            last: f.last as u64,
-            end: f.end as u64,
-            bins: f.bins as u64,
-        },
-        LogFacts::Refused(f) => HiveLog {
-            answer: refused(f),
-            entries: 0,
-            first: 0,
-            last: 0,
-            end: 0,
-            bins: 0,
-        },
+impl From<Result<logs::Facts, Refusal>> for HiveLog {
+    ghost from_gives = { λ t a. a ≡ log_in t };
+
+    fn from(t: Result<logs::Facts, Refusal>) -> HiveLog {
+        match t {
+            Ok(f) => HiveLog {
+                answer: granted(0),
+                entries: f.entries as u64,
+                first: f.first as u64,
+                last: f.last as u64,
+                end: f.end as u64,
+                bins: f.bins as u64,
+            },
+            Err(f) => HiveLog {
+                answer: HiveAnswer::from(f),
+                entries: 0,
+                first: 0,
+                last: 0,
+                end: 0,
+                bins: 0,
+            },
+        }
     }
 }
 
@@ -1301,7 +1324,7 @@ fn told(t: LogFacts) -> HiveLog
 pub extern "C" fn hive_recover_log(log: &[u8]) -> HiveLog
     ensures { result ≡ log_in (log_answer log.now) }
 {
-    told(recovery::log_facts(log))
+    HiveLog::from(recovery::log_facts(log))
 }
 
 // Without a log: makes a dirty hive in memory one that the reader's calls take as it is, with what its log would still change missing.
@@ -1314,16 +1337,16 @@ pub extern "C" fn hive_settle(hive: &mut [u8]) -> HiveRecovery
     ensures value { result ≡ step_in (settle_answer hive.old) }
     ensures hive_after { hive.new ≡ settle_hive hive.old }
 {
-    stepped(recovery::settle(hive))
+    HiveRecovery::from(recovery::settle(hive))
 }
 
-fn order_number(o: Order) -> u32
+fn order_number(o: Ordering) -> u32
     ensures { result ≡ order_in o }
 {
     match o {
-        Order::Before => BEFORE,
-        Order::Same => SAME,
-        Order::After => AFTER,
+        Ordering::Less => BEFORE,
+        Ordering::Equal => SAME,
+        Ordering::Greater => AFTER,
     }
 }
 

@@ -2,15 +2,9 @@
 #![tactic(auto)]
 
 use std::io;
+use test_frames::Run;
 
 fn main(rt: HostRuntime) -> io::Result<()> {
-    let mut hive = [0u8; 20480];
-    let mut room = [0u8; 20480];
-    let mut units = [0u16; 10240];
-    let mut map = [0u8; 320];
-    let mut from = rt.reader();
-    let mut to = io::writer(&rt);
-    test_frames::run(
-        &mut from, &mut to, &mut hive, &mut room, &mut units, &mut map,
-    )
+    let mut run = Run::new();
+    run.frames(&mut rt.reader(), &mut io::writer(&rt))
 }

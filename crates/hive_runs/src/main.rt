@@ -19,18 +19,17 @@ use std::io::{Read, Write};
 use std::rt::Files;
 use test_lines::read_full;
 
-// How long hive, path and name are.
-#[derive(Clone, Copy)]
-struct Lengths {
-    hive: usize,
-    path: usize,
-    name: usize,
-}
-
-#[derive(Clone, Copy)]
-enum Went {
-    On(Lengths),
-    Ended,
+// What an order works on: files and names as long as they are said to be; map and output keep what earlier orders left in them.
+#[derive(Drop)]
+struct Desk {
+    hive: [u8; 2097152],
+    path: [u16; 4096],
+    name: [u16; 4096],
+    map: [u8; 32768],
+    out: [u8; 1048640],
+    hive_len: usize,
+    path_len: usize,
+    name_len: usize,
 }
 
 // Reads the file of that name. A name is text: no other names a file.
@@ -52,45 +51,6 @@ fn units_of(part: &[u8], units: &mut [u16]) -> usize {
     n
 }
 
-// The orders that bytes follow.
-fn take_in<H: Files, W: Write>(
-    rt: &H,
-    to: &mut W,
-    hive: &mut [u8],
-    path: &mut [u16],
-    name: &mut [u16],
-    part: &[u8],
-    l: Lengths,
-    kind: u8,
-) -> io::Result<Lengths> {
-    let after = match kind {
-        0 => {
-            to.write_all(part)?;
-            l
-        }
-        1 => Lengths {
-            hive: open(rt, part, hive)?,
-            path: 0,
-            name: 0,
-        },
-        2 => {
-            test_lines::put(hive, part);
-            l
-        }
-        3 => Lengths {
-            hive: l.hive,
-            path: units_of(part, path),
-            name: l.name,
-        },
-        _ => Lengths {
-            hive: l.hive,
-            path: l.path,
-            name: units_of(part, name),
-        },
-    };
-    Ok(after)
-}
-
 // The orders that ask.
 fn ask<W: Write>(
     to: &mut W,
@@ -100,127 +60,118 @@ fn ask<W: Write>(
     map: &mut [u8],
     out: &mut [u8],
     kind: u8,
+    n: usize,
 ) -> io::Result<()> {
     match kind {
         5 => {
+            let end = n.min(map.len());
+            let map = &mut map[..end];
             test_frames::say::line(to, test_frames::hive_line(hive, map))?;
-            say::sum(to, b"map ", map)
+            say::sum(to, "map", map)
         }
         6 => test_frames::say::line(to, test_frames::key_line(hive, path)),
         7 => say::found(to, lookup::value_info(hive, path, name)),
         8 => {
             say::found(to, lookup::view_info(hive, path, name))?;
-            say::sum(to, b"view ", lookup::value_view(hive, path, name))
+            say::sum(to, "view", lookup::value_view(hive, path, name))
         }
         _ => {
+            let end = n.min(out.len());
+            let out = &mut out[..end];
             say::copied(to, lookup::value_copy(hive, path, name, out))?;
-            say::sum(to, b"output ", out)
+            say::sum(to, "output", out)
         }
     }
 }
 
-fn obey<H: Files, R: Read, W: Write>(
-    rt: &H,
-    from: &mut R,
-    to: &mut W,
-    hive: &mut [u8],
-    path: &mut [u16],
-    name: &mut [u16],
-    map: &mut [u8],
-    out: &mut [u8],
-    room: &mut [u8],
-    l: Lengths,
-    kind: u8,
-    n: usize,
-) -> io::Result<Went> {
-    if kind < 5 {
-        if !test_frames::payload(from, room, n)? {
-            return Ok(Went::Ended);
-        }
-        let end = test_frames::least(n, room.len());
-        let after = take_in(rt, to, hive, path, name, &room[0..end], l, kind)?;
-        return Ok(Went::On(after));
-    }
-    let hive_end = test_frames::least(l.hive, hive.len());
-    let path_end = test_frames::least(l.path, path.len());
-    let name_end = test_frames::least(l.name, name.len());
-    let map_end = test_frames::least(n, map.len());
-    let out_end = test_frames::least(n, out.len());
-    ask(
-        to,
-        &hive[0..hive_end],
-        &path[0..path_end],
-        &name[0..name_end],
-        &mut map[0..map_end],
-        &mut out[0..out_end],
-        kind,
-    )?;
-    Ok(Went::On(l))
-}
-
-fn turn<H: Files, R: Read, W: Write>(
-    rt: &H,
-    from: &mut R,
-    to: &mut W,
-    hive: &mut [u8; 2097152],
-    path: &mut [u16; 4096],
-    name: &mut [u16; 4096],
-    map: &mut [u8; 32768],
-    out: &mut [u8; 1048640],
-    l: Lengths,
-) -> io::Result<Went> {
-    let mut head = [0u8; 5];
-    let mut room = [0u8; 8192];
-    let got = read_full(from, &mut head)?;
-    if got < 5 {
-        return Ok(Went::Ended);
-    }
-    let n = fields::u32_at(&head, 1) as usize;
-    obey(
-        rt, from, to, hive, path, name, map, out, &mut room, l, head[0], n,
-    )
-}
-
-// Nothing says that the input ends, so the turns are counted down from a number that no run uses up.
-fn run<H: Files, R: Read, W: Write>(
-    rt: &H,
-    from: &mut R,
-    to: &mut W,
-    hive: &mut [u8; 2097152],
-    path: &mut [u16; 4096],
-    name: &mut [u16; 4096],
-    map: &mut [u8; 32768],
-    out: &mut [u8; 1048640],
-) -> io::Result<()> {
-    let mut l = Lengths {
-        hive: 0,
-        path: 0,
-        name: 0,
-    };
-    let mut left = u64::MAX;
-    while 0 < left {
-        match turn(rt, from, to, hive, path, name, map, out, l)? {
-            Went::Ended => {
-                return Ok(());
+impl Desk {
+    // The orders that bytes follow.
+    fn take_in<H: Files, W: Write>(
+        &mut self,
+        rt: &H,
+        to: &mut W,
+        part: &[u8],
+        kind: u8,
+    ) -> io::Result<()> {
+        match kind {
+            0 => to.write_all(part)?,
+            1 => {
+                self.hive_len = open(rt, part, &mut self.hive)?;
+                self.path_len = 0;
+                self.name_len = 0;
             }
-            Went::On(m) => {
-                l = m;
+            2 => test_lines::put(&mut self.hive, part),
+            3 => self.path_len = units_of(part, &mut self.path),
+            _ => self.name_len = units_of(part, &mut self.name),
+        }
+        Ok(())
+    }
+
+    // An order, or whether the input was cut.
+    fn obey<H: Files, R: Read, W: Write>(
+        &mut self,
+        rt: &H,
+        from: &mut R,
+        to: &mut W,
+        kind: u8,
+        n: usize,
+    ) -> io::Result<bool> {
+        if kind < 5 {
+            let mut room = [0u8; 8192];
+            if !test_frames::payload(from, &mut room, n)? {
+                return Ok(false);
+            }
+            let end = n.min(room.len());
+            self.take_in(rt, to, &room[..end], kind)?;
+            return Ok(true);
+        }
+        let hive_end = self.hive_len.min(self.hive.len());
+        let path_end = self.path_len.min(self.path.len());
+        let name_end = self.name_len.min(self.name.len());
+        ask(
+            to,
+            &self.hive[..hive_end],
+            &self.path[..path_end],
+            &self.name[..name_end],
+            &mut self.map,
+            &mut self.out,
+            kind,
+            n,
+        )?;
+        Ok(true)
+    }
+
+    // Obeys until the input ends. Nothing says that it does, so the turns are counted down from a number that no run uses up.
+    fn run<H: Files, R: Read, W: Write>(
+        &mut self,
+        rt: &H,
+        from: &mut R,
+        to: &mut W,
+    ) -> io::Result<()> {
+        for _ in 0..u64::MAX {
+            let mut head = [0u8; 5];
+            if read_full(from, &mut head)? < 5 {
+                break;
+            }
+            let n = fields::u32_at(&head, 1) as usize;
+            if !self.obey(rt, from, to, head[0], n)? {
+                break;
             }
         }
-        left -= 1;
+        Ok(())
     }
-    Ok(())
 }
 
 fn main(rt: HostRuntime) -> io::Result<()> {
-    let mut hive = [0u8; 2097152];
-    let mut path = [0u16; 4096];
-    let mut name = [0u16; 4096];
-    let mut map = [0u8; 32768];
-    let mut out = [0u8; 1048640];
-    let mut from = rt.reader();
-    let mut to = io::writer(&rt);
-    run(
-        &rt, &mut from, &mut to, &mut hive, &mut path, &mut name, &mut map, &mut out,
-    )
+    let mut desk = Desk {
+        hive: [0; 2097152],
+        path: [0; 4096],
+        name: [0; 4096],
+        map: [0; 32768],
+        out: [0; 1048640],
+        hive_len: 0,
+        path_len: 0,
+        name_len: 0,
+    };
+    desk.run(&rt, &mut rt.reader(), &mut io::writer(&rt))
 }

@@ -1,46 +1,39 @@
 // What is written of each answer.
-use lookup::{Copied, Info, ValueFound};
+use fields::Refusal;
+use lookup::Info;
 use std::io;
 use std::io::Write;
-use test_frames::Line;
-use test_lines::number;
+use test_lines::refused;
 use values::ValueData;
 
 // The bytes as one number: the hash of a name of that many one-byte characters.
-pub fn sum<W: Write>(to: &mut W, before: &[u8], s: &[u8]) -> io::Result<()> {
-    to.write_all(before)?;
-    number(to, b"of ", s.len() as u64)?;
-    number(to, b" sum ", names::hash(s, true) as u64)?;
-    to.write_all(b"\n")
+pub fn sum<W: Write>(to: &mut W, what: &str, s: &[u8]) -> io::Result<()> {
+    writeln!(to, "{what} of {} sum {}", s.len(), names::hash(s, true))
 }
 
 fn info<W: Write>(to: &mut W, i: Info) -> io::Result<()> {
-    let content = i.content;
-    match content {
-        ValueData::Inline { cell: _, len: _ } => to.write_all(b"inline")?,
-        ValueData::OneCell { cell: _, len: _ } => to.write_all(b"cell")?,
-        ValueData::Segments { cell: _, len: _ } => to.write_all(b"segments")?,
+    let form = match i.content {
+        ValueData::Inline { .. } => "inline",
+        ValueData::OneCell { .. } => "cell",
+        ValueData::Segments { .. } => "segments",
     };
-    let at = i.at;
-    number(to, b" type ", i.kind as u64)?;
-    number(to, b" place ", at.0 as u64)?;
-    number(to, b" length ", i.len as u64)?;
-    to.write_all(b"\n")
+    writeln!(
+        to,
+        "{form} type {} place {} length {}",
+        i.kind, i.at.0, i.len
+    )
 }
 
-pub fn found<W: Write>(to: &mut W, v: ValueFound) -> io::Result<()> {
+pub fn found<W: Write>(to: &mut W, v: Result<Info, Refusal>) -> io::Result<()> {
     match v {
-        ValueFound::At(i) => info(to, i),
-        ValueFound::Refused(r) => test_frames::say::line(to, Line::Refused(r)),
+        Ok(i) => info(to, i),
+        Err(r) => refused(to, r),
     }
 }
 
-pub fn copied<W: Write>(to: &mut W, c: Copied) -> io::Result<()> {
+pub fn copied<W: Write>(to: &mut W, c: Result<usize, Refusal>) -> io::Result<()> {
     match c {
-        Copied::Done(n) => {
-            number(to, b"copied ", n as u64)?;
-            to.write_all(b"\n")
-        }
-        Copied::Refused(r) => test_frames::say::line(to, Line::Refused(r)),
+        Ok(n) => writeln!(to, "copied {n}"),
+        Err(r) => refused(to, r),
     }
 }

@@ -9,7 +9,6 @@ use lib.Dec.{lit<}
 use lib.ListN.{length, take, drop, length-append}
 use lib.Seq.{take_at, drop_at, take_all}
 use borrow.Author.Tests.{eq-eqb}
-use Rattle.fields.specs.declared.Verdict.TheVariants.{Sound}
 use Rattle.fields.specs.Number.{u16_at, u32_at, le16, le32, le64}
 use Rattle.fields.proofs.Little.{length-le32, length-le64, u32-le}
 use Rattle.fields.proofs.Written.{stands-there}
@@ -23,6 +22,7 @@ use Rattle.forest.specs.Forest.{Forest}
 use Rattle.layout.specs.Layout.{cell_size, zeros, cells_of, nothing, item_at, used_of, bins_for, item_record, bin_header, block_front, base_block, bins_of, built_hive}
 use Rattle.layout.proofs.Bytes.{Small, small-cons, small-zeros, small_word, small-long}
 use Rattle.layout.proofs.Sizes.{zeros-length, cell-length, row-length, cells-size, item-length, bins-whole, left-eights, free-length}
+use Rattle.std.specs.Prelude.{Ok}
 
 -- ---- lengths
 
@@ -187,5 +187,5 @@ module _ (f : Forest) (sd : List ℕ) where
         ∙ ap (take (bins_for f (length sd))) (drop_at (base_block f (length sd)) (bins_of f sd) 4096 (block-length f (length sd)))
         ∙ (let e = bins-length f sd in take_all (bins_for f (length sd)) (bins_of f sd) (omega arith))
 
-    pub built-base : base_fault (built_hive f sd) ≡ Sound
+    pub built-base : base_fault (built_hive f sd) ≡ Ok tt
     built-base = let e = built-inside in facts-base (built_hive f sd) built-clean (omega arith)

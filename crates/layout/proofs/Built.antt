@@ -11,7 +11,6 @@ use Rattle.fields.specs.Bytes.{stands_at}
 use Rattle.fields.proofs.Little.{u32-le}
 use Rattle.fields.proofs.Written.{stands-there}
 use Rattle.base.specs.Block.{bins_limit}
-use Rattle.cells.specs.declared.Surveyed.TheVariants.{Tiled}
 use Rattle.cells.specs.Tiling.{layout, survey_of}
 use Rattle.cells.specs.Named.{data_at}
 use Rattle.cells.specs.Tiled.{Header, CellsTile, BinsTile, InCells, InUse}
@@ -22,6 +21,7 @@ use Rattle.layout.proofs.Sizes.{row-length, row-append, bytes-append, cells-size
 use Rattle.layout.proofs.Base.{header-length, bins-length}
 use Rattle.layout.proofs.Rows.{row_counts, row-there, free-counts}
 use Rattle.layout.proofs.Splits.{Split, Part, split-here, split-left, split-right, part-all, part_left}
+use Rattle.std.specs.Prelude.{Ok}
 
 -- all cells in use: those of the forest, and the security item
 abbrev pub row_of : Forest → List ℕ → List (List ℕ)
@@ -115,7 +115,7 @@ module _ (f : Forest) (sd : List ℕ) where
     bins-tile = (one-bin (bins_of f sd) header counts).0
 
     pub bins-survey : survey_of (layout (bins_of f sd) 0) 0 0 0
-        ≡ Tiled (record { bins = 1; used = used_of f (length sd) - 32; free = bins_for f (length sd) - used_of f (length sd) })
+        ≡ Ok (record { bins = 1; used = used_of f (length sd) - 32; free = bins_for f (length sd) - used_of f (length sd) })
     bins-survey = (one-bin (bins_of f sd) header counts).1
 
     -- every cell of the row stands where those before it end

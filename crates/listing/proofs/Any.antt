@@ -11,9 +11,7 @@ use borrow.Author.Tests.{eqb-false, leb-false}
 use Rattle.fields.specs.declared.Flaw.{Flaw}
 use Rattle.fields.specs.declared.Offset.{Offset}
 use Rattle.fields.specs.declared.Refusal.{Refusal}
-use Rattle.fields.specs.declared.Verdict.{Verdict}
-use Rattle.fields.specs.declared.Verdict.TheVariants.{Sound, Flawed}
-use Rattle.fields.specs.Faults.{nowhere, no_key, refusal_of, Because, Keyless, ◌next◌}
+use Rattle.fields.specs.Faults.{nowhere, no_key, refusal_of, Because, Keyless, ◌next◌, Verdict}
 use Rattle.fields.proofs.Every.{Every, every-next}
 use Rattle.fields.proofs.Firsts.{both}
 use Rattle.base.specs.Block.{sector, minor_of, bins_data, base_fault}
@@ -34,51 +32,45 @@ use Rattle.values.specs.Refused.{a_key, Fit, one_of, Lists, its-list, its-leaf, 
 use Rattle.values.proofs.LawsValues.{name-inside}
 use Rattle.values.proofs.Refusals.{key-fit, key-unfit, list-fit, list-unfit, leaf-unfit, value-fit, value-unfit, value-list-unfit, value-named, data-unfit}
 use Rattle.records.proofs.Elements.{at_in}
-use Rattle.search.specs.declared.Look.{Look}
-use Rattle.search.specs.declared.Look.TheVariants.{Found, Missing, Flawed as Faulty}
 use Rattle.search.specs.Search.{on_sound}
 use Rattle.search.proofs.Found.{sound-found}
 use Rattle.search.proofs.Refusals.{Each, each-found, each-missing, each-cond, each-sound, in-children}
-use Rattle.lookup.specs.declared.Copied.TheVariants as copied
-use Rattle.lookup.specs.declared.ValueFound.TheVariants as value
 use Rattle.lookup.specs.Answers.{info_of, info_where}
 use Rattle.lookup.proofs.Refusals.{copied-refuses}
 use Rattle.lookup.proofs.Answered.{refused-stays}
 use Rattle.listing.specs.declared.Entry.{Entry}
 use Rattle.listing.specs.declared.Facts.{Facts}
-use Rattle.listing.specs.declared.KeyFacts.TheVariants as facts
-use Rattle.listing.specs.declared.Member.{Member}
-use Rattle.listing.specs.declared.Member.TheVariants.{At, Refused}
 use Rattle.listing.specs.Members.{entry_of, member_where, member_of, in_hive, nth_in, nth_below, subkey_below, subkey_in, subkey_answer, nth_of, value_below, value_in, value_answer, info_at, copy_at, out_at, facts_of, facts_where, facts_answer}
 use Rattle.listing.specs.Refused.{of-base, of-record, of-named, OfSubkey, OfNth, OfInfo, OfCopied, as-info, too_short, OfFacts}
+use Rattle.std.specs.Prelude.{Err, None, Ok, Option, Result, Some}
 
 -- ---- a name that is answered lies in the hive, so a host may read it there
 
 -- what is answered At an entry
-where-at : (k : Offset) (v : Verdict) (x : Entry) {e : Entry} → member_where k v x ≡ At e → (v ≡ Sound) × (x ≡ e)
-where-at k Sound x p = (refl, cc)
-where-at k (Flawed f) x p = absurd (let z : ◌≡◌ {A = ℕ} 0 1 = cc in omega arith)
+where-at : (k : Offset) (v : Verdict) (x : Entry) {e : Entry} → member_where k v x ≡ Ok (Some e) → (v ≡ Ok tt) × (x ≡ e)
+where-at k (Ok tt) x p = (refl, cc)
+where-at k (Err f) x p = absurd (let z : ◌≡◌ {A = ℕ} 0 1 = cc in omega arith)
 
-member-at : (k : Offset) (l : Look) (go : Offset → Member) {e : Entry} → member_of k l go ≡ At e → (o : Offset) × (go o ≡ At e)
-member-at k (Found o) go p = (o, p)
-member-at k Missing go p = absurd (let z : ◌≡◌ {A = ℕ} 0 1 = cc in omega arith)
-member-at k (Faulty f) go p = absurd (let z : ◌≡◌ {A = ℕ} 0 1 = cc in omega arith)
+member-at : (k : Offset) (l : Result (Option Offset) Flaw) (go : Offset → Result (Option Entry) Refusal) {e : Entry} → member_of k l go ≡ Ok (Some e) → (o : Offset) × (go o ≡ Ok (Some e))
+member-at k (Ok (Some o)) go p = (o, p)
+member-at k (Ok None) go p = absurd (let z : ◌≡◌ {A = ℕ} 0 1 = cc in omega arith)
+member-at k (Err f) go p = absurd (let z : ◌≡◌ {A = ℕ} 0 1 = cc in omega arith)
 
-hive-at : (v : Verdict) (a : Member) {e : Entry} → in_hive v a ≡ At e → (v ≡ Sound) × (a ≡ At e)
-hive-at Sound a p = (refl, p)
-hive-at (Flawed f) a p = absurd (let z : ◌≡◌ {A = ℕ} 0 1 = cc in omega arith)
+hive-at : (v : Verdict) (a : Result (Option Entry) Refusal) {e : Entry} → in_hive v a ≡ Ok (Some e) → (v ≡ Ok tt) × (a ≡ Ok (Some e))
+hive-at (Ok tt) a p = (refl, p)
+hive-at (Err f) a p = absurd (let z : ◌≡◌ {A = ℕ} 0 1 = cc in omega arith)
 
 module _ (h : List ℕ) where
-  name-lies : base_fault h ≡ Sound → (o : Offset) (n : Name) (e : Entry) → NameIn (bins_data h) n → entry_of o n ≡ e → e.name.0 + e.len ≤ length h
+  name-lies : base_fault h ≡ Ok tt → (o : Offset) (n : Name) (e : Entry) → NameIn (bins_data h) n → entry_of o n ≡ e → e.name.0 + e.len ≤ length h
   unfolding entry_of
   name-lies b o n e p q = rw (← q) (place-room n.cell n.at n.len h b p.ends)
 
   -- a key by its offset
-  facts_at : (v : Verdict) (x : Facts) {k : Facts} → facts_where v x ≡ facts.At k → (v ≡ Sound) × (x ≡ k)
-  facts_at Sound x p = (refl, cc)
-  facts_at (Flawed f) x p = absurd (let z : ◌≡◌ {A = ℕ} 0 1 = cc in omega arith)
+  facts_at : (v : Verdict) (x : Facts) {k : Facts} → facts_where v x ≡ Ok k → (v ≡ Ok tt) × (x ≡ k)
+  facts_at (Ok tt) x p = (refl, cc)
+  facts_at (Err f) x p = absurd (let z : ◌≡◌ {A = ℕ} 0 1 = cc in omega arith)
 
-  pub facts-name : (o : Offset) {k : Facts} → facts_answer h o ≡ facts.At k → k.entry.name.0 + k.entry.len ≤ length h
+  pub facts-name : (o : Offset) {k : Facts} → facts_answer h o ≡ Ok k → k.entry.name.0 + k.entry.len ≤ length h
   unfolding facts_answer facts_of
   facts-name o {k} p =
       let w = facts_at (base_fault h next key_fault Header (bins_data h) [] o) _ p in
@@ -86,7 +78,7 @@ module _ (h : List ℕ) where
       name-lies b.0 o (key_of (bins_data h) o).name k.entry (name-room Header (bins_data h) [] o b.1) (ap (λ (x : Facts). x.entry) w.1)
 
   module _ (o : Offset) (n : ℕ) {e : Entry} where
-    pub subkey-name : subkey_answer h o n ≡ At e → e.name.0 + e.len ≤ length h
+    pub subkey-name : subkey_answer h o n ≡ Ok (Some e) → e.name.0 + e.len ≤ length h
     unfolding subkey_answer subkey_in subkey_below
     subkey-name p =
         let b = hive-at (base_fault h) _ p in
@@ -95,7 +87,7 @@ module _ (h : List ℕ) where
         let w = where-at o (key_fault Header (bins_data h) [] m.0) _ m.1 in
         name-lies b.0 m.0 (key_of (bins_data h) m.0).name e (name-room Header (bins_data h) [] m.0 w.0) w.1
 
-    pub value-name : value_answer h o n ≡ At e → e.name.0 + e.len ≤ length h
+    pub value-name : value_answer h o n ≡ Ok (Some e) → e.name.0 + e.len ≤ length h
     unfolding value_answer value_in value_below
     value-name p =
         let minor = minor_of (sector h) in
@@ -108,7 +100,7 @@ module _ (h : List ℕ) where
 -- ---- refusals
 
 -- member n of some leaves is one of their keys
-nth_in_lem : (d : List ℕ) (ls : List Offset) (n : ℕ) {o : Offset} → nth_in d ls n ≡ Found o → (c : Child) × Memᴰ c (children_in d ls) × (o ≡ c.at)
+nth_in_lem : (d : List ℕ) (ls : List Offset) (n : ℕ) {o : Offset} → nth_in d ls n ≡ Ok (Some o) → (c : Child) × Memᴰ c (children_in d ls) × (o ≡ c.at)
 unfolding nth_in children_in
 nth_in_lem d [] n e = absurd (let z : ◌≡◌ {A = ℕ} 0 1 = cc in omega arith)
 nth_in_lem d (l ∷ ls) n {o} e =
@@ -117,8 +109,8 @@ nth_in_lem d (l ∷ ls) n {o} e =
     cs : List Child
     cs = leaf_children (data_at d l)
 
-    by : (nth_in d ls (n - length cs) ≡ Found o → (c : Child) × Memᴰ c (children_in d ls) × (o ≡ c.at)) → (t : Bool) → leb (length cs) n ≡ t
-        → cond t (nth_in d ls (n - length cs)) (Found (get_or cs n no_child).at) ≡ Found o → (c : Child) × Memᴰ c (cs ++ children_in d ls) × (o ≡ c.at)
+    by : (nth_in d ls (n - length cs) ≡ Ok (Some o) → (c : Child) × Memᴰ c (children_in d ls) × (o ≡ c.at)) → (t : Bool) → leb (length cs) n ≡ t
+        → cond t (nth_in d ls (n - length cs)) (Ok (Some (get_or cs n no_child).at)) ≡ Ok (Some o) → (c : Child) × Memᴰ c (cs ++ children_in d ls) × (o ≡ c.at)
     by rest true p q = let r = rest q in (r.0, Memᴰ.append_right cs r.1, r.2)
     by rest false p q =
         (get_or cs n no_child, Memᴰ.append_left (children_in d ls) (at_in cs n no_child (leb-false _ _ p)), let z : (get_or cs n no_child).at ≡ o = cc in sym z)
@@ -128,13 +120,13 @@ module _ (h : List ℕ) (k : Offset) where
   ruled = by-header (bins_data h) []
 
   -- a subkey that is found is listed
-  child-found : (n : ℕ) {o : Offset} → nth_below (bins_data h) (key_of (bins_data h) k) n ≡ Found o
+  child-found : (n : ℕ) {o : Offset} → nth_below (bins_data h) (key_of (bins_data h) k) n ≡ Ok (Some o)
       → (c : Child) × Memᴰ c (children (bins_data h) k) × (o ≡ c.at)
   unfolding nth_below
   child-found n {o} e = by (eqb (key_of (bins_data h) k).subkeys 0) refl e
     where
       by : (t : Bool) → eqb (key_of (bins_data h) k).subkeys 0 ≡ t
-          → cond t Missing (on_sound (head_fault Header (bins_data h) [] (key_of (bins_data h) k).list) (nth_in (bins_data h) (leaves_of (bins_data h) (key_of (bins_data h) k).list) n)) ≡ Found o
+          → cond t (Ok None) (on_sound (head_fault Header (bins_data h) [] (key_of (bins_data h) k).list) (nth_in (bins_data h) (leaves_of (bins_data h) (key_of (bins_data h) k).list) n)) ≡ Ok (Some o)
           → (c : Child) × Memᴰ c (children (bins_data h) k) × (o ≡ c.at)
       by true z q = absurd (let y : ◌≡◌ {A = ℕ} 0 1 = cc in omega arith)
       by false z q =
@@ -159,14 +151,14 @@ module _ (h : List ℕ) (k : Offset) where
       let d = bins_data h in
       let P = OfSubkey h k k in
       let o = (key_of d k).list in
-      each-cond P (eqb (key_of d k).subkeys 0) Missing _ (λ z. each-missing P)
+      each-cond P (eqb (key_of d k).subkeys 0) (Ok None) _ (λ z. each-missing P)
       (λ z. each-sound P (head_fault Header d [] o) _ (λ f e. of-named g (one_of (its-list (eqb-false _ _ z)) (list-unfit Header d [] ruled o f e)))
       (λ t. nth-each P (leaves_of d o)
       (λ l i f e. of-named g (one_of (its-leaf (eqb-false _ _ z) (list-fit Header d [] ruled o t) i) (leaf-unfit Header d [] ruled l f e))) n))
 
   -- the same of its values
-  value_found : (n : ℕ) {v : Offset} → nth_of (bins_data h) (key_of (bins_data h) k) n ≡ Found v
-      → (value_list_fault Header (bins_data h) [] (key_of (bins_data h) k) ≡ Sound) × Memᴰ v (values_of (bins_data h) (key_of (bins_data h) k))
+  value_found : (n : ℕ) {v : Offset} → nth_of (bins_data h) (key_of (bins_data h) k) n ≡ Ok (Some v)
+      → (value_list_fault Header (bins_data h) [] (key_of (bins_data h) k) ≡ Ok tt) × Memᴰ v (values_of (bins_data h) (key_of (bins_data h) k))
   unfolding nth_of
   value_found n {v} e =
       let t = sound-found (value_list_fault Header (bins_data h) [] (key_of (bins_data h) k)) _ e in
@@ -175,7 +167,7 @@ module _ (h : List ℕ) (k : Offset) where
       vs : List Offset
       vs = values_of (bins_data h) (key_of (bins_data h) k)
 
-      by : (t : Bool) → leb (length vs) n ≡ t → cond t Missing (Found (get_or vs n nowhere)) ≡ Found v → Memᴰ v vs
+      by : (t : Bool) → leb (length vs) n ≡ t → cond {A = Result (Option Offset) Flaw} t (Ok None) (Ok (Some (get_or vs n nowhere))) ≡ Ok (Some v) → Memᴰ v vs
       by true p q = absurd (let z : ◌≡◌ {A = ℕ} 0 1 = cc in omega arith)
       by false p q = let z : get_or vs n nowhere ≡ v = cc in subst (λ (o : Offset). Memᴰ o vs) z (at_in vs n nowhere (leb-false _ _ p))
 
@@ -186,27 +178,27 @@ module _ (h : List ℕ) (k : Offset) where
       let P = OfNth h k k in
       let vs = values_of d (key_of d k) in
       each-sound P (value_list_fault Header d [] (key_of d k)) _ (λ f e. of-named g (value-list-unfit Header d [] ruled k f e))
-      (λ t. each-cond P (leb (length vs) n) Missing _ (λ z. each-missing P) (λ z. each-found P (get_or vs n nowhere)))
+      (λ t. each-cond P (leb (length vs) n) (Ok None) _ (λ z. each-missing P) (λ z. each-found P (get_or vs n nowhere)))
 
 -- from the tests to the answers
-where-refuses : (P : Offset → Flaw → Type 0) (k : Offset) (v : Verdict) (x : Entry) → Every (P k) v → (r : Refusal) → member_where k v x ≡ Refused r → Because P r
-where-refuses P k Sound x p r q = absurd (let z : ◌≡◌ {A = ℕ} 0 1 = cc in omega arith)
-where-refuses P k (Flawed g) x p r q = (k, g, let z : refusal_of k g ≡ r = cc in sym z, p g refl)
+where-refuses : (P : Offset → Flaw → Type 0) (k : Offset) (v : Verdict) (x : Entry) → Every (P k) v → (r : Refusal) → member_where k v x ≡ Err r → Because P r
+where-refuses P k (Ok tt) x p r q = absurd (let z : ◌≡◌ {A = ℕ} 0 1 = cc in omega arith)
+where-refuses P k (Err g) x p r q = (k, g, let z : refusal_of k g ≡ r = cc in sym z, p g refl)
 
-member-refuses : (P : Offset → Flaw → Type 0) (k : Offset) (l : Look) (go : Offset → Member) → Each (P k) l
-    → ((o : Offset) → l ≡ Found o → (r : Refusal) → go o ≡ Refused r → Because P r) → (r : Refusal) → member_of k l go ≡ Refused r → Because P r
-member-refuses P k (Found o) go p s r q = s o refl r q
-member-refuses P k Missing go p s r q = absurd (let z : ◌≡◌ {A = ℕ} 0 1 = cc in omega arith)
-member-refuses P k (Faulty g) go p s r q = (k, g, let z : refusal_of k g ≡ r = cc in sym z, p g refl)
+member-refuses : (P : Offset → Flaw → Type 0) (k : Offset) (l : Result (Option Offset) Flaw) (go : Offset → Result (Option Entry) Refusal) → Each (P k) l
+    → ((o : Offset) → l ≡ Ok (Some o) → (r : Refusal) → go o ≡ Err r → Because P r) → (r : Refusal) → member_of k l go ≡ Err r → Because P r
+member-refuses P k (Ok (Some o)) go p s r q = s o refl r q
+member-refuses P k (Ok None) go p s r q = absurd (let z : ◌≡◌ {A = ℕ} 0 1 = cc in omega arith)
+member-refuses P k (Err g) go p s r q = (k, g, let z : refusal_of k g ≡ r = cc in sym z, p g refl)
 
-hive-refuses : (P : Offset → Flaw → Type 0) (v : Verdict) (a : Member) → Every (P no_key) v → (r : Refusal) → (v ≡ Sound → a ≡ Refused r → Because P r)
-    → in_hive v a ≡ Refused r → Because P r
-hive-refuses P Sound a p r s q = s refl q
-hive-refuses P (Flawed g) a p r s q = (no_key, g, let z : refusal_of no_key g ≡ r = cc in sym z, p g refl)
+hive-refuses : (P : Offset → Flaw → Type 0) (v : Verdict) (a : Result (Option Entry) Refusal) → Every (P no_key) v → (r : Refusal) → (v ≡ Ok tt → a ≡ Err r → Because P r)
+    → in_hive v a ≡ Err r → Because P r
+hive-refuses P (Ok tt) a p r s q = s refl q
+hive-refuses P (Err g) a p r s q = (no_key, g, let z : refusal_of no_key g ≡ r = cc in sym z, p g refl)
 
 module _ (h : List ℕ) (o : Offset) where
   module _ (n : ℕ) {r : Refusal} where
-    pub subkey-refuses : subkey_answer h o n ≡ Refused r → Because (OfSubkey h o) r
+    pub subkey-refuses : subkey_answer h o n ≡ Err r → Because (OfSubkey h o) r
     unfolding subkey_answer subkey_in subkey_below
     subkey-refuses =
         let P = OfSubkey h o in
@@ -220,7 +212,7 @@ module _ (h : List ℕ) (o : Offset) where
         (λ f q. of-named g
         (one_of (subst (λ (y : Offset). Lists Header d o a_key y) (sym x.2) (its-child x.1)) (key-unfit Header d [] (ruled h o) c f q)))) r))
 
-    pub value-refuses : value_answer h o n ≡ Refused r → Because (OfNth h o) r
+    pub value-refuses : value_answer h o n ≡ Err r → Because (OfNth h o) r
     unfolding value_answer value_in value_below
     value-refuses =
         let P = OfNth h o in
@@ -234,12 +226,12 @@ module _ (h : List ℕ) (o : Offset) where
         (λ f q. of-named g
         (one_of (value-named Header d [] (ruled h o) o v x.0 x.1) (value-unfit Header d [] (ruled h o) v f q)))) r))
 
-  info-of : (v : Verdict) {r : Refusal} → Every (OfInfo h o) v → info_where no_key v (info_of (value_of (bins_data h) (minor_of (sector h)) o)) ≡ value.Refused r
+  info-of : (v : Verdict) {r : Refusal} → Every (OfInfo h o) v → info_where no_key v (info_of (value_of (bins_data h) (minor_of (sector h)) o)) ≡ Err r
       → Keyless (OfInfo h o) r
-  info-of Sound p q = absurd (let z : ◌≡◌ {A = ℕ} 0 1 = cc in omega arith)
-  info-of (Flawed g) {r} p q = (g, let z : refusal_of no_key g ≡ r = cc in sym z, p g refl)
+  info-of (Ok tt) p q = absurd (let z : ◌≡◌ {A = ℕ} 0 1 = cc in omega arith)
+  info-of (Err g) {r} p q = (g, let z : refusal_of no_key g ≡ r = cc in sym z, p g refl)
 
-  pub info-refuses : {r : Refusal} → info_at h o ≡ value.Refused r → Keyless (OfInfo h o) r
+  pub info-refuses : {r : Refusal} → info_at h o ≡ Err r → Keyless (OfInfo h o) r
   unfolding info_at whole_value_fault
   info-refuses =
       let d = bins_data h in
@@ -249,22 +241,22 @@ module _ (h : List ℕ) (o : Offset) where
       (λ a. every-next (OfInfo h o) (value_fault Header d [] o) _ (λ f e. of-record (value-unfit Header d [] (ruled h o) o f e))
       (λ b f e. of-named (value-fit Header d [] (ruled h o) o b) (data-unfit Header d [] (ruled h o) x f e))))
 
-  pub copy-refuses : (n : ℕ) {r : Refusal} → copy_at h o n ≡ copied.Refused r → Keyless (OfCopied h o n) r
+  pub copy-refuses : (n : ℕ) {r : Refusal} → copy_at h o n ≡ Err r → Keyless (OfCopied h o n) r
   unfolding copy_at
   copy-refuses n e =
       let w = copied-refuses (λ k f. (k ≡ no_key) × OfCopied h o n f) no_key n (info_at h o)
       (λ g p. let w = info-refuses p in (no_key, w.0, w.1, (refl, as-info w.2))) (λ i p s. (refl, too_short p s)) e in
       (w.1, w.2 ∙ ap (λ (k : Offset). refusal_of k w.1) w.3.0, w.3.1)
 
-  pub copy-stays : (out : List ℕ) {f : Refusal} → copy_at h o (length out) ≡ copied.Refused f → out_at h o out ≡ out
+  pub copy-stays : (out : List ℕ) {f : Refusal} → copy_at h o (length out) ≡ Err f → out_at h o out ≡ out
   unfolding copy_at out_at
   copy-stays out = refused-stays no_key (bins_data h) out (info_at h o)
 
-  facts-of : (v : Verdict) {r : Refusal} → Every (OfFacts h o) v → facts_where v (facts_of (bins_data h) o) ≡ facts.Refused r → Keyless (OfFacts h o) r
-  facts-of Sound p q = absurd (let z : ◌≡◌ {A = ℕ} 0 1 = cc in omega arith)
-  facts-of (Flawed g) {r} p q = (g, let z : refusal_of no_key g ≡ r = cc in sym z, p g refl)
+  facts-of : (v : Verdict) {r : Refusal} → Every (OfFacts h o) v → facts_where v (facts_of (bins_data h) o) ≡ Err r → Keyless (OfFacts h o) r
+  facts-of (Ok tt) p q = absurd (let z : ◌≡◌ {A = ℕ} 0 1 = cc in omega arith)
+  facts-of (Err g) {r} p q = (g, let z : refusal_of no_key g ≡ r = cc in sym z, p g refl)
 
-  pub facts-refuses : {r : Refusal} → facts_answer h o ≡ facts.Refused r → Keyless (OfFacts h o) r
+  pub facts-refuses : {r : Refusal} → facts_answer h o ≡ Err r → Keyless (OfFacts h o) r
   unfolding facts_answer
   facts-refuses =
       facts-of (base_fault h next key_fault Header (bins_data h) [] o)

@@ -8,49 +8,44 @@ use borrow.Author.Tests.{eq-eqb, ne_eqb}
 use Rattle.fields.specs.declared.Flaw.{Flaw}
 use Rattle.fields.specs.declared.Offset.{Offset}
 use Rattle.fields.specs.declared.Place.{Place}
-use Rattle.fields.specs.declared.Verdict.{Verdict}
-use Rattle.fields.specs.declared.Verdict.TheVariants.{Sound, Flawed}
 use Rattle.fields.specs.Number.{u16_at, u32_at}
-use Rattle.fields.specs.Faults.{no_key, refusal_of}
+use Rattle.fields.specs.Faults.{no_key, refusal_of, Verdict}
 use Rattle.fields.proofs.Firsts.{on, stop, both}
 use Rattle.base.specs.Block.{bins_data, base_fault}
 use Rattle.cells.specs.declared.Rule.TheVariants.{Header}
 use Rattle.cells.specs.Named.{data_at, part_in}
 use Rattle.cells.proofs.Parts.{part_length, u16-part}
 use Rattle.records.specs.declared.Key.{Key}
-use Rattle.records.specs.declared.Keyed.TheVariants as key
 use Rattle.records.specs.Keys.{key_fault, key_of, keyed}
 use Rattle.records.proofs.LawsKey.{key-room}
 use Rattle.records.proofs.LawsAnswer.{keyed-whole, keyed-flawed}
-use Rattle.security.specs.declared.Described.TheVariants as answer
 use Rattle.security.specs.declared.Item.{Item}
 use Rattle.security.specs.Items.{item_of}
 use Rattle.security.specs.Descriptor.{descriptor_fault, described, descriptor_place}
 use Rattle.security.proofs.Descriptor.{described-whole, described-flawed}
 use Rattle.values.specs.declared.ValueData.TheVariants.{OneCell}
 use Rattle.values.specs.Segments.{data_fault}
-use Rattle.listing.specs.declared.KeyClass.TheVariants as class
-use Rattle.listing.specs.declared.KeySecurity.TheVariants as security
 use Rattle.listing.specs.declared.Piece.{Piece}
 use Rattle.listing.specs.Pieces.{given_fault, class_cell, class_length, class_piece, class_where, class_below, class_after, class_answer, descriptor_piece, security_where, security_below, security_after, security_answer}
+use Rattle.std.specs.Prelude.{Err, None, Ok, Some}
 
 -- the given key
 module _ (d : List ℕ) (k : Offset) where
-  pub key-bad : {f : Flaw} → keyed (key_fault Header d [] k) (key_of d k) ≡ key.Flawed f → key_fault Header d [] k ≡ Flawed f
+  pub key-bad : {f : Flaw} → keyed (key_fault Header d [] k) (key_of d k) ≡ Err f → key_fault Header d [] k ≡ Err f
   key-bad e = keyed-flawed (key_fault Header d [] k) _ e
 
-  pub key-good : {x : Key} → keyed (key_fault Header d [] k) (key_of d k) ≡ key.Whole x → key_fault Header d [] k ≡ Sound
+  pub key-good : {x : Key} → keyed (key_fault Header d [] k) (key_of d k) ≡ Ok x → key_fault Header d [] k ≡ Ok tt
   key-good e = (keyed-whole (key_fault Header d [] k) _ e).0
 
 module _ (h : List ℕ) (k : Offset) where
-  pub given-base : {f : Flaw} → base_fault h ≡ Flawed f → given_fault h k ≡ Flawed f
+  pub given-base : {f : Flaw} → base_fault h ≡ Err f → given_fault h k ≡ Err f
   given-base e = stop _ _ e
 
-  pub given-key : base_fault h ≡ Sound → given_fault h k ≡ key_fault Header (bins_data h) [] k
+  pub given-key : base_fault h ≡ Ok tt → given_fault h k ≡ key_fault Header (bins_data h) [] k
   given-key e = on _ _ e
 
-  module _ (e : given_fault h k ≡ Sound) where
-    pub given-on : base_fault h ≡ Sound
+  module _ (e : given_fault h k ≡ Ok tt) where
+    pub given-on : base_fault h ≡ Ok tt
     given-on = (both (base_fault h) _ e).0
 
     pub given-room : 76 ≤ length (data_at (bins_data h) k)
@@ -67,14 +62,14 @@ module _ (d : List ℕ) (k : Offset) (r : 76 ≤ length (data_at d k)) where
 
 -- the class name of a key that was tested
 module _ (k : Offset) (v : Verdict) where
-  pub class-bad : {f : Flaw} → v ≡ Flawed f → (x : Piece) → class_where k v x ≡ class.Refused (refusal_of k f)
+  pub class-bad : {f : Flaw} → v ≡ Err f → (x : Piece) → class_where k v x ≡ Err (refusal_of k f)
   class-bad e x = rw e
 
-  pub class-good : v ≡ Sound → (x : Piece) → class_where k v x ≡ class.At x
+  pub class-good : v ≡ Ok tt → (x : Piece) → class_where k v x ≡ Ok (Some x)
   class-good e x = rw e
 
 module _ (d : List ℕ) (k : Offset) {n : ℕ} (l : n ≡ class_length d k) where
-  pub class-none : n ≡ 0 → class_below d k ≡ class.None
+  pub class-none : n ≡ 0 → class_below d k ≡ Ok None
   unfolding class_below
   class-none z = rw (← l, eq-eqb n 0 z)
 
@@ -86,26 +81,26 @@ module _ (d : List ℕ) (k : Offset) {n : ℕ} (l : n ≡ class_length d k) wher
 
 -- the descriptor of the item that it names
 module _ (d : List ℕ) (k o : Offset) where
-  pub security-bad : {f : Flaw} → described (descriptor_fault Header d [] o) (item_of d o) ≡ answer.Flawed f
-      → security_where k (descriptor_fault Header d [] o) (descriptor_piece d o) ≡ security.Refused (refusal_of k f)
+  pub security-bad : {f : Flaw} → described (descriptor_fault Header d [] o) (item_of d o) ≡ Err f
+      → security_where k (descriptor_fault Header d [] o) (descriptor_piece d o) ≡ Err (refusal_of k f)
   security-bad e = rw (described-flawed (descriptor_fault Header d [] o) _ e)
 
-  pub security-good : {i : Item} → described (descriptor_fault Header d [] o) (item_of d o) ≡ answer.Whole i → {p : Place} → p ≡ descriptor_place o i
-      → security_where k (descriptor_fault Header d [] o) (descriptor_piece d o) ≡ security.At (record { at = p; len = i.size })
+  pub security-good : {i : Item} → described (descriptor_fault Header d [] o) (item_of d o) ≡ Ok i → {p : Place} → p ≡ descriptor_place o i
+      → security_where k (descriptor_fault Header d [] o) (descriptor_piece d o) ≡ Ok (record { at = p; len = i.size })
   security-good e p = let w = described-whole (descriptor_fault Header d [] o) _ e in rw (w.0, p, w.1)
 
 -- in a hive
 module _ (h : List ℕ) (k : Offset) where
-  module _ {f : Flaw} (e : given_fault h k ≡ Flawed f) where
-    pub class-stop : class_answer h k ≡ class.Refused (refusal_of no_key f)
+  module _ {f : Flaw} (e : given_fault h k ≡ Err f) where
+    pub class-stop : class_answer h k ≡ Err (refusal_of no_key f)
     unfolding class_answer
     class-stop = ap (λ (v : Verdict). class_after v (class_below (bins_data h) k)) e
 
-    pub security-stop : security_answer h k ≡ security.Refused (refusal_of no_key f)
+    pub security-stop : security_answer h k ≡ Err (refusal_of no_key f)
     unfolding security_answer
     security-stop = ap (λ (v : Verdict). security_after v (security_below (bins_data h) k)) e
 
-  module _ (e : given_fault h k ≡ Sound) where
+  module _ (e : given_fault h k ≡ Ok tt) where
     pub class-on : class_answer h k ≡ class_below (bins_data h) k
     unfolding class_answer
     class-on = ap (λ (v : Verdict). class_after v (class_below (bins_data h) k)) e
@@ -113,3 +108,10 @@ module _ (h : List ℕ) (k : Offset) where
     pub security-on : security_answer h k ≡ security_below (bins_data h) k
     unfolding security_answer
     security-on = ap (λ (v : Verdict). security_after v (security_below (bins_data h) k)) e
+
+-- the ways out, for the tactics
+pub ruleset given_ways = (on, stop, key-bad, key-good)
+
+pub ruleset class_ways = (length-room, length-is, class-bad, class-good, class-none, class-some, class-stop, class-on)
+
+pub ruleset security_ways = (security-bad, security-good, security-stop, security-on)

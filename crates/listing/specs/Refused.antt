@@ -1,6 +1,6 @@
 -- What a refusal of the listing calls says: the table's rows 1 to 7, 11, 12 and, of a copy, 20, each with its reason, and the key under examination. They
 -- take a record by its offset, read it, and then what it names. h is the hive.
-use Rattle.std.specs.Prelude.{ℕ, ◌<◌, ◌≡◌, List}
+use Rattle.std.specs.Prelude.{ℕ, ◌<◌, ◌≡◌, List, Ok}
 use Rattle.fields.specs.declared.Fault.TheVariants.{OutputShort}
 use Rattle.fields.specs.declared.Flaw.{Flaw}
 use Rattle.fields.specs.declared.Offset.{Offset}
@@ -14,7 +14,6 @@ use Rattle.values.specs.declared.ValueData.TheVariants.{OneCell}
 use Rattle.values.specs.Records.{data_in}
 use Rattle.values.specs.Refused.{Role, a_key, a-value, Fit, Unfit, Among, Lists, Values, Data}
 use Rattle.lookup.specs.declared.Info.{Info}
-use Rattle.lookup.specs.declared.ValueFound.TheVariants.{At as ValueAt}
 use Rattle.listing.specs.Members.{info_at}
 use Rattle.listing.specs.Pieces.{class_cell, class_length}
 
@@ -40,7 +39,7 @@ OfInfo h v = OfRecord h a-value v (Data Header (bins_data h) (data_in (bins_data
 pub data OfCopied (h : List ℕ) (v : Offset) (room : ℕ) : Flaw → Type 0 where
   as-info : {f : Flaw} → OfInfo h v f → OfCopied h v room f
   -- 20: "output too short"
-  too_short : {i : Info} → info_at h v ≡ ValueAt i → room < i.len → OfCopied h v room (flaw OutputShort nowhere)
+  too_short : {i : Info} → info_at h v ≡ Ok i → room < i.len → OfCopied h v room (flaw OutputShort nowhere)
 
 -- key_facts of the key at an offset: what it names is not read
 abbrev pub OfFacts : List ℕ → Offset → Flaw → Type 0

@@ -15,12 +15,10 @@ ghost use Rattle.listing.specs.Members.{entry_of, member_where, nth_in, nth_belo
 ghost use Rattle.listing.specs.Pieces.{given_fault, class_length, class_piece, class_where, class_below, class_answer, descriptor_piece, security_where, security_below, security_answer};
 
 use cells::Rule;
-use fields::{Flaw, Offset, Place, Refusal, Verdict};
-use lookup::{Copied, ValueFound};
-use records::{Headed, Key, Keyed, Leafed, Leaves, Name};
-use search::Look;
-use security::Described;
-use values::{Entered, Entries, ValueData, Valued};
+use fields::{Flaw, Offset, Place, Refusal};
+use lookup::Info;
+use records::{Key, Leaves, Name};
+use values::{Entries, ValueData};
 
 // A key or a value that a list names, and where its name stands in the file: `len` bytes from `name` on, one for each character if narrow, else UTF-16LE.
 #[derive(Clone, Copy)]
@@ -31,14 +29,8 @@ pub struct Entry {
     pub narrow: bool,
 }
 
-#[derive(Clone, Copy)]
-pub enum Member {
-    At(Entry),
-    NoMore,
-    Refused(Refusal),
-}
-
 // A record that was tested, by its offset and its name.
+#[tactic(auto, unfolding(crate::specs::Members::entry_of))]
 pub fn entry_of(o: Offset, n: Name) -> Entry
     requires { n.at < 4294967296 }
     ensures { result ≡ entry_of o n }
@@ -52,172 +44,145 @@ pub fn entry_of(o: Offset, n: Name) -> Entry
 }
 
 // A key by its offset, which another lists.
-fn key_entry(bins: &[u8], key: Offset, o: Offset) -> Member
+#[tactic(auto, using(crate::proofs::Members::entry_ways))]
+fn key_entry(bins: &[u8], key: Offset, o: Offset) -> Result<Option<Entry>, Refusal>
     ensures { result ≡ member_where key (key_fault Header bins.now [] o) (entry_of o (key_of bins.now o).name) }
 {
-    match records::key_at(bins, b"", Rule::Header, o) {
-        Keyed::Flawed(f) => Member::Refused(fields::refused(key, f)),
-        Keyed::Whole(k) => {
-            let name = k.name;
-            Member::At(entry_of(o, name))
-        }
-    }
+    let k = records::key_at(bins, b"", Rule::Header, o).map_err(|f| fields::refused(key, f))?;
+    Ok(Some(entry_of(o, k.name)))
 }
 
 // Element n of the leaves. Each leaf is tested when it is reached, and those before the element's own are only counted.
-fn nth_in(bins: &[u8], ls: Leaves, n: usize) -> Look
+#[tactic(auto, using(crate::proofs::Members::leaf_ways))]
+fn nth_in(bins: &[u8], ls: Leaves, n: usize) -> Result<Option<Offset>, Flaw>
     requires { LeavesLie bins.now ls }
     ensures { result ≡ nth_in bins.now (leaves_named bins.now ls) n }
 {
-    let count = ls.count;
     let mut left = n;
-    let mut j: usize = 0;
-    while j < count {
+    for j in 0..ls.count {
         let o = records::leaf_offset(bins, ls, j);
-        match records::leaf_at(bins, b"", Rule::Header, o) {
-            Leafed::Flawed(f) => {
-                return Look::Flawed(f);
-            }
-            Leafed::Whole(leaf) => {
-                let here = leaf.count;
-                if left < here {
-                    let c = records::child_of(bins, leaf, left);
-                    let at = c.at;
-                    return Look::Found(at);
-                }
-                left -= here;
-            }
+        let leaf = records::leaf_at(bins, b"", Rule::Header, o)?;
+        if left < leaf.count {
+            return Ok(Some(records::child_of(bins, leaf, left).at));
         }
-        j += 1;
+        left -= leaf.count;
     }
-    Look::Missing
+    Ok(None)
 }
 
 // Subkey n of a key. The subkey count is only asked whether it is 0, as in a search.
-fn nth_below(bins: &[u8], k: Key, n: usize) -> Look
+#[tactic(auto, using(crate::proofs::Members::below_ways))]
+fn nth_below(bins: &[u8], k: Key, n: usize) -> Result<Option<Offset>, Flaw>
     ensures { result ≡ nth_below bins.now k n }
 {
     if k.subkeys == 0 {
-        return Look::Missing;
+        return Ok(None);
     }
-    let list = k.list;
-    match records::head_at(bins, b"", Rule::Header, list) {
-        Headed::Flawed(f) => Look::Flawed(f),
-        Headed::Whole(ls) => nth_in(bins, ls, n),
-    }
+    let ls = records::head_at(bins, b"", Rule::Header, k.list)?;
+    nth_in(bins, ls, n)
 }
 
 // Past the key's own record all is tested on its behalf.
-fn subkey_below(bins: &[u8], key: Offset, k: Key, n: usize) -> Member
+#[tactic(auto, using(crate::proofs::Members::subkey_ways))]
+fn subkey_below(bins: &[u8], key: Offset, k: Key, n: usize) -> Result<Option<Entry>, Refusal>
     ensures { result ≡ subkey_below bins.now key k n }
 {
-    match nth_below(bins, k, n) {
-        Look::Flawed(f) => Member::Refused(fields::refused(key, f)),
-        Look::Missing => Member::NoMore,
-        Look::Found(c) => key_entry(bins, key, c),
-    }
+    let Some(c) = nth_below(bins, k, n).map_err(|f| fields::refused(key, f))? else {
+        return Ok(None);
+    };
+    key_entry(bins, key, c)
 }
 
-fn subkey_in(bins: &[u8], key: Offset, n: usize) -> Member
+#[tactic(auto, using(crate::proofs::Members::subkey_ways))]
+fn subkey_in(bins: &[u8], key: Offset, n: usize) -> Result<Option<Entry>, Refusal>
     ensures { result ≡ subkey_in bins.now key n }
 {
-    match records::key_at(bins, b"", Rule::Header, key) {
-        Keyed::Flawed(f) => Member::Refused(fields::refused(Offset(fields::NO_KEY), f)),
-        Keyed::Whole(k) => subkey_below(bins, key, k, n),
-    }
+    let k = records::key_at(bins, b"", Rule::Header, key)?;
+    subkey_below(bins, key, k, n)
 }
 
 // Subkey n of the key at an offset, from 0 on.
-pub fn nth_subkey(hive: &[u8], key: Offset, n: usize) -> Member
+#[tactic(auto, using(crate::proofs::Members::subkey_ways))]
+pub fn nth_subkey(hive: &[u8], key: Offset, n: usize) -> Result<Option<Entry>, Refusal>
     ensures { result ≡ subkey_answer hive.now key n }
 {
-    match base::base_flaw(hive) {
-        Verdict::Flawed(f) => Member::Refused(fields::refused(Offset(fields::NO_KEY), f)),
-        Verdict::Sound => subkey_in(base::bins_of(hive), key, n),
-    }
+    base::base_flaw(hive)?;
+    subkey_in(base::bins_of(hive), key, n)
 }
 
 // A value by its offset, which a key lists.
-fn value_entry(bins: &[u8], minor: u32, key: Offset, v: Offset) -> Member
+#[tactic(auto, using(crate::proofs::Members::entry_ways))]
+fn value_entry(bins: &[u8], minor: u32, key: Offset, v: Offset) -> Result<Option<Entry>, Refusal>
     ensures { result ≡ member_where key (value_fault Header bins.now [] v) (entry_of v (value_of bins.now minor v).name) }
 {
-    match values::value_at(bins, b"", Rule::Header, minor, v) {
-        Valued::Flawed(f) => Member::Refused(fields::refused(key, f)),
-        Valued::Whole(x) => {
-            let name = x.name;
-            Member::At(entry_of(v, name))
-        }
-    }
+    let read = values::value_at(bins, b"", Rule::Header, minor, v);
+    let x = read.map_err(|f| fields::refused(key, f))?;
+    Ok(Some(entry_of(v, x.name)))
 }
 
-fn nth_of(bins: &[u8], k: Key, n: usize) -> Look
+#[tactic(auto, using(crate::proofs::Members::below_ways))]
+fn nth_of(bins: &[u8], k: Key, n: usize) -> Result<Option<Offset>, Flaw>
     ensures { result ≡ nth_of bins.now k n }
 {
-    match values::value_list(bins, b"", Rule::Header, k) {
-        Entered::Flawed(f) => Look::Flawed(f),
-        Entered::Whole(e) => {
-            if n < e.count {
-                Look::Found(values::entry(bins, e, n))
-            } else {
-                Look::Missing
-            }
-        }
-    }
+    let e = values::value_list(bins, b"", Rule::Header, k)?;
+    Ok((n < e.count).then(|| values::entry(bins, e, n)))
 }
 
-fn value_below(bins: &[u8], minor: u32, key: Offset, k: Key, n: usize) -> Member
+#[tactic(auto, using(crate::proofs::Members::value_ways))]
+fn value_below(
+    bins: &[u8],
+    minor: u32,
+    key: Offset,
+    k: Key,
+    n: usize,
+) -> Result<Option<Entry>, Refusal>
     ensures { result ≡ value_below bins.now minor key k n }
 {
-    match nth_of(bins, k, n) {
-        Look::Flawed(f) => Member::Refused(fields::refused(key, f)),
-        Look::Missing => Member::NoMore,
-        Look::Found(v) => value_entry(bins, minor, key, v),
-    }
+    let Some(v) = nth_of(bins, k, n).map_err(|f| fields::refused(key, f))? else {
+        return Ok(None);
+    };
+    value_entry(bins, minor, key, v)
 }
 
-fn value_in(bins: &[u8], minor: u32, key: Offset, n: usize) -> Member
+#[tactic(auto, using(crate::proofs::Members::value_ways))]
+fn value_in(bins: &[u8], minor: u32, key: Offset, n: usize) -> Result<Option<Entry>, Refusal>
     ensures { result ≡ value_in bins.now minor key n }
 {
-    match records::key_at(bins, b"", Rule::Header, key) {
-        Keyed::Flawed(f) => Member::Refused(fields::refused(Offset(fields::NO_KEY), f)),
-        Keyed::Whole(k) => value_below(bins, minor, key, k, n),
-    }
+    let k = records::key_at(bins, b"", Rule::Header, key)?;
+    value_below(bins, minor, key, k, n)
 }
 
 // Value n of the key at an offset, from 0 on.
-pub fn nth_value(hive: &[u8], key: Offset, n: usize) -> Member
+#[tactic(auto, using(crate::proofs::Members::value_ways))]
+pub fn nth_value(hive: &[u8], key: Offset, n: usize) -> Result<Option<Entry>, Refusal>
     ensures { result ≡ value_answer hive.now key n }
 {
-    match base::base_flaw(hive) {
-        Verdict::Flawed(f) => Member::Refused(fields::refused(Offset(fields::NO_KEY), f)),
-        Verdict::Sound => value_in(base::bins_of(hive), base::minor_of(hive), key, n),
-    }
+    base::base_flaw(hive)?;
+    value_in(base::bins_of(hive), base::minor_of(hive), key, n)
 }
 
 // The facts of the value at an offset, for all three cases of data. No key is asked, so none is under examination.
-pub fn info_at(hive: &[u8], v: Offset) -> ValueFound
+#[tactic(auto, using(crate::proofs::Members::info_ways))]
+pub fn info_at(hive: &[u8], v: Offset) -> Result<Info, Refusal>
     ensures { result ≡ info_at hive.now v }
 {
-    match base::base_flaw(hive) {
-        Verdict::Flawed(f) => ValueFound::Refused(fields::refused(Offset(fields::NO_KEY), f)),
-        Verdict::Sound => lookup::whole_info(
-            base::bins_of(hive),
-            base::minor_of(hive),
-            Offset(fields::NO_KEY),
-            v,
-        ),
-    }
+    base::base_flaw(hive)?;
+    lookup::whole_info(
+        base::bins_of(hive),
+        base::minor_of(hive),
+        Offset(fields::NO_KEY),
+        v,
+    )
 }
 
 // The data of the value at an offset, segments joined.
-pub fn copy_at(hive: &[u8], v: Offset, out: &mut [u8]) -> Copied
+#[tactic(auto, using(crate::proofs::Members::info_ways))]
+pub fn copy_at(hive: &[u8], v: Offset, out: &mut [u8]) -> Result<usize, Refusal>
     ensures value { result ≡ copy_at hive.now v (length out.old) }
     ensures out_after { out.new ≡ out_at hive.now v out.old }
 {
-    match info_at(hive, v) {
-        ValueFound::Refused(f) => Copied::Refused(f),
-        ValueFound::At(i) => lookup::copy_info(hive, Offset(fields::NO_KEY), i, out),
-    }
+    let i = info_at(hive, v)?;
+    lookup::copy_info(hive, Offset(fields::NO_KEY), i, out)
 }
 
 // What a key's record says of it. Its counts are its own: nothing is counted.
@@ -230,13 +195,8 @@ pub struct Facts {
     pub values: u32,
 }
 
-#[derive(Clone, Copy)]
-pub enum KeyFacts {
-    At(Facts),
-    Refused(Refusal),
-}
-
 // When a key that was tested was last written.
+#[tactic(auto, using(crate::proofs::Members::facts_ways))]
 fn stamp_of(bins: &[u8], o: Offset) -> u64
     requires { 76 ≤ length (data_at bins.now o) }
     ensures { result ≡ u64_at (data_at bins.now o) 4 }
@@ -244,33 +204,27 @@ fn stamp_of(bins: &[u8], o: Offset) -> u64
     fields::u64_at(cells::part_in(bins, o, 4, 8), 0)
 }
 
-fn facts_in(bins: &[u8], o: Offset) -> KeyFacts
+#[tactic(auto, using(crate::proofs::Members::facts_ways))]
+fn facts_in(bins: &[u8], o: Offset) -> Result<Facts, Refusal>
     ensures { result ≡ facts_where (key_fault Header bins.now [] o) (facts_of bins.now o) }
 {
-    match records::key_at(bins, b"", Rule::Header, o) {
-        Keyed::Flawed(f) => KeyFacts::Refused(fields::refused(Offset(fields::NO_KEY), f)),
-        Keyed::Whole(k) => {
-            let name = k.name;
-            let parent = k.parent;
-            KeyFacts::At(Facts {
-                entry: entry_of(o, name),
-                stamp: stamp_of(bins, o),
-                parent,
-                subkeys: k.subkeys,
-                values: k.values,
-            })
-        }
-    }
+    let k = records::key_at(bins, b"", Rule::Header, o)?;
+    Ok(Facts {
+        entry: entry_of(o, k.name),
+        stamp: stamp_of(bins, o),
+        parent: k.parent,
+        subkeys: k.subkeys,
+        values: k.values,
+    })
 }
 
 // The facts of the key at an offset.
-pub fn key_facts(hive: &[u8], key: Offset) -> KeyFacts
+#[tactic(auto, using(crate::proofs::Members::facts_ways))]
+pub fn key_facts(hive: &[u8], key: Offset) -> Result<Facts, Refusal>
     ensures { result ≡ facts_answer hive.now key }
 {
-    match base::base_flaw(hive) {
-        Verdict::Flawed(f) => KeyFacts::Refused(fields::refused(Offset(fields::NO_KEY), f)),
-        Verdict::Sound => facts_in(base::bins_of(hive), key),
-    }
+    base::base_flaw(hive)?;
+    facts_in(base::bins_of(hive), key)
 }
 
 // Bytes of the file: `len` of them from `at` on.
@@ -280,40 +234,18 @@ pub struct Piece {
     pub len: usize,
 }
 
-#[derive(Clone, Copy)]
-pub enum KeyClass {
-    None,
-    At(Piece),
-    Refused(Refusal),
-}
-
-#[derive(Clone, Copy)]
-pub enum KeySecurity {
-    At(Piece),
-    Refused(Refusal),
-}
-
-// A key's own 11 or 12.
-fn key_flaw(bins: &[u8], key: Offset) -> Verdict
-    ensures { result ≡ key_fault Header bins.now [] key }
-{
-    match records::key_at(bins, b"", Rule::Header, key) {
-        Keyed::Flawed(f) => Verdict::Flawed(f),
-        Keyed::Whole(_) => Verdict::Sound,
-    }
-}
-
 // The given key: 1 to 7, then its own 11 or 12.
-fn given_flaw(hive: &[u8], key: Offset) -> Verdict
+#[tactic(auto, using(crate::proofs::Pieces::given_ways))]
+fn given_flaw(hive: &[u8], key: Offset) -> Result<(), Flaw>
     ensures { result ≡ given_fault hive.now key }
 {
-    match base::base_flaw(hive) {
-        Verdict::Flawed(f) => Verdict::Flawed(f),
-        Verdict::Sound => key_flaw(base::bins_of(hive), key),
-    }
+    base::base_flaw(hive)?;
+    records::key_at(base::bins_of(hive), b"", Rule::Header, key)?;
+    Ok(())
 }
 
 // How many bytes the class name of a key that was tested has.
+#[tactic(auto, using(crate::proofs::Pieces::class_ways))]
 fn class_length(bins: &[u8], key: Offset) -> u16
     requires { 76 ≤ length (data_at bins.now key) }
     ensures { result ≡ class_length bins.now key }
@@ -322,59 +254,60 @@ fn class_length(bins: &[u8], key: Offset) -> u16
 }
 
 // A class name of a key, whose cell is tested as one of a value's data.
-fn class_at(bins: &[u8], key: Offset, cell: Offset, len: u16) -> KeyClass
+#[tactic(auto, using(crate::proofs::Pieces::class_ways))]
+fn class_at(bins: &[u8], key: Offset, cell: Offset, len: u16) -> Result<Option<Piece>, Refusal>
     ensures { result ≡ class_where key (data_fault Header bins.now [] (ValueData.OneCell cell len)) (class_piece cell len) }
 {
     let data = ValueData::OneCell {
         cell,
-        len: len as u32,
+        len: u32::from(len),
     };
-    match values::data_flaw(bins, b"", Rule::Header, data) {
-        Verdict::Flawed(f) => KeyClass::Refused(fields::refused(key, f)),
-        Verdict::Sound => KeyClass::At(Piece {
-            at: cells::part_place(cell, 0, len as usize),
-            len: len as usize,
-        }),
-    }
+    values::data_flaw(bins, b"", Rule::Header, data).map_err(|f| fields::refused(key, f))?;
+    let len = usize::from(len);
+    Ok(Some(Piece {
+        at: cells::part_place(cell, 0, len),
+        len,
+    }))
 }
 
 // The class name of a key that was tested. Of length 0 there is none, and the offset is not read.
-fn class_below(bins: &[u8], key: Offset) -> KeyClass
+#[tactic(auto, using(crate::proofs::Pieces::class_ways))]
+fn class_below(bins: &[u8], key: Offset) -> Result<Option<Piece>, Refusal>
     requires { 76 ≤ length (data_at bins.now key) }
     ensures { result ≡ class_below bins.now key }
 {
     let len = class_length(bins, key);
     if len == 0 {
-        return KeyClass::None;
+        return Ok(None);
     }
     class_at(bins, key, Offset(cells::word_in(bins, key, 48)), len)
 }
 
 // Where the class name of the key at an offset lies, and how long it is.
-pub fn key_class(hive: &[u8], key: Offset) -> KeyClass
+#[tactic(auto, using(crate::proofs::Pieces::class_ways))]
+pub fn key_class(hive: &[u8], key: Offset) -> Result<Option<Piece>, Refusal>
     ensures { result ≡ class_answer hive.now key }
 {
-    match given_flaw(hive, key) {
-        Verdict::Flawed(f) => KeyClass::Refused(fields::refused(Offset(fields::NO_KEY), f)),
-        Verdict::Sound => class_below(base::bins_of(hive), key),
-    }
+    given_flaw(hive, key)?;
+    class_below(base::bins_of(hive), key)
 }
 
 // The descriptor of the item at an offset, which a key names.
-fn security_at(bins: &[u8], key: Offset, o: Offset) -> KeySecurity
+#[tactic(auto, using(crate::proofs::Pieces::security_ways))]
+fn security_at(bins: &[u8], key: Offset, o: Offset) -> Result<Piece, Refusal>
     ensures { result ≡ security_where key (descriptor_fault Header bins.now [] o) (descriptor_piece bins.now o) }
 {
-    match security::described_at(bins, b"", Rule::Header, o) {
-        Described::Flawed(f) => KeySecurity::Refused(fields::refused(key, f)),
-        Described::Whole(i) => KeySecurity::At(Piece {
-            at: security::descriptor_place(o, i),
-            len: i.size as usize,
-        }),
-    }
+    let read = security::described_at(bins, b"", Rule::Header, o);
+    let i = read.map_err(|f| fields::refused(key, f))?;
+    Ok(Piece {
+        at: security::descriptor_place(o, i),
+        len: i.size as usize,
+    })
 }
 
 // The descriptor of a key that was tested.
-fn security_below(bins: &[u8], key: Offset) -> KeySecurity
+#[tactic(auto, unfolding(crate::specs::Pieces::security_below))]
+fn security_below(bins: &[u8], key: Offset) -> Result<Piece, Refusal>
     requires { 76 ≤ length (data_at bins.now key) }
     ensures { result ≡ security_below bins.now key }
 {
@@ -382,11 +315,10 @@ fn security_below(bins: &[u8], key: Offset) -> KeySecurity
 }
 
 // Where the security descriptor of the key at an offset lies, and how long it is.
-pub fn key_security(hive: &[u8], key: Offset) -> KeySecurity
+#[tactic(auto, using(crate::proofs::Pieces::security_ways))]
+pub fn key_security(hive: &[u8], key: Offset) -> Result<Piece, Refusal>
     ensures { result ≡ security_answer hive.now key }
 {
-    match given_flaw(hive, key) {
-        Verdict::Flawed(f) => KeySecurity::Refused(fields::refused(Offset(fields::NO_KEY), f)),
-        Verdict::Sound => security_below(base::bins_of(hive), key),
-    }
+    given_flaw(hive, key)?;
+    security_below(base::bins_of(hive), key)
 }

@@ -3,12 +3,12 @@ use Prim.Native.Nat.{ℕ, zero, suc, ◌+◌, ◌%◌, ◌≤◌, ◌<◌}
 use native.Mathlib.Omega.{arith}
 use native.Mathlib.Nat.{eq-or-lt_of_le}
 use mathlib.Core.Path.{◌≡◌, refl}
-use mathlib.Core.Bool.{Bool, true, false, ◌&&◌}
+use mathlib.Core.Bool.{Bool, true, false}
 use mathlib.Core.List.{List}
 use mathlib.Core.Logic.{⊎_elim}
 use lib.Dec.{eqb, leb}
 use lib.ListN.{length}
-use borrow.Author.Tests.{le-leb, eq-eqb, leb-true, eqb-true}
+use borrow.Author.Tests.{leb-true, eqb-true}
 use Rattle.fields.specs.Bytes.{stands_at}
 use Rattle.fields.proofs.Bools.{and-inv}
 use Rattle.base.specs.Block.{is_bins_size}
@@ -59,20 +59,6 @@ module _ (l : List ℕ) (a n : ℕ) where
   -- where one test fails it is no entry
   pub not_entered : (Entered l a n → ⊥) → is_entry l a n ≡ false
   not_entered p = refused _ (λ e. p (entered e))
-
-  -- where all but those of the references hold, these answer
-  pub by-refs : a + 40 ≤ length l
-      → stands_at l a hvle ≡ true
-      → 512 ≤ size_at l a
-      → size_at l a % 512 ≡ 0
-      → a + size_at l a ≤ length l
-      → is_hashed l a ≡ true
-      → number_at l a ≡ n
-      → is_bins_size (bins_at l a) ≡ true
-      → is_entry l a n ≡ (leb (ref_place l a (count_at l a)) (a + size_at l a) && are_refs l a (count_at l a))
-  unfolding is_entry
-  by-refs b d f g h i j k =
-      simp (le-leb _ _ b, d, le-leb _ _ f, eq-eqb _ _ g, le-leb _ _ h, i, eq-eqb _ _ j, k)
 
 -- ---- its references
 

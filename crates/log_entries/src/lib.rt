@@ -1,7 +1,7 @@
 // The entries of a new-format log: the tests of one, and what one pass over those that count finds.
 #![tactic(auto)]
 
-ghost use Rattle.std.specs.Prelude.{◌≡◌, ◌+◌, ◌*◌, ◌≤◌, ◌<◌, max, length};
+ghost use Rattle.std.specs.Prelude.{◌≡◌, ◌+◌, ◌*◌, ◌≤◌, ◌<◌, length};
 ghost use Rattle.fields.specs.Number.{u32_at};
 ghost use Rattle.log_entries.specs.Entries.{number_at, ref_bytes, is_hashed, is_placed, are_apart, apart_from, are_refs, is_entry, grown as grown_by, chain_of};
 ghost use Rattle.log_entries.specs.Terms.{Whole, refs_fit, EndBy};
@@ -27,96 +27,77 @@ fn wide_at(log: &[u8], i: usize) -> usize
 // ---- the tests of one entry, which starts at a place
 
 // Both hashes: Hash-1 over all that follows the entry's head, padding too.
+#[tactic(auto, unfolding(crate::specs::Entries::is_hashed), using(std::proofs::lemmas::Bool::Decides::nat_tests))]
 fn is_hashed(log: &[u8], at: usize) -> bool
     requires { Whole log.now at }
     ensures { result ≡ is_hashed log.now at }
 {
     let end = at + wide_at(log, at + 4);
-    if fields::u64_at(log, at + 24) != marvin::hash(&log[at + 40..end]) {
-        return false;
-    }
-    fields::u64_at(log, at + 32) == marvin::hash(&log[at..at + 32])
+    fields::u64_at(log, at + 24) == marvin::hash(&log[at + 40..end])
+        && fields::u64_at(log, at + 32) == marvin::hash(&log[at..at + 32])
 }
 
 // The bytes of the first n references.
+#[tactic(auto, using(crate::proofs::Tests::steps), unfolding(crate::specs::Entries::ref_bytes))]
 fn ref_bytes(log: &[u8], at: usize, n: usize) -> usize
     requires n_bound { n < 4294967296 }
     requires n_in_bounds { at + 40 + 8 * n ≤ length log.now }
     ensures { result ≡ ref_bytes log.now at n }
 {
-    let mut sum: usize = 0;
-    let mut i: usize = 0;
-    while i < n {
+    let mut sum = 0;
+    for i in 0..n {
         sum += wide_at(log, at + 44 + 8 * i);
-        i += 1;
     }
     sum
 }
 
+#[tactic(auto, using(std::proofs::lemmas::Bool::Decides::nat_tests))]
 fn is_placed(log: &[u8], at: usize, i: usize) -> bool
     requires { at + 48 + 8 * i ≤ length log.now }
     ensures { result ≡ is_placed log.now at i }
 {
     let offset = wide_at(log, at + 40 + 8 * i);
-    if offset % 512 != 0 {
-        return false;
-    }
     let bytes = wide_at(log, at + 44 + 8 * i);
-    if bytes % 512 != 0 {
-        return false;
-    }
-    offset + bytes <= wide_at(log, at + 16)
+    offset % 512 == 0 && bytes % 512 == 0 && offset + bytes <= wide_at(log, at + 16)
 }
 
+#[tactic(auto, using(std::proofs::lemmas::Bool::Decides::nat_tests))]
 fn are_apart(log: &[u8], at: usize, i: usize, j: usize) -> bool
     requires i_in_bounds { at + 48 + 8 * i ≤ length log.now }
     requires j_in_bounds { at + 48 + 8 * j ≤ length log.now }
     ensures { result ≡ are_apart log.now at i j }
 {
-    let size = wide_at(log, at + 44 + 8 * i);
-    if size == 0 {
-        return true;
-    }
-    let other_size = wide_at(log, at + 44 + 8 * j);
-    if other_size == 0 {
-        return true;
-    }
     let offset = wide_at(log, at + 40 + 8 * i);
+    let size = wide_at(log, at + 44 + 8 * i);
     let other = wide_at(log, at + 40 + 8 * j);
-    if offset + size <= other {
-        return true;
-    }
-    other + other_size <= offset
+    let other_size = wide_at(log, at + 44 + 8 * j);
+    size == 0 || other_size == 0 || offset + size <= other || other + other_size <= offset
 }
 
 // Whether reference i shares no byte with any before it.
+#[tactic(auto, using(crate::proofs::Tests::steps), unfolding(crate::specs::Entries::apart_from))]
 fn apart_from(log: &[u8], at: usize, i: usize) -> bool
     requires { at + 48 + 8 * i ≤ length log.now }
     ensures { result ≡ apart_from log.now at i i }
 {
-    let mut j: usize = 0;
-    while j < i {
+    for j in 0..i {
         if !are_apart(log, at, i, j) {
             return false;
         }
-        j += 1;
     }
     true
 }
 
 // The same, where the ends of those before it are known: only a reference that has bytes and starts before one of them needs a comparison with each.
+#[tactic(auto, using(std::proofs::lemmas::Bool::Decides::nat_tests))]
 fn is_apart(log: &[u8], at: usize, i: usize, end: usize) -> bool
     requires i_in_bounds { at + 48 + 8 * i ≤ length log.now }
     requires end_by { EndBy log.now at i end }
     ensures { result ≡ apart_from log.now at i i }
 {
-    if wide_at(log, at + 44 + 8 * i) == 0 {
-        return true;
-    }
-    if end <= wide_at(log, at + 40 + 8 * i) {
-        return true;
-    }
-    apart_from(log, at, i)
+    wide_at(log, at + 44 + 8 * i) == 0
+        || end <= wide_at(log, at + 40 + 8 * i)
+        || apart_from(log, at, i)
 }
 
 // The end of those before reference i, or its own.
@@ -126,48 +107,37 @@ fn later_end(log: &[u8], at: usize, i: usize, end: usize) -> usize
     ensures { EndBy log.now at (i + 1) result }
 {
     let own = wide_at(log, at + 40 + 8 * i) + wide_at(log, at + 44 + 8 * i);
-    if end < own {
-        return own;
-    }
-    end
+    end.max(own)
 }
 
+#[tactic(auto, using(crate::proofs::Tests::steps), unfolding(crate::specs::Entries::are_refs))]
 fn are_refs(log: &[u8], at: usize, n: usize) -> bool
     requires { at + 40 + 8 * n ≤ length log.now }
     ensures { result ≡ are_refs log.now at n }
 {
-    let mut end: usize = 0;
-    let mut i: usize = 0;
-    while i < n {
-        if !is_placed(log, at, i) {
-            return false;
-        }
-        if !is_apart(log, at, i, end) {
+    let mut end = 0;
+    for i in 0..n {
+        if !is_placed(log, at, i) || !is_apart(log, at, i, end) {
             return false;
         }
         end = later_end(log, at, i, end);
-        i += 1;
     }
     true
 }
 
 // No reference is read before it is known that all of them, and their bytes, end in the entry.
+#[tactic(auto, using(std::proofs::lemmas::Bool::Decides::nat_tests))]
 fn refs_fit(log: &[u8], at: usize) -> bool
     requires { Whole log.now at }
     ensures { result ≡ refs_fit log.now at }
 {
     let room = wide_at(log, at + 4) - 40;
     let count = wide_at(log, at + 20);
-    if room < 8 * count {
-        return false;
-    }
-    if room - 8 * count < ref_bytes(log, at, count) {
-        return false;
-    }
-    are_refs(log, at, count)
+    8 * count <= room && ref_bytes(log, at, count) <= room - 8 * count && are_refs(log, at, count)
 }
 
 // Whether entry number n stands at a place.
+#[tactic(auto, using(std::proofs::lemmas::Bool::Decides::nat_tests), unfolding(crate::specs::Entries::is_entry))]
 pub fn is_entry(log: &[u8], at: usize, n: u64) -> bool
     requires { at ≤ length log.now }
     ensures { result ≡ is_entry log.now at n }
@@ -176,43 +146,21 @@ pub fn is_entry(log: &[u8], at: usize, n: u64) -> bool
     if room < 40 {
         return false;
     }
-    if !fields::stands_at(log, at, b"HvLE") {
-        return false;
-    }
     let size = wide_at(log, at + 4);
-    if size < 512 {
-        return false;
-    }
-    if size % 512 != 0 {
-        return false;
-    }
-    if room < size {
-        return false;
-    }
-    if !is_hashed(log, at) {
-        return false;
-    }
-    if fields::u32_at(log, at + 12) as u64 != n {
-        return false;
-    }
-    if !base::is_bins_size(fields::u32_at(log, at + 16)) {
-        return false;
-    }
-    refs_fit(log, at)
+    fields::stands_at(log, at, b"HvLE")
+        && 512 <= size
+        && size % 512 == 0
+        && size <= room
+        && is_hashed(log, at)
+        && u64::from(fields::u32_at(log, at + 12)) == n
+        && base::is_bins_size(fields::u32_at(log, at + 16))
+        && refs_fit(log, at)
 }
 
 // ---- the entries that count
 
-fn larger(a: usize, b: usize) -> usize
-    ensures { result ≡ max a b }
-{
-    if a < b {
-        return b;
-    }
-    a
-}
-
 // The chain with one entry more, which starts where it ends.
+#[tactic(auto, using(std::proofs::lemmas::Bool::Decides::nat_tests), unfolding(crate::specs::Entries::grown))]
 fn grown(log: &[u8], chain: Chain) -> Chain
     requires whole { Whole log.now chain.end }
     requires entries_in_bounds { chain.entries < length log.now }
@@ -225,7 +173,7 @@ fn grown(log: &[u8], chain: Chain) -> Chain
         end: at + wide_at(log, at + 4),
         last: fields::u32_at(log, at + 12),
         bins,
-        largest: larger(chain.largest, bins),
+        largest: chain.largest.max(bins),
     }
 }
 
@@ -241,7 +189,7 @@ pub fn chain_of(log: &[u8]) -> Chain
         bins: 0,
         largest: 0,
     };
-    let mut n = fields::u32_at(&log[0..512], 4) as u64;
+    let mut n = u64::from(fields::u32_at(&log[0..512], 4));
     while is_entry(log, chain.end, n) {
         chain = grown(log, chain);
         n += 1;

@@ -87,3 +87,5 @@ module _ (l : List ℕ) where
   pub begun-rest : rest l (begun (chain_of l).entries) ≡ versions l
   unfolding rest pages_from refs_from versions
   begun-rest = sym (entries-hold (chain_of l).entries 512 (u32_at (sector l) 4) (full l)) ∙ ap (all_versions l) (counted-full l)
+
+pub ruleset begins = (begun-lies, begun-rest)

@@ -5,9 +5,8 @@ use native.Mathlib.Numerals.{add-one}
 use native.Mathlib.Nat.{add-zero}
 use mathlib.Core.Path.{◌≡◌, refl, sym, ap, ap₂, subst, ◌∙◌}
 use mathlib.Core.List.{List, ◌∷◌, ◌++◌, append-nil, append_assoc}
-use mathlib.Core.Bool.{Bool, true, false, not, ◌&&◌, ◌||◌}
-use lib.Dec.{ltb}
-use borrow.Author.Tests.{ltb-true, ltb-false, le-ltb}
+use mathlib.Core.Bool.{false}
+use Rattle.std.proofs.lemmas.Bool.Decides.{nat_tests}
 use Rattle.log_entries.specs.Entries.{size_at, count_at, ref_offset, ref_size, ref_bytes, ref_place}
 use Rattle.log_versions.specs.declared.Version.{Version}
 use Rattle.log_versions.specs.declared.Cursor.{Cursor}
@@ -28,27 +27,8 @@ past c = record { at = c.at; index = c.index; refs = c.refs; end = c.end; left =
 
 -- ---- whether no page is at hand
 
-between : (p r k : Bool) → not p && (r || k) ≡ true → (p ≡ false) × (r ≡ false → k ≡ true)
-between false true k e = (refl, λ z. absurd (let n : ◌≡◌ {A = ℕ} 0 1 = cc in omega arith))
-between false false k e = (refl, λ z. e)
-between true r k e = absurd (let n : ◌≡◌ {A = ℕ} 0 1 = cc in omega arith)
-
-between-not : (p r k : Bool) → not p && (r || k) ≡ false → p ≡ false → (r ≡ false) × (k ≡ false)
-between-not false false k e z = (refl, e)
-between-not false true k e z = absurd (let n : ◌≡◌ {A = ℕ} 0 1 = cc in omega arith)
-between-not true r k e z = absurd (let n : ◌≡◌ {A = ℕ} 0 1 = cc in omega arith)
-
-module _ (c : Cursor) where
-  pub between-pages : is_between c ≡ true → c.pages ≡ 0
-  between-pages e = omega (arith, ltb-false 0 c.pages (between (ltb 0 c.pages) (ltb 0 c.refs) (ltb 0 c.left) e).0)
-
-  pub between_left : is_between c ≡ true → c.refs ≡ 0 → 0 < c.left
-  between_left e z = ltb-true 0 c.left ((between (ltb 0 c.pages) (ltb 0 c.refs) (ltb 0 c.left) e).1 (le-ltb 0 c.refs (omega arith)))
-
-  pub between_none : is_between c ≡ false → c.pages ≡ 0 → (c.refs ≡ 0) × (c.left ≡ 0)
-  between_none e z =
-      let b = between-not (ltb 0 c.pages) (ltb 0 c.refs) (ltb 0 c.left) e (le-ltb 0 c.pages (omega arith)) in
-      (omega (arith, ltb-false 0 c.refs b.0), omega (arith, ltb-false 0 c.left b.1))
+pub between_none : (c : Cursor) → is_between c ≡ false → c.pages ≡ 0 → (c.refs ≡ 0) × (c.left ≡ 0)
+between_none c e z = grind (arith, nat_tests)
 
 module _ (l : List ℕ) where
   -- ---- the references of an entry, from one on
@@ -191,3 +171,11 @@ module _ (l : List ℕ) where
           refs = subst (RefsLie l c.at c.index c.refs) e stands.lies.refs;
           entries = stands.lies.entries;
         }
+
+-- ---- what the functions' own goals need
+
+pub ruleset entries = (entry_here, in_entry_lem)
+
+pub ruleset settles = (settled, between_none)
+
+pub ruleset pasts = (past_split, past-lies)

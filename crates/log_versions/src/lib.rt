@@ -32,13 +32,7 @@ pub struct Cursor {
 fn is_between(c: Cursor) -> bool
     ensures { result ≡ is_between c }
 {
-    if 0 < c.pages {
-        return false;
-    }
-    if 0 < c.refs {
-        return true;
-    }
-    0 < c.left
+    c.pages == 0 && (0 < c.refs || 0 < c.left)
 }
 
 // Into the next reference.
@@ -48,18 +42,16 @@ fn enter_reference(log: &[u8], c: Cursor) -> Cursor
 {
     let field = c.at + 40 + 8 * c.index;
     Cursor {
-        at: c.at,
         index: c.index + 1,
         refs: c.refs - 1,
-        end: c.end,
-        left: c.left,
         page: fields::u32_at(log, field) as usize / 512,
-        place: c.place,
         pages: fields::u32_at(log, field + 4) as usize / 512,
+        ..c
     }
 }
 
 // Into the next entry.
+#[tactic(auto, using(crate::proofs::Steps::entries))]
 fn enter_entry(log: &[u8], c: Cursor) -> Cursor
     requires { (c.pages ≡ 0) × (c.refs ≡ 0) × (0 < c.left) × Lies log.now c }
     ensures { Same log.now c result }
@@ -83,23 +75,25 @@ fn enter(log: &[u8], c: Cursor) -> Cursor
     ensures { Same log.now c result }
 {
     if 0 < c.refs {
-        return enter_reference(log, c);
+        enter_reference(log, c)
+    } else {
+        enter_entry(log, c)
     }
-    enter_entry(log, c)
 }
 
 // To the next page, or to the end.
-fn settle(log: &[u8], c: Cursor) -> Cursor
+#[tactic(auto, using(crate::proofs::Steps::settles))]
+fn settle(log: &[u8], mut c: Cursor) -> Cursor
     requires { Lies log.now c }
     ensures { (rest log.now result ≡ rest log.now c) × Stands log.now result }
 {
-    let mut d = c;
-    while is_between(d) {
-        d = enter(log, d);
+    while is_between(c) {
+        c = enter(log, c);
     }
-    d
+    c
 }
 
+#[tactic(auto, using(crate::proofs::Begin::begins))]
 pub fn first(log: &[u8], chain: Chain) -> Cursor
     requires { chain ≡ chain_of log.now }
     ensures { Begins log.now result }
@@ -120,6 +114,7 @@ pub fn first(log: &[u8], chain: Chain) -> Cursor
 }
 
 // Past the page at hand.
+#[tactic(auto, using(crate::proofs::Steps::pasts))]
 pub fn next(log: &[u8], c: Cursor) -> Cursor
     requires { (0 < c.pages) × Stands log.now c }
     ensures { Moves log.now c result }
@@ -127,14 +122,10 @@ pub fn next(log: &[u8], c: Cursor) -> Cursor
     settle(
         log,
         Cursor {
-            at: c.at,
-            index: c.index,
-            refs: c.refs,
-            end: c.end,
-            left: c.left,
             page: c.page + 1,
             place: c.place + 512,
             pages: c.pages - 1,
+            ..c
         },
     )
 }

@@ -8,7 +8,6 @@ use lib.Dec.{eqb}
 use lib.ListN.{get_or}
 use borrow.Author.Tests.{eqb-true}
 use Rattle.fields.specs.declared.Fault.TheVariants.{LogBase}
-use Rattle.fields.specs.declared.Verdict.TheVariants.{Sound}
 use Rattle.fields.specs.Number.{u16_at, u32_at, u64_at}
 use Rattle.fields.specs.Bytes.{same_bytes, stands_at}
 use Rattle.fields.specs.Faults.{flaw, nowhere, ◌next◌}
@@ -27,6 +26,7 @@ use Rattle.old_log.specs.Layout as layout
 use Rattle.logs.specs.Logs.{is_new, log_fault, log_bins, is_logged, logged_count, versions_of, logged, applies}
 use Rattle.logs.specs.Small.{later, hive}
 use Rattle.logs.proofs.Formats.{new-fault, new-bins, new_is, new-count, new-last, new-applies}
+use Rattle.std.specs.Prelude.{Ok}
 
 -- ---- computed
 
@@ -69,7 +69,7 @@ second-byte = refl
 
 -- ---- so it is a log of the hive
 
-pub later-sound : log_fault later ≡ Sound
+pub later-sound : log_fault later ≡ Ok tt
 unfolding new-tests.log_fault later
 later-sound =
     new-fault later later-new

@@ -7,13 +7,11 @@ use mathlib.Core.Logic.{◌⊎◌, inl, inr}
 use mathlib.Core.Bool.{true}
 use mathlib.Core.List.{List}
 use lib.ListN.{get_or}
-use Rattle.fields.specs.declared.Verdict.TheVariants.{Sound}
 use Rattle.fields.specs.Number.{u16_at, u32_at, u64_at}
 use Rattle.fields.specs.Bytes.{same_bytes, stands_at}
 use Rattle.fields.specs.Faults.{◌next◌}
 use Rattle.fields.proofs.Bools.{never}
 use Rattle.base.specs.Block.{xors, as_stored, stored_checksum, is_version, is_bins_size, usable, block_fault}
-use Rattle.bitmap.specs.declared.Next.TheVariants.{At, Nothing}
 use Rattle.bitmap.specs.Bits.{bits_before, next_among}
 use Rattle.sectors.specs.Sector.{page}
 use Rattle.old_log.specs.Layout as layout
@@ -21,13 +19,14 @@ use Rattle.old_log.specs.Tests as tests
 use Rattle.logs.specs.Logs.{is_new, log_fault, log_bins, is_logged, logged_count, next_logged, logged, applies}
 use Rattle.logs.specs.Small.{head, log, hive}
 use Rattle.logs.proofs.Laws.{next-least, next-none}
+use Rattle.std.specs.Prelude.{None, Ok, Some}
 
 abbrev l : List ℕ
 l = log 512
 
 -- ---- computed
 
-pub small-sound : log_fault l ≡ Sound
+pub small-sound : log_fault l ≡ Ok tt
 unfolding is_new log_fault log head tests.log_fault tests.head_fault tests.is_log_base layout.bitmap usable block_fault is_version is_bins_size stored_checksum as_stored xors u32_at u16_at stands_at same_bytes bits_before ◌next◌
 small-sound = refl
 
@@ -43,15 +42,15 @@ pub small-applies : applies hive l ≡ true
 unfolding is_new applies hive log head tests.stamps_agree layout.logged layout.bitmap page usable block_fault ◌next◌ is_version is_bins_size stored_checksum as_stored xors u64_at u32_at u16_at stands_at same_bytes bits_before
 small-applies = refl
 
-pub small-first : next_logged l 0 ≡ At 0
+pub small-first : next_logged l 0 ≡ Some 0
 unfolding is_new next_logged log head layout.bitmap next_among u32_at u16_at
 small-first = refl
 
-pub small-second : next_logged l 1 ≡ At 15
+pub small-second : next_logged l 1 ≡ Some 15
 unfolding is_new next_logged log head layout.bitmap next_among u32_at u16_at
 small-second = refl
 
-pub small-end : next_logged l 16 ≡ Nothing
+pub small-end : next_logged l 16 ≡ None
 unfolding is_new next_logged log head layout.bitmap next_among u32_at u16_at
 small-end = refl
 

@@ -1,11 +1,8 @@
 -- What the repair asks of a log l, whatever its format: its own tests, its pages and their versions, what it says of a hive h, and the closing sector. The
 -- crates above know these names and no format.
-use Rattle.std.specs.Prelude.{ℕ, ◌/◌, Bool, cond, ◌&&◌, List, eqb, leb, length}
-use Rattle.fields.specs.declared.Verdict.{Verdict}
-use Rattle.fields.specs.declared.Verdict.TheVariants as verdict
+use Rattle.std.specs.Prelude.{ℕ, ◌/◌, Bool, cond, ◌&&◌, List, eqb, leb, length, Err, Ok, Option, Result}
 use Rattle.fields.specs.Number.{u32_at}
 use Rattle.base.specs.Block.{sector, type_of}
-use Rattle.bitmap.specs.declared.Next.{Next}
 use Rattle.sectors.specs.Logged.{in_below, put_below}
 use Rattle.log_entries.specs.Entries.{chain_of}
 use Rattle.log_versions.specs.Versions as versions
@@ -14,12 +11,10 @@ use Rattle.new_log.specs.Tests as new-tests
 use Rattle.old_log.specs.Layout as layout
 use Rattle.old_log.specs.Tests as tests
 use Rattle.logs.specs.declared.Facts.{Facts}
-use Rattle.logs.specs.declared.Head.{Head}
-use Rattle.logs.specs.declared.Head.TheVariants as head
 use Rattle.logs.specs.declared.LogFormat.{LogFormat}
 use Rattle.logs.specs.declared.LogFormat.TheVariants.{Old, New}
-use Rattle.logs.specs.declared.Tested.{Tested}
-use Rattle.logs.specs.declared.Tested.TheVariants.{Logged, Flawed}
+use Rattle.fields.specs.Faults.{Verdict}
+use Rattle.fields.specs.declared.Flaw.{Flaw}
 
 -- whether it is a log of Windows 8.1 and later, "file type 6"; any other is read as an old one
 unfoldable pub is_new : List ℕ → Bool
@@ -36,9 +31,9 @@ unfoldable pub head_fault : List ℕ → Verdict
 head_fault l = cond (is_new l) (new-tests.log_fault l) (tests.head_fault l)
 
 -- these tests give its flaw, or what was read
-abbrev pub headed : Verdict → LogFormat → Head
-headed verdict.Sound r = head.Good r
-headed (verdict.Flawed f) r = head.Flawed f
+abbrev pub headed : Verdict → LogFormat → Result LogFormat Flaw
+headed (Ok tt) r = Ok r
+headed (Err f) r = Err f
 
 -- and all of them: "[..]; 22 for the pages"
 unfoldable pub log_fault : List ℕ → Verdict
@@ -62,7 +57,7 @@ unfoldable pub logged_count : List ℕ → ℕ
 logged_count l = cond (is_new l) (new-layout.logged_count l) (layout.logged_count l)
 
 -- the least logged page at or after a number
-unfoldable pub next_logged : List ℕ → ℕ → Next
+unfoldable pub next_logged : List ℕ → ℕ → Option ℕ
 next_logged l from = cond (is_new l) (new-layout.next_logged l from) (layout.next_logged l from)
 
 -- the versions of page p that the log has, the oldest first
@@ -85,9 +80,9 @@ unfoldable pub counted_of : List ℕ → ℕ
 counted_of l = cond (is_new l) 0 (layout.logged_count l)
 
 -- all tests give its flaw, or what was read and what they counted
-abbrev pub tested : Verdict → LogFormat → ℕ → Tested
-tested verdict.Sound r n = Logged r n
-tested (verdict.Flawed f) r n = Flawed f
+abbrev pub tested : Verdict → LogFormat → ℕ → Result (LogFormat × ℕ) Flaw
+tested (Ok tt) r n = Ok (r, n)
+tested (Err f) r n = Err f
 
 -- what it says of itself: how many entries count, the first and the last number, where the last entry ends, and the bins size that 24 reads
 abbrev pub facts_in : LogFormat → ℕ → ℕ → Facts

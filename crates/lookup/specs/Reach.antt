@@ -2,13 +2,13 @@
 use Rattle.std.specs.Prelude.{ℕ, ◌<◌, ◌≡◌, List, ◌∷◌, length, get_or}
 use Rattle.fields.specs.declared.Offset.{Offset}
 use Rattle.fields.specs.Faults.{nowhere}
-use Rattle.names.specs.declared.Order.TheVariants.{Same}
 use Rattle.names.specs.Comparison.{compare}
 use Rattle.records.specs.Keys.{codes_of}
 use Rattle.values.specs.Records.{value_of}
+use Rattle.std.specs.declared.cmp.Ordering.TheVariants.{Equal}
 
 abbrev pub HasName : List ℕ → ℕ → List ℕ → Offset → Type 0
-HasName d minor x v = compare (codes_of d (value_of d minor v).name) x ≡ Same
+HasName d minor x v = compare (codes_of d (value_of d minor v).name) x ≡ Equal
 
 -- the first of some values that has a name
 pub data FirstNamed (d : List ℕ) (minor : ℕ) (x : List ℕ) : List Offset → Offset → Type 0 where

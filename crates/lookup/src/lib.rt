@@ -1,8 +1,7 @@
 // A value's data: info, view and copy, below the key of a path. There is no work map: an offset names a cell by the cell's own header.
 #![tactic(auto)]
 
-ghost use Rattle.std.specs.Prelude.{◌≡◌, [], ◌+◌, length};
-ghost use Rattle.fields.specs.declared.Verdict.TheVariants.{Sound};
+ghost use Rattle.std.specs.Prelude.{◌≡◌, [], ◌+◌, length, Ok};
 ghost use Rattle.base.specs.Block.{bins_data, base_fault};
 ghost use Rattle.cells.specs.declared.Rule.TheVariants.{Header};
 ghost use Rattle.values.specs.Entries.{entries_of};
@@ -18,94 +17,73 @@ ghost use Rattle.fields.specs.Faults.{flaw, nowhere, refusal_of};
 ghost use Rattle.lookup.specs.Answers.{in_key, value_look_by, info_of, view_fault, viewed_fault, info_where, info_by, info_answer, quick_info, view_by, view_answer, quick_view, view_start_by, view_start, quick_view_start, view_bytes_by, view_bytes, quick_view_bytes, copied_to, copy_by, copy_answer, quick_copy, written, copy_out_by, copy_out, quick_out};
 
 use cells::Rule;
-use fields::{Fault, Flaw, Offset, Place, Refusal, Verdict};
-use paths::{KeyFound, Way};
-use records::{Key, Keyed};
-use search::{How, Look};
-use values::{Entered, Entries, Value, ValueData, Valued};
+use fields::{Fault, Flaw, Offset, Place, Refusal};
+use paths::Way;
+use records::Key;
+use search::How;
+use values::{Entries, Value, ValueData};
 
 // One value, against a name, which is compared in place.
-fn value_named(bins: &[u8], minor: u32, name: &[u16], v: Offset) -> Look
+#[tactic(auto, unfolding(crate::specs::Search::value_named), using(crate::proofs::Value_searches::value_ways))]
+fn value_named(bins: &[u8], minor: u32, name: &[u16], v: Offset) -> Result<Option<Offset>, Flaw>
     ensures { result ≡ value_named bins.now minor name.now v }
 {
-    match values::value_at(bins, b"", Rule::Header, minor, v) {
-        Valued::Flawed(f) => Look::Flawed(f),
-        Valued::Whole(x) => {
-            let stored = x.name;
-            if records::is_called(bins, stored, name) {
-                Look::Found(v)
-            } else {
-                Look::Missing
-            }
-        }
-    }
+    let x = values::value_at(bins, b"", Rule::Header, minor, v)?;
+    Ok(records::is_called(bins, x.name, name).then_some(v))
 }
 
 // The values of a list, in order, up to the first match.
-fn search_values(bins: &[u8], minor: u32, name: &[u16], e: Entries) -> Look
+#[tactic(auto, using(crate::proofs::Value_searches::turn_ways))]
+fn search_values(bins: &[u8], minor: u32, name: &[u16], e: Entries) -> Result<Option<Offset>, Flaw>
     requires { Room bins.now e }
     ensures { result ≡ search_values bins.now minor name.now (entries_of bins.now e) }
 {
-    let count = e.count;
-    let mut n: usize = 0;
-    while n < count {
+    for n in 0..e.count {
         let v = values::entry(bins, e, n);
-        match value_named(bins, minor, name, v) {
-            Look::Missing => {}
-            Look::Found(o) => {
-                return Look::Found(o);
-            }
-            Look::Flawed(f) => {
-                return Look::Flawed(f);
-            }
+        if let Some(o) = value_named(bins, minor, name, v)? {
+            return Ok(Some(o));
         }
-        n += 1;
     }
-    Look::Missing
+    Ok(None)
 }
 
 // The first value of a key that has the name.
-fn lookup_value(bins: &[u8], minor: u32, name: &[u16], k: Key) -> Look
+#[tactic(auto, using(crate::proofs::Value_searches::list_ways))]
+fn lookup_value(bins: &[u8], minor: u32, name: &[u16], k: Key) -> Result<Option<Offset>, Flaw>
     ensures { result ≡ lookup_value bins.now minor name.now k }
 {
-    match values::value_list(bins, b"", Rule::Header, k) {
-        Entered::Flawed(f) => Look::Flawed(f),
-        Entered::Whole(e) => search_values(bins, minor, name, e),
-    }
+    let e = values::value_list(bins, b"", Rule::Header, k)?;
+    search_values(bins, minor, name, e)
 }
 
-// Where the search for a value ends: at its key and itself, at a key that has no value of the name, or with a refusal.
+// Where the search for a value ends: at its key and itself, or at a key that has no value of the name.
 #[derive(Clone, Copy)]
 pub enum Spot {
     Found(Offset, Offset),
     Missing(Offset),
-    Refused(Refusal),
 }
 
 // A search among the values of a key is made on behalf of that key.
-fn in_key(key: Offset, l: Look) -> Spot
+fn in_key(key: Offset, l: Result<Option<Offset>, Flaw>) -> Result<Spot, Refusal>
     ensures { result ≡ in_key key l }
 {
-    match l {
-        Look::Found(v) => Spot::Found(key, v),
-        Look::Missing => Spot::Missing(key),
-        Look::Flawed(f) => Spot::Refused(fields::refused(key, f)),
-    }
+    Ok(match l.map_err(|f| fields::refused(key, f))? {
+        Some(v) => Spot::Found(key, v),
+        None => Spot::Missing(key),
+    })
 }
 
 // The value of a name, of the key of a path in a hive.
-fn value_look(hive: &[u8], path: &[u16], name: &[u16], how: How) -> Spot
+#[tactic(auto, using(crate::proofs::Value_searches::look_ways))]
+fn value_look(hive: &[u8], path: &[u16], name: &[u16], how: How) -> Result<Spot, Refusal>
     ensures { result ≡ value_look_by how hive.now path.now name.now }
 {
-    match paths::key_look(hive, path, how) {
-        Way::Refused(r) => Spot::Refused(r),
-        Way::Missing(key) => Spot::Refused(fields::refused(
+    match paths::key_look(hive, path, how)? {
+        Way::Missing(key) => Err(Refusal {
+            fault: Fault::NoKey,
+            place: Offset(0),
             key,
-            Flaw {
-                fault: Fault::NoKey,
-                place: Offset(0),
-            },
-        )),
+        }),
         Way::Found(o) => {
             let bins = base::bins_of(hive);
             let k = records::key_fields(bins, o);
@@ -123,143 +101,127 @@ pub struct Info {
     pub len: usize,
 }
 
+#[tactic(auto, unfolding(crate::specs::Answers::info_of, crate::specs::Answers::place_in), using(crate::proofs::Value_answers::part_ways))]
 fn info_of(x: Value) -> Info
     ensures { result ≡ info_of x }
 {
-    let content = x.content;
-    let p = values::part_of(content);
+    let p = values::part_of(x.content);
     Info {
         kind: x.kind,
-        content,
+        content: x.content,
         at: cells::part_place(p.cell, p.at, p.len),
         len: p.len,
     }
 }
 
-#[derive(Clone, Copy)]
-pub enum ValueFound {
-    At(Info),
-    Refused(Refusal),
-}
-
 // A value whose data have passed their tests, or the data's own 11 or 12.
-fn info_where(bins: &[u8], key: Offset, x: Value) -> ValueFound
+fn info_where(bins: &[u8], key: Offset, x: Value) -> Result<Info, Refusal>
     ensures { result ≡ info_where key (data_fault Header bins.now [] x.content) (info_of x) }
 {
-    let content = x.content;
-    match values::data_flaw(bins, b"", Rule::Header, content) {
-        Verdict::Flawed(f) => ValueFound::Refused(fields::refused(key, f)),
-        Verdict::Sound => ValueFound::At(info_of(x)),
-    }
+    values::data_flaw(bins, b"", Rule::Header, x.content).map_err(|f| fields::refused(key, f))?;
+    Ok(info_of(x))
 }
 
 // The value at an offset: its record, then its data, in the examination of a key.
-pub fn whole_info(bins: &[u8], minor: u32, key: Offset, v: Offset) -> ValueFound
+#[tactic(auto, using(crate::proofs::Value_answers::where_ways))]
+pub fn whole_info(bins: &[u8], minor: u32, key: Offset, v: Offset) -> Result<Info, Refusal>
     ensures { result ≡ info_where key (whole_value_fault Header bins.now [] minor v) (info_of (value_of bins.now minor v)) }
 {
-    match values::value_at(bins, b"", Rule::Header, minor, v) {
-        Valued::Flawed(f) => ValueFound::Refused(fields::refused(key, f)),
-        Valued::Whole(x) => info_where(bins, key, x),
-    }
+    let read = values::value_at(bins, b"", Rule::Header, minor, v);
+    let x = read.map_err(|f| fields::refused(key, f))?;
+    info_where(bins, key, x)
 }
 
 // "19: view asked of segmented data"
-fn view_flaw(v: Offset, x: ValueData) -> Verdict
+#[tactic(auto, unfolding(crate::specs::Answers::view_fault))]
+fn view_flaw(v: Offset, x: ValueData) -> Result<(), Flaw>
     ensures { result ≡ view_fault v x }
 {
     match x {
-        ValueData::Inline { cell: _, len: _ } => Verdict::Sound,
-        ValueData::OneCell { cell: _, len: _ } => Verdict::Sound,
-        ValueData::Segments { cell: _, len: _ } => fields::flawed(Fault::Segmented, v),
+        ValueData::Inline { .. } | ValueData::OneCell { .. } => Ok(()),
+        ValueData::Segments { .. } => fields::flawed(Fault::Segmented, v),
     }
 }
 
 // The same for a view: 19 before any data cell is read.
-fn view_at(bins: &[u8], minor: u32, key: Offset, v: Offset) -> ValueFound
+#[tactic(auto, using(crate::proofs::Value_answers::where_ways))]
+fn view_at(bins: &[u8], minor: u32, key: Offset, v: Offset) -> Result<Info, Refusal>
     ensures { result ≡ info_where key (viewed_fault bins.now minor v) (info_of (value_of bins.now minor v)) }
 {
-    match values::value_at(bins, b"", Rule::Header, minor, v) {
-        Valued::Flawed(f) => ValueFound::Refused(fields::refused(key, f)),
-        Valued::Whole(x) => {
-            let content = x.content;
-            match view_flaw(v, content) {
-                Verdict::Flawed(f) => ValueFound::Refused(fields::refused(key, f)),
-                Verdict::Sound => info_where(bins, key, x),
-            }
-        }
-    }
+    let read = values::value_at(bins, b"", Rule::Header, minor, v);
+    let x = read.map_err(|f| fields::refused(key, f))?;
+    view_flaw(v, x.content).map_err(|f| fields::refused(key, f))?;
+    info_where(bins, key, x)
 }
 
 // "18: no such value", with the key that has none.
 fn no_value(key: Offset) -> Refusal
     ensures { result ≡ refusal_of key (flaw NoValue nowhere) }
 {
-    fields::refused(
+    Refusal {
+        fault: Fault::NoValue,
+        place: Offset(0),
         key,
-        Flaw {
-            fault: Fault::NoValue,
-            place: Offset(0),
-        },
-    )
+    }
 }
 
-fn info_by(hive: &[u8], path: &[u16], name: &[u16], how: How) -> ValueFound
+#[tactic(auto, using(crate::proofs::Value_answers::found_ways))]
+fn info_by(hive: &[u8], path: &[u16], name: &[u16], how: How) -> Result<Info, Refusal>
     ensures { result ≡ info_by how hive.now path.now name.now }
 {
-    match value_look(hive, path, name, how) {
+    match value_look(hive, path, name, how)? {
         Spot::Found(key, v) => whole_info(base::bins_of(hive), base::minor_of(hive), key, v),
-        Spot::Missing(key) => ValueFound::Refused(no_value(key)),
-        Spot::Refused(r) => ValueFound::Refused(r),
+        Spot::Missing(key) => Err(no_value(key)),
     }
 }
 
 // The facts of a value, for all three cases of data.
-pub fn value_info(hive: &[u8], path: &[u16], name: &[u16]) -> ValueFound
+pub fn value_info(hive: &[u8], path: &[u16], name: &[u16]) -> Result<Info, Refusal>
     ensures { result ≡ info_answer hive.now path.now name.now }
 {
     info_by(hive, path, name, How::InTurn)
 }
 
 // The same, its key searched by halves.
-pub fn quick_info(hive: &[u8], path: &[u16], name: &[u16]) -> ValueFound
+pub fn quick_info(hive: &[u8], path: &[u16], name: &[u16]) -> Result<Info, Refusal>
     ensures { result ≡ quick_info hive.now path.now name.now }
 {
     info_by(hive, path, name, How::Halving)
 }
 
-fn viewed_by(hive: &[u8], path: &[u16], name: &[u16], how: How) -> ValueFound
+#[tactic(auto, using(crate::proofs::Value_answers::found_ways))]
+fn viewed_by(hive: &[u8], path: &[u16], name: &[u16], how: How) -> Result<Info, Refusal>
     ensures { result ≡ view_by how hive.now path.now name.now }
 {
-    match value_look(hive, path, name, how) {
+    match value_look(hive, path, name, how)? {
         Spot::Found(key, v) => view_at(base::bins_of(hive), base::minor_of(hive), key, v),
-        Spot::Missing(key) => ValueFound::Refused(no_value(key)),
-        Spot::Refused(r) => ValueFound::Refused(r),
+        Spot::Missing(key) => Err(no_value(key)),
     }
 }
 
 // The view's sister: the same facts, or the number of the view's refusal.
-pub fn view_info(hive: &[u8], path: &[u16], name: &[u16]) -> ValueFound
+pub fn view_info(hive: &[u8], path: &[u16], name: &[u16]) -> Result<Info, Refusal>
     ensures { result ≡ view_answer hive.now path.now name.now }
 {
     viewed_by(hive, path, name, How::InTurn)
 }
 
-pub fn quick_view_info(hive: &[u8], path: &[u16], name: &[u16]) -> ValueFound
+pub fn quick_view_info(hive: &[u8], path: &[u16], name: &[u16]) -> Result<Info, Refusal>
     ensures { result ≡ quick_view hive.now path.now name.now }
 {
     viewed_by(hive, path, name, How::Halving)
 }
 
+#[tactic(auto, using(crate::proofs::Answered::view_ways))]
 fn view_by<'a>(hive: &'a [u8], path: &[u16], name: &[u16], how: How) -> &'a [u8]
     ensures result_value { result.now ≡ view_bytes_by how hive.now path.now name.now }
     ensures ref_ptr_value { result.ref_ptr ≡ (hive.entry.ref_ptr.0, view_start_by how hive.now path.now name.now + hive.entry.ref_ptr.1) }
 {
     match viewed_by(hive, path, name, how) {
-        ValueFound::Refused(_) => &hive[0..0],
-        ValueFound::At(i) => {
+        Err(_) => &hive[0..0],
+        Ok(i) => {
             let at = i.at.0;
-            let end = at + i.len;
-            &hive[at..end]
+            &hive[at..at + i.len]
         }
     }
 }
@@ -279,60 +241,54 @@ pub fn quick_view<'a>(hive: &'a [u8], path: &[u16], name: &[u16]) -> &'a [u8]
     view_by(hive, path, name, How::Halving)
 }
 
-#[derive(Clone, Copy)]
-pub enum Copied {
-    Done(usize),
-    Refused(Refusal),
-}
-
 // The data that were told, which lie in the hive: "a copy checks all segments, then 20, and writes only the data's length"
-pub fn copy_info(hive: &[u8], key: Offset, i: Info, out: &mut [u8]) -> Copied
-    requires hive_value { base_fault hive.now ≡ Sound }
+pub fn copy_info(hive: &[u8], key: Offset, i: Info, out: &mut [u8]) -> Result<usize, Refusal>
+    requires hive_value { base_fault hive.now ≡ Ok tt }
     requires lies { Lies (bins_data hive.now) i.content }
     requires len_value { i.len ≡ length_of i.content }
-    ensures value { result ≡ copied_to key (length out.old) (ValueFound.At i) }
-    ensures out_after { out.new ≡ written (bins_data hive.now) out.old (ValueFound.At i) }
+    ensures value { result ≡ copied_to key (length out.old) (Ok i) }
+    ensures out_after { out.new ≡ written (bins_data hive.now) out.old (Ok i) }
 {
-    let len = i.len;
-    if out.len() < len {
-        return Copied::Refused(fields::refused(
+    if out.len() < i.len {
+        return Err(Refusal {
+            fault: Fault::OutputShort,
+            place: Offset(0),
             key,
-            Flaw {
-                fault: Fault::OutputShort,
-                place: Offset(0),
-            },
-        ));
+        });
     }
-    let content = i.content;
-    values::copy_data(base::bins_of(hive), content, out);
-    Copied::Done(len)
+    values::copy_data(base::bins_of(hive), i.content, out);
+    Ok(i.len)
 }
 
-fn copy_by(hive: &[u8], path: &[u16], name: &[u16], out: &mut [u8], how: How) -> Copied
+#[tactic(auto, using(crate::proofs::Value_answers::found_ways, crate::proofs::Answered::copy_ways))]
+fn copy_by(
+    hive: &[u8],
+    path: &[u16],
+    name: &[u16],
+    out: &mut [u8],
+    how: How,
+) -> Result<usize, Refusal>
     ensures value { result ≡ copy_by how hive.now path.now name.now (length out.old) }
     ensures out_after { out.new ≡ copy_out_by how hive.now path.now name.now out.old }
 {
-    match value_look(hive, path, name, how) {
-        Spot::Missing(key) => Copied::Refused(no_value(key)),
-        Spot::Refused(r) => Copied::Refused(r),
+    match value_look(hive, path, name, how)? {
         Spot::Found(key, v) => {
-            match whole_info(base::bins_of(hive), base::minor_of(hive), key, v) {
-                ValueFound::Refused(r) => Copied::Refused(r),
-                ValueFound::At(i) => copy_info(hive, key, i, out),
-            }
+            let i = whole_info(base::bins_of(hive), base::minor_of(hive), key, v)?;
+            copy_info(hive, key, i, out)
         }
+        Spot::Missing(key) => Err(no_value(key)),
     }
 }
 
 // The first value of that name, copied.
-pub fn value_copy(hive: &[u8], path: &[u16], name: &[u16], out: &mut [u8]) -> Copied
+pub fn value_copy(hive: &[u8], path: &[u16], name: &[u16], out: &mut [u8]) -> Result<usize, Refusal>
     ensures value { result ≡ copy_answer hive.now path.now name.now (length out.old) }
     ensures out_after { out.new ≡ copy_out hive.now path.now name.now out.old }
 {
     copy_by(hive, path, name, out, How::InTurn)
 }
 
-pub fn quick_copy(hive: &[u8], path: &[u16], name: &[u16], out: &mut [u8]) -> Copied
+pub fn quick_copy(hive: &[u8], path: &[u16], name: &[u16], out: &mut [u8]) -> Result<usize, Refusal>
     ensures value { result ≡ quick_copy hive.now path.now name.now (length out.old) }
     ensures out_after { out.new ≡ quick_out hive.now path.now name.now out.old }
 {
@@ -340,52 +296,43 @@ pub fn quick_copy(hive: &[u8], path: &[u16], name: &[u16], out: &mut [u8]) -> Co
 }
 
 // One step of a path: the child of the key at an offset by its name.
-pub fn child_of(hive: &[u8], key: Offset, name: &[u16]) -> KeyFound
+pub fn child_of(hive: &[u8], key: Offset, name: &[u16]) -> Result<Offset, Refusal>
     ensures { result ≡ child_answer hive.now key name.now }
 {
     paths::child_by(hive, key, name, How::InTurn)
 }
 
 // The same by halves.
-pub fn quick_child_of(hive: &[u8], key: Offset, name: &[u16]) -> KeyFound
+pub fn quick_child_of(hive: &[u8], key: Offset, name: &[u16]) -> Result<Offset, Refusal>
     ensures { result ≡ quick_child hive.now key name.now }
 {
     paths::child_by(hive, key, name, How::Halving)
 }
 
 // The given key's own record is tested before it is under examination.
-fn spot_in(bins: &[u8], minor: u32, key: Offset, name: &[u16]) -> Spot
+#[tactic(auto, using(crate::proofs::Spots::spot_ways))]
+fn spot_in(bins: &[u8], minor: u32, key: Offset, name: &[u16]) -> Result<Spot, Refusal>
     ensures { result ≡ spot_in bins.now minor key name.now }
 {
-    match records::key_at(bins, b"", Rule::Header, key) {
-        Keyed::Flawed(f) => Spot::Refused(fields::refused(Offset(fields::NO_KEY), f)),
-        Keyed::Whole(k) => in_key(key, lookup_value(bins, minor, name, k)),
-    }
+    let k = records::key_at(bins, b"", Rule::Header, key)?;
+    in_key(key, lookup_value(bins, minor, name, k))
 }
 
-fn spot_of(hive: &[u8], key: Offset, name: &[u16]) -> Spot
+#[tactic(auto, using(crate::proofs::Spots::spot_ways))]
+fn spot_of(hive: &[u8], key: Offset, name: &[u16]) -> Result<Spot, Refusal>
     ensures { result ≡ spot_of hive.now key name.now }
 {
-    match base::base_flaw(hive) {
-        Verdict::Flawed(f) => Spot::Refused(fields::refused(Offset(fields::NO_KEY), f)),
-        Verdict::Sound => spot_in(base::bins_of(hive), base::minor_of(hive), key, name),
-    }
-}
-
-// A value by its offset.
-#[derive(Clone, Copy)]
-pub enum Spotted {
-    At(Offset),
-    Refused(Refusal),
+    base::base_flaw(hive)?;
+    spot_in(base::bins_of(hive), base::minor_of(hive), key, name)
 }
 
 // The first value of that name of the key at an offset.
-pub fn value_of(hive: &[u8], key: Offset, name: &[u16]) -> Spotted
+#[tactic(auto, unfolding(crate::specs::Spots::spot_answer))]
+pub fn value_of(hive: &[u8], key: Offset, name: &[u16]) -> Result<Offset, Refusal>
     ensures { result ≡ spot_answer hive.now key name.now }
 {
-    match spot_of(hive, key, name) {
-        Spot::Found(_, v) => Spotted::At(v),
-        Spot::Missing(k) => Spotted::Refused(no_value(k)),
-        Spot::Refused(r) => Spotted::Refused(r),
+    match spot_of(hive, key, name)? {
+        Spot::Found(_, v) => Ok(v),
+        Spot::Missing(k) => Err(no_value(k)),
     }
 }

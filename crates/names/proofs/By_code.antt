@@ -6,9 +6,9 @@ use mathlib.Core.Bool.{Bool, true, false}
 use mathlib.Core.List.{List, [], ◌∷◌}
 use lib.Dec.{ltb}
 use borrow.Author.Tests.{lt-ltb, le-ltb, ltb-true, ltb-false}
-use Rattle.names.specs.declared.Order.{Order}
-use Rattle.names.specs.declared.Order.TheVariants.{Before, Same, After}
 use Rattle.names.specs.Comparison.{by_code}
+use Rattle.std.specs.declared.cmp.Ordering.{Ordering}
+use Rattle.std.specs.declared.cmp.Ordering.TheVariants.{Equal, Greater, Less}
 
 -- two numbers are below, above or equal
 pub by_order : {P : Type 0} (x y : ℕ) → (x < y → P) → (y < x → P) → (x ≡ y → P) → P
@@ -20,25 +20,25 @@ by_order {P} x y lt gt eq = pick (ltb x y) (ltb y x) refl refl
     pick false false e f = let a = ltb-false x y e in let b = ltb-false y x f in eq (omega arith)
 
 -- the three answers are apart
-pub same-before : {P : Type 0} → Same ≡ Before → P
+pub same-before : {P : Type 0} → Equal ≡ Less → P
 same-before e = let z : ◌≡◌ {A = ℕ} 0 1 = cc in absurd (omega arith)
 
-after-before : {P : Type 0} → After ≡ Before → P
+after-before : {P : Type 0} → Greater ≡ Less → P
 after-before e = let z : ◌≡◌ {A = ℕ} 0 1 = cc in absurd (omega arith)
 
-before_same : {P : Type 0} → Before ≡ Same → P
+before_same : {P : Type 0} → Less ≡ Equal → P
 before_same e = same-before (sym e)
 
-after_same : {P : Type 0} → After ≡ Same → P
+after_same : {P : Type 0} → Greater ≡ Equal → P
 after_same e = let z : ◌≡◌ {A = ℕ} 0 1 = cc in absurd (omega arith)
 
 -- one turn, at the first two codes
 module _ (x y : ℕ) (xs ys : List ℕ) where
-  pub below : x < y → by_code (x ∷ xs) (y ∷ ys) ≡ Before
+  pub below : x < y → by_code (x ∷ xs) (y ∷ ys) ≡ Less
   unfolding by_code
   below h = rw (lt-ltb x y h)
 
-  pub above : y < x → by_code (x ∷ xs) (y ∷ ys) ≡ After
+  pub above : y < x → by_code (x ∷ xs) (y ∷ ys) ≡ Greater
   unfolding by_code
   above h = rw (le-ltb x y (omega arith), lt-ltb y x h)
 
@@ -47,12 +47,12 @@ module _ (x y : ℕ) (xs ys : List ℕ) where
   level e = rw (le-ltb x y (omega arith), le-ltb y x (omega arith))
 
 -- the order seen from the other side
-abbrev pub turned : Order → Order
-turned Before = After
-turned Same = Same
-turned After = Before
+abbrev pub turned : Ordering → Ordering
+turned Less = Greater
+turned Equal = Equal
+turned Greater = Less
 
-pub code_same : (xs : List ℕ) → by_code xs xs ≡ Same
+pub code_same : (xs : List ℕ) → by_code xs xs ≡ Equal
 unfolding by_code
 code_same [] = refl
 code_same (x ∷ xs) = level x x xs xs refl ∙ code_same xs
@@ -68,7 +68,7 @@ code-turned (x ∷ xs) (y ∷ ys) =
     (λ h. below y x ys xs h ∙ ap turned (sym (above x y xs ys h)))
     (λ e. level y x ys xs (sym e) ∙ code-turned xs ys ∙ ap turned (sym (level x y xs ys e)))
 
-pub code-equal : (xs ys : List ℕ) → by_code xs ys ≡ Same → xs ≡ ys
+pub code-equal : (xs ys : List ℕ) → by_code xs ys ≡ Equal → xs ≡ ys
 unfolding by_code
 code-equal [] [] s = refl
 code-equal [] (y ∷ ys) s = before_same s
@@ -79,7 +79,7 @@ code-equal (x ∷ xs) (y ∷ ys) s =
     (λ h. after_same (sym (above x y xs ys h) ∙ s))
     (λ e. let t = code-equal xs ys (sym (level x y xs ys e) ∙ s) in cc)
 
-pub code-transitive : (xs ys zs : List ℕ) → by_code xs ys ≡ Before → by_code ys zs ≡ Before → by_code xs zs ≡ Before
+pub code-transitive : (xs ys zs : List ℕ) → by_code xs ys ≡ Less → by_code ys zs ≡ Less → by_code xs zs ≡ Less
 unfolding by_code
 code-transitive [] [] zs p q = same-before p
 code-transitive [] (y ∷ ys) [] p q = after-before q

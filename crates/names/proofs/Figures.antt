@@ -3,11 +3,11 @@ use Prim.Native.Nat.{ℕ}
 use mathlib.Core.Path.{◌≡◌, refl}
 use mathlib.Core.Bool.{true, false}
 use mathlib.Core.List.{List, [], ◌∷◌}
-use Rattle.names.specs.declared.Order.TheVariants.{Before, Same, After}
 use Rattle.names.specs.Codes.{codes, has_code, backslash}
 use Rattle.names.specs.Upper_case.{upper, uppers}
 use Rattle.names.specs.Comparison.{by_code, compare}
 use Rattle.names.specs.Hashing.{mixed, mixed_all, hash_of}
+use Rattle.std.specs.declared.cmp.Ordering.TheVariants.{Equal, Greater, Less}
 
 -- "child", one byte per character and as UTF-16LE
 abbrev child : List ℕ
@@ -48,54 +48,54 @@ unfolding upper
 accented-gaps = (refl, refl, refl, refl, refl, refl)
 
 -- names that differ in case only are the same
-case-only : compare child child-capitals ≡ Same
+case-only : compare child child-capitals ≡ Equal
 unfolding codes uppers upper compare by_code
 case-only = refl
 
 -- one byte per character against UTF-16LE
-mixed-same : compare child-16 child-capitals ≡ Same
+mixed-same : compare child-16 child-capitals ≡ Equal
 unfolding codes uppers upper compare by_code
 mixed-same = refl
 
 -- `ab`, one byte per character, against `aC` and `aA` as UTF-16LE
-mixed-before : compare (codes true (97 ∷ 98 ∷ [])) (codes false (97 ∷ 0 ∷ 67 ∷ 0 ∷ [])) ≡ Before
+mixed-before : compare (codes true (97 ∷ 98 ∷ [])) (codes false (97 ∷ 0 ∷ 67 ∷ 0 ∷ [])) ≡ Less
 unfolding codes uppers upper compare by_code
 mixed-before = refl
 
-mixed-after : compare (codes true (97 ∷ 98 ∷ [])) (codes false (97 ∷ 0 ∷ 65 ∷ 0 ∷ [])) ≡ After
+mixed-after : compare (codes true (97 ∷ 98 ∷ [])) (codes false (97 ∷ 0 ∷ 65 ∷ 0 ∷ [])) ≡ Greater
 unfolding codes uppers upper compare by_code
 mixed-after = refl
 
 -- a code above 255 stands after every one-byte code but 0xFF, though its low byte is 0
-wide-after : compare (codes false (0 ∷ 1 ∷ [])) (codes true (254 ∷ [])) ≡ After
+wide-after : compare (codes false (0 ∷ 1 ∷ [])) (codes true (254 ∷ [])) ≡ Greater
 unfolding codes uppers upper compare by_code
 wide-after = refl
 
 -- 0xFF stands after 0x0177, and is one name with 0x0178
-y-after : compare (codes true (255 ∷ [])) (codes false (0x77 ∷ 1 ∷ [])) ≡ After
+y-after : compare (codes true (255 ∷ [])) (codes false (0x77 ∷ 1 ∷ [])) ≡ Greater
 unfolding codes uppers upper compare by_code
 y-after = refl
 
 -- a one-byte 0xE9 and a UTF-16 0x00E9 are the same letter, and both are 0xC9
-accented-same : (compare (codes true (0xe9 ∷ [])) (codes false (0xe9 ∷ 0 ∷ [])) ≡ Same) × (compare (codes true (0xe9 ∷ [])) (codes false (0xc9 ∷ 0 ∷ [])) ≡ Same)
+accented-same : (compare (codes true (0xe9 ∷ [])) (codes false (0xe9 ∷ 0 ∷ [])) ≡ Equal) × (compare (codes true (0xe9 ∷ [])) (codes false (0xc9 ∷ 0 ∷ [])) ≡ Equal)
 unfolding codes uppers upper compare by_code
 accented-same = (refl, refl)
 
 -- "a prefix before the longer name", either way round, and the empty name before all others
-prefix-before : compare child-16 children ≡ Before
+prefix-before : compare child-16 children ≡ Less
 unfolding codes uppers upper compare by_code
 prefix-before = refl
 
-longer-after : compare children child-16 ≡ After
+longer-after : compare children child-16 ≡ Greater
 unfolding codes uppers upper compare by_code
 longer-after = refl
 
-empty-before : compare (codes false []) child ≡ Before
+empty-before : compare (codes false []) child ≡ Less
 unfolding codes uppers upper compare by_code
 empty-before = refl
 
 -- a letter is compared as its capital: "a" stands before "_", which stands between Z and a
-capital-before : compare (codes true (97 ∷ [])) (codes true (95 ∷ [])) ≡ Before
+capital-before : compare (codes true (97 ∷ [])) (codes true (95 ∷ [])) ≡ Less
 unfolding codes uppers upper compare by_code
 capital-before = refl
 

@@ -13,7 +13,7 @@ use Rattle.fields.specs.Number.{u16_at}
 use Rattle.names.specs.Codes.{codes, characters_in, has_code, backslash}
 use Rattle.names.specs.Terms.{AmongFour, some, none}
 
-narrow-length : (s : List ℕ) → length (codes true s) ≡ length s
+pub narrow-length : (s : List ℕ) → length (codes true s) ≡ length s
 unfolding codes
 narrow-length s = refl
 
@@ -115,6 +115,17 @@ module _ (k : ℕ) (cs : List ℕ) (i : ℕ) (h : i + 4 ≤ length cs) (a : get_
   pub four-passed : (j : ℕ) → j ≤ 4 → has_code k (drop i cs) ≡ has_code k (drop (i + j) cs)
   four-passed j p = all-passed k cs i j (omega arith) (λ m q. none_of m (omega arith))
 
+-- what the tests of four characters tell
+pub some-here : (cs : List ℕ) (i : ℕ) → i < length cs → get_or cs i 0 ≡ backslash → AmongFour cs i true
+some-here cs i h e = some (found backslash cs i h e)
+
+pub some-later : (cs : List ℕ) (i j : ℕ) → i + j < length cs → get_or cs (i + j) 0 ≡ backslash → AmongFour cs i true
+some-later cs i j h e = some (found-later backslash cs i j h e)
+
+pub none-here : (cs : List ℕ) (i : ℕ) → i + 4 ≤ length cs → (get_or cs i 0 ≡ backslash → ⊥) → (get_or cs (i + 1) 0 ≡ backslash → ⊥)
+    → (get_or cs (i + 2) 0 ≡ backslash → ⊥) → (get_or cs (i + 3) 0 ≡ backslash → ⊥) → AmongFour cs i false
+none-here cs i h a b c d = none (four-passed backslash cs i h a b c d)
+
 -- none stands before a position: the search may go on from any place up to it
 abbrev pub Clear : List ℕ → ℕ → Type 0
 Clear cs i = (j : ℕ) → j ≤ i → has_code backslash cs ≡ has_code backslash (drop j cs)
@@ -141,3 +152,10 @@ four-found cs i a e (none f) = absurd (let z : ◌≡◌ {A = ℕ} 0 1 = cc in o
 pub four-last : (cs : List ℕ) (i last : ℕ) → Clear cs i → last ≤ i → length cs ≤ last + 4 → {r : Bool} → AmongFour cs last r → r ≡ has_code backslash cs
 four-last cs i last a p q (some f) = sym (a last p ∙ f)
 four-last cs i last a p q (none f) = sym (a last p ∙ f 4 (omega arith) ∙ ended backslash cs (last + 4) q)
+
+-- what `has_in_turn`, `code_at` and `among_four` need
+pub ruleset searching = (found, passed, ended)
+
+pub ruleset reading = (narrow-length, wide-length, one_code, two-code)
+
+pub ruleset four = (codes-few, some-here, some-later, none-here)

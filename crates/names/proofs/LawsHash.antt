@@ -6,11 +6,11 @@ use mathlib.Core.Path.{◌≡◌, ap}
 use mathlib.Core.List.{List, [], ◌∷◌}
 use lib.ListN.{length, get_or, drop, drop_of_length-le}
 use lib.Seq.{drop-cons}
-use Rattle.names.specs.declared.Order.TheVariants.{Same}
 use Rattle.names.specs.Upper_case.{upper, uppers}
 use Rattle.names.specs.Comparison.{compare}
 use Rattle.names.specs.Hashing.{mixed, mixed_all, hash_of}
 use Rattle.names.proofs.LawsOrder.{same-uppers}
+use Rattle.std.specs.declared.cmp.Ordering.TheVariants.{Equal}
 
 pub mixed-turn : (cs : List ℕ) (h i : ℕ) → i < length cs
     → mixed_all h (uppers (drop i cs)) ≡ mixed_all (mixed h (upper (get_or cs i 0))) (uppers (drop (i + 1) cs))
@@ -21,7 +21,7 @@ pub mixed-ended : (cs : List ℕ) (h i : ℕ) → length cs ≤ i → mixed_all 
 unfolding mixed_all uppers
 mixed-ended cs h i le = rw (drop_of_length-le cs le)
 
-pub same-hash : (xs ys : List ℕ) → compare xs ys ≡ Same → hash_of xs ≡ hash_of ys
+pub same-hash : (xs ys : List ℕ) → compare xs ys ≡ Equal → hash_of xs ≡ hash_of ys
 unfolding hash_of
 same-hash xs ys s = ap (mixed_all 0) (same-uppers xs ys s)
 
@@ -34,3 +34,6 @@ mixed-fits h (c ∷ cs) p = mixed-fits ((37 * h + c) % 4294967296) cs (omega ari
 pub hash-fits : (x : List ℕ) → hash_of x < 4294967296
 unfolding hash_of
 hash-fits x = mixed-fits 0 (uppers x) (omega arith)
+
+-- what the loop of `hash` needs
+pub ruleset turns = (mixed-turn, mixed-ended)

@@ -41,3 +41,6 @@ module _ (cs : List ℕ) (hint a b c d : ℕ) (p : a ≡ get_or cs 0 0) (q : b �
       → fits_hint hint cs ≡ eqb hint (a + b * 256 + c * 65536 + d * 16777216)
   unfolding fits_hint hint_of
   hint-bytes e f = rw (wide_is e ∙ f, p, q, r, s)
+
+-- what `is_hinted` needs
+pub ruleset hints = (four_bytes, hint-wide, hint-bytes)

@@ -11,13 +11,11 @@ use borrow.Author.Tests.{ne_eqb}
 use Rattle.fields.specs.declared.Fault.TheVariants.{Namesake}
 use Rattle.fields.specs.declared.Flaw.{Flaw}
 use Rattle.fields.specs.declared.Offset.{Offset}
-use Rattle.fields.specs.declared.Verdict.TheVariants.{Sound, Flawed}
 use Rattle.fields.specs.Faults.{nowhere, flaw}
 use Rattle.fields.proofs.Bools.{never}
 use Rattle.fields.proofs.Firsts.{both}
 use Rattle.fields.proofs.Loops.{over-each}
 use Rattle.cells.specs.declared.Rule.{Rule}
-use Rattle.names.specs.declared.Order.TheVariants.{Same}
 use Rattle.names.specs.Comparison.{compare}
 use Rattle.names.proofs.By_code.{by_order}
 use Rattle.names.proofs.LawsOrder.{same-symmetric, same-transitive, name-same, same-name}
@@ -36,6 +34,8 @@ use Rattle.values.proofs.LawsValues.{name-inside}
 use Rattle.namesakes.specs.Namesakes.{value_name, are_namesakes, is_repeat, repeat_fault, namesake_fault, called_at, twins, Distinct, Earlier, Repeats}
 use Rattle.namesakes.specs.Terms.{NamesLie, called}
 use Rattle.namesakes.proofs.Positions.{repeat_at, none-repeats, one-repeats, sound-at, Stands, flawed-at, repeat-of, of-repeat}
+use Rattle.std.specs.Prelude.{Err, Ok}
+use Rattle.std.specs.declared.cmp.Ordering.TheVariants.{Equal}
 
 -- a repeat at a position, and the positions before it
 module _ (d : List ℕ) (vs : List Offset) (j : ℕ) (l : j < length vs) where
@@ -71,30 +71,30 @@ module _ (d : List ℕ) (vs : List Offset) (n r : ℕ) (is : length vs ≡ n) (f
   unfolding twins are_namesakes
   lower j l = of-clear d vs j (omega (arith, f.within)) (λ i b. f.clear i j b l)
 
-  pub first-flaw : r < n → repeat_fault d [] vs ≡ Flawed (flaw Namesake (get_or vs r nowhere))
+  pub first-flaw : r < n → repeat_fault d [] vs ≡ Err (flaw Namesake (get_or vs r nowhere))
   unfolding twins are_namesakes
   first-flaw l =
       let e = f.found l in
       one-repeats d [] vs r (omega arith) lower (of-earlier d vs r (omega arith) (record { at = e.at; before = e.before; same = e.same }))
 
-  pub first-none : n ≤ r → repeat_fault d [] vs ≡ Sound
+  pub first-none : n ≤ r → repeat_fault d [] vs ≡ Ok tt
   first-none l = none-repeats d [] vs (λ j k. lower j (omega arith))
 
 module _ (d : List ℕ) (k : Key) where
-  sound-distinct : namesake_fault d k ≡ Sound → Distinct d k
+  sound-distinct : namesake_fault d k ≡ Ok tt → Distinct d k
   unfolding namesake_fault
   sound-distinct s = record { differ = λ i j b l. clear_of d (values_of d k) j l (sound-at d [] (values_of d k) s j l) i b }
 
-  distinct-sound : Distinct d k → namesake_fault d k ≡ Sound
+  distinct-sound : Distinct d k → namesake_fault d k ≡ Ok tt
   unfolding namesake_fault
   distinct-sound x = none-repeats d [] (values_of d k) (λ j l. of-clear d (values_of d k) j l (λ i b. x.differ i j b l))
 
   -- "no two values of a key have the same name"
-  pub distinct-exactly : (namesake_fault d k ≡ Sound) ↔ Distinct d k
+  pub distinct-exactly : (namesake_fault d k ≡ Ok tt) ↔ Distinct d k
   distinct-exactly = (sound-distinct, distinct-sound)
 
   -- "new refusal 29, place: the first value with an earlier namesake"
-  pub namesake-told : {f : Flaw} → namesake_fault d k ≡ Flawed f → (v : Offset) × (f ≡ flaw Namesake v) × Repeats d k v
+  pub namesake-told : {f : Flaw} → namesake_fault d k ≡ Err f → (v : Offset) × (f ≡ flaw Namesake v) × Repeats d k v
   unfolding namesake_fault
   namesake-told {f} e = (get_or (values_of d k) s.at nowhere, s.says, is)
     where
@@ -111,7 +111,7 @@ module _ (d : List ℕ) (k : Key) where
             lowest = λ i j b l. clear_of d (values_of d k) j (omega (arith, s.inside)) (s.lowest j l) i b;
           }
 
-  pub told-namesake : {v : Offset} → Repeats d k v → namesake_fault d k ≡ Flawed (flaw Namesake v)
+  pub told-namesake : {v : Offset} → Repeats d k v → namesake_fault d k ≡ Err (flaw Namesake v)
   unfolding namesake_fault twins are_namesakes
   told-namesake x =
       let e = x.earlier in
@@ -136,16 +136,16 @@ module _ (d : List ℕ) (k : Key) where
     same-values = values_listed d k ∙ ap (entries_of d) is
 
     module _ (r : ℕ) (f : First (called d (entries_of d e)) e.count r) where
-      pub flaw-at : r < e.count → {v : Offset} → v ≡ get_or (entries_of d e) r nowhere → namesake_fault d k ≡ Flawed (flaw Namesake v)
+      pub flaw-at : r < e.count → {v : Offset} → v ≡ get_or (entries_of d e) r nowhere → namesake_fault d k ≡ Err (flaw Namesake v)
       unfolding namesake_fault
       flaw-at l at = ap (repeat_fault d []) same-values ∙ rw at (first-flaw d (entries_of d e) e.count r (entries-length d e) f l)
 
-      pub none-at : e.count ≤ r → namesake_fault d k ≡ Sound
+      pub none-at : e.count ≤ r → namesake_fault d k ≡ Ok tt
       unfolding namesake_fault
       none-at l = ap (repeat_fault d []) same-values ∙ first-none d (entries_of d e) e.count r (entries-length d e) f l
 
     -- one value, or none, repeats nothing
-    pub too_few : e.count < 2 → namesake_fault d k ≡ Sound
+    pub too_few : e.count < 2 → namesake_fault d k ≡ Ok tt
     too_few l =
         let n : e.count ≤ e.count = omega arith in
         none-at e.count
@@ -176,18 +176,18 @@ unfolding value_of fields_of
 name-is d minor v = refl
 
 -- two values that have a name are namesakes
-pub of-one-name : (d : List ℕ) (minor : ℕ) (vs : List Offset) (i j : ℕ) (x : List ℕ) → compare (codes_of d (value_of d minor (get_or vs i nowhere)).name) x ≡ Same
-    → compare (codes_of d (value_of d minor (get_or vs j nowhere)).name) x ≡ Same → twins d vs i j ≡ true
+pub of-one-name : (d : List ℕ) (minor : ℕ) (vs : List Offset) (i j : ℕ) (x : List ℕ) → compare (codes_of d (value_of d minor (get_or vs i nowhere)).name) x ≡ Equal
+    → compare (codes_of d (value_of d minor (get_or vs j nowhere)).name) x ≡ Equal → twins d vs i j ≡ true
 unfolding twins are_namesakes called_at value_of fields_of
 of-one-name d minor vs i j x p q = name-same _ _ (same-transitive _ x _ p (same-symmetric _ x q))
 
 -- "tested after that key's values have passed": then their names lie in their cells
-module _ (rule : Rule) (d m : List ℕ) (minor : ℕ) (k : Key) (s : values_fault rule d m minor k ≡ Sound) where
-  listed : value_list_fault rule d m k ≡ Sound
+module _ (rule : Rule) (d m : List ℕ) (minor : ℕ) (k : Key) (s : values_fault rule d m minor k ≡ Ok tt) where
+  listed : value_list_fault rule d m k ≡ Ok tt
   unfolding values_fault
   listed = (both _ _ s).0
 
-  each : (i : ℕ) → i < (value_entries k).count → value_fault rule d m (get_or (entries_of d (value_entries k)) i nowhere) ≡ Sound
+  each : (i : ℕ) → i < (value_entries k).count → value_fault rule d m (get_or (entries_of d (value_entries k)) i nowhere) ≡ Ok tt
   unfolding values_fault whole_value_fault
   each i l =
       let e = list-values rule d m k listed (value_entries k) refl in

@@ -9,11 +9,11 @@ use borrow.Author.Tests.{not-true}
 use Rattle.fields.specs.declared.Fault.TheVariants.{Namesake}
 use Rattle.fields.specs.declared.Flaw.{Flaw}
 use Rattle.fields.specs.declared.Offset.{Offset}
-use Rattle.fields.specs.declared.Verdict.TheVariants.{Sound, Flawed}
 use Rattle.fields.specs.Faults.{nowhere, flaw}
 use Rattle.fields.proofs.Bools.{never}
 use Rattle.fields.proofs.Firsts.{on, stop, both, held, holds, fails}
 use Rattle.namesakes.specs.Namesakes.{are_namesakes, is_repeat, repeat_fault}
+use Rattle.std.specs.Prelude.{Err, Ok}
 
 -- what was passed at a position
 unfoldable pub passed_at : List Offset → List Offset → ℕ → List Offset
@@ -26,7 +26,7 @@ module _ (d : List ℕ) where
   abbrev pub repeat_at : List Offset → List Offset → ℕ → Bool
   repeat_at passed vs j = is_repeat d (passed_at passed vs j) (get_or vs j nowhere)
 
-  pub none-repeats : (passed vs : List Offset) → ((j : ℕ) → j < length vs → repeat_at passed vs j ≡ false) → repeat_fault d passed vs ≡ Sound
+  pub none-repeats : (passed vs : List Offset) → ((j : ℕ) → j < length vs → repeat_at passed vs j ≡ false) → repeat_fault d passed vs ≡ Ok tt
   unfolding repeat_fault passed_at
   none-repeats passed [] h = refl
   none-repeats passed (v ∷ vs) h =
@@ -34,7 +34,7 @@ module _ (d : List ℕ) where
       ∙ none-repeats (v ∷ passed) vs (λ j l. h (suc j) (omega arith))
 
   pub one-repeats : (passed vs : List Offset) (j : ℕ) → j < length vs → ((i : ℕ) → i < j → repeat_at passed vs i ≡ false) → repeat_at passed vs j ≡ true
-      → repeat_fault d passed vs ≡ Flawed (flaw Namesake (get_or vs j nowhere))
+      → repeat_fault d passed vs ≡ Err (flaw Namesake (get_or vs j nowhere))
   unfolding repeat_fault passed_at
   one-repeats passed [] j l h e = absurd (omega arith)
   one-repeats passed (v ∷ vs) zero l h e = stop _ _ (fails (flaw Namesake v) (ap not e))
@@ -42,7 +42,7 @@ module _ (d : List ℕ) where
       on _ _ (holds (flaw Namesake v) (ap not (h 0 (omega arith))))
       ∙ one-repeats (v ∷ passed) vs j (omega arith) (λ i k. h (suc i) (omega arith)) e
 
-  pub sound-at : (passed vs : List Offset) → repeat_fault d passed vs ≡ Sound → (j : ℕ) → j < length vs → repeat_at passed vs j ≡ false
+  pub sound-at : (passed vs : List Offset) → repeat_fault d passed vs ≡ Ok tt → (j : ℕ) → j < length vs → repeat_at passed vs j ≡ false
   unfolding repeat_fault passed_at
   sound-at passed [] s j l = absurd (omega arith)
   sound-at passed (v ∷ vs) s zero l = not-true _ (held _ _ (both _ _ s).0)
@@ -56,7 +56,7 @@ module _ (d : List ℕ) where
     pub repeat : repeat_at passed vs at ≡ true
     pub lowest : (i : ℕ) → i < at → repeat_at passed vs i ≡ false
 
-  pub flawed-at : (passed vs : List Offset) {f : Flaw} → repeat_fault d passed vs ≡ Flawed f → Stands passed vs f
+  pub flawed-at : (passed vs : List Offset) {f : Flaw} → repeat_fault d passed vs ≡ Err f → Stands passed vs f
   unfolding repeat_fault passed_at
   flawed-at passed [] e = absurd (let z : ◌≡◌ {A = ℕ} 0 1 = cc in omega arith)
   flawed-at passed (v ∷ vs) {f} e = by (λ q. flawed-at (v ∷ passed) vs q) (is_repeat d passed v) refl
@@ -75,9 +75,9 @@ module _ (d : List ℕ) where
           low zero l = q
           low (suc i) l = s.lowest i (omega arith)
 
-      by : (repeat_fault d (v ∷ passed) vs ≡ Flawed f → Stands (v ∷ passed) vs f) → (t : Bool) → is_repeat d passed v ≡ t → Stands passed (v ∷ vs) f
+      by : (repeat_fault d (v ∷ passed) vs ≡ Err f → Stands (v ∷ passed) vs f) → (t : Bool) → is_repeat d passed v ≡ t → Stands passed (v ∷ vs) f
       by h true q =
-          let z : Flawed (flaw Namesake v) ≡ Flawed f = sym (stop _ _ (fails (flaw Namesake v) (ap not q))) ∙ e in
+          let z : Err (flaw Namesake v) ≡ Err f = sym (stop _ _ (fails (flaw Namesake v) (ap not q))) ∙ e in
           record {
             at = 0;
             inside = omega arith;

@@ -1,4 +1,6 @@
 -- A value's name, read in its cell.
+pub use Rattle.namesake_laws.proofs.Blocks.{pass-start, pass_on, pass-found, pass-end}
+pub use Rattle.namesake_laws.proofs.Scans.{take-one, take_none}
 use Prim.Native.Nat.{ℕ, ◌<◌, ◌≤◌}
 use native.Mathlib.Omega.{arith}
 use mathlib.Core.Path.{◌≡◌, sym, ap, ◌∙◌}
@@ -38,3 +40,8 @@ read_name d vs i e = ap (codes_of d) e
 pub read-compared : (d : List ℕ) (vs : List Offset) (i : ℕ) (cs : List ℕ) {x : Name} {r : Bool} → x ≡ value_name d (get_or vs i nowhere) → r ≡ same_name (codes_of d x) cs
     → same_name (called d vs i) cs ≡ r
 read-compared d vs i cs e c = sym (c ∙ ap (λ (x : List ℕ). same_name x cs) (read_name d vs i e))
+
+-- what `few` and `take_in` need
+pub ruleset passing = (pass-start, pass_on, pass-found, pass-end)
+
+pub ruleset taking = (take-one, take_none)

@@ -1,13 +1,11 @@
 -- "The check shall refuse a key that has two values with equal upper-cased names: new refusal 29, place: the first value with an earlier namesake, tested
 -- after that key's values have passed and before its lists." And of the scope, for the check: no two values of a key have the same name. Below, d is the
 -- bins data.
-use Rattle.std.specs.Prelude.{ℕ, ◌<◌, ◌≡◌, Bool, true, false, not, ◌||◌, List, [], ◌∷◌, length, get_or}
+use Rattle.std.specs.Prelude.{ℕ, ◌<◌, ◌≡◌, Bool, true, false, not, ◌||◌, List, [], ◌∷◌, length, get_or, Ok}
 use Rattle.fields.specs.declared.Fault.TheVariants.{Namesake}
 use Rattle.fields.specs.declared.Offset.{Offset}
-use Rattle.fields.specs.declared.Verdict.{Verdict}
-use Rattle.fields.specs.declared.Verdict.TheVariants.{Sound}
 use Rattle.fields.specs.Number.{u16_at}
-use Rattle.fields.specs.Faults.{nowhere, flaw, unless, ◌next◌}
+use Rattle.fields.specs.Faults.{nowhere, flaw, unless, ◌next◌, Verdict}
 use Rattle.cells.specs.Named.{data_at}
 use Rattle.names.specs.Comparison.{same_name}
 use Rattle.records.specs.declared.Key.{Key}
@@ -34,7 +32,7 @@ is_repeat d (p ∷ passed) v = are_namesakes d p v || is_repeat d passed v
 
 -- "place: the first value with an earlier namesake"
 unfoldable pub repeat_fault : List ℕ → List Offset → List Offset → Verdict
-repeat_fault d passed [] = Sound
+repeat_fault d passed [] = Ok tt
 repeat_fault d passed (v ∷ vs) = unless (not (is_repeat d passed v)) (flaw Namesake v) next repeat_fault d (v ∷ passed) vs
 
 unfoldable pub namesake_fault : List ℕ → Key → Verdict

@@ -14,7 +14,7 @@ ghost use Rattle.values.specs.Lists.{value_entries};
 ghost use Rattle.namesakes.specs.Namesakes.{value_name, namesake_fault};
 ghost use Rattle.namesakes.specs.Terms.{NamesLie, called, Ready};
 
-use fields::{Fault, Offset, Verdict};
+use fields::{Fault, Flaw, Offset};
 use records::{Key, Name};
 use values::Entries;
 
@@ -27,7 +27,7 @@ fn name_at(bins: &[u8], v: Offset) -> Name
     Name {
         cell: v,
         at: 20,
-        len: fields::u16_at(r, 2) as usize,
+        len: usize::from(fields::u16_at(r, 2)),
         narrow: values::is_narrow(r),
     }
 }
@@ -56,6 +56,7 @@ fn is_met(
     requires { Ready bins.now e s n x g keys.now older.now heads.now }
     ensures { result ≡ met_in (later (called bins.now (entries_of bins.now e)) s) n (codes_of bins.now x) }
 {
+    // A `while`, for p goes from link to link; 0 ends a chain, as `chains` has it.
     let mut p = chains::find(keys, older, heads, n, g);
     while p != 0 {
         let y = name_of(bins, e, s + (p - 1));
@@ -69,6 +70,7 @@ fn is_met(
 }
 
 // One hash more, while there is room: how many then stand in the table.
+#[tactic(auto, using(crate::proofs::Readings::taking))]
 fn take_in(keys: &mut [u32], older: &mut [u32], heads: &mut [u32], n: usize, g: u32) -> usize
     requires chained { Chained keys.old older.old heads.old n }
     requires keys_in_bounds { (length keys.old ≤ length older.old) × (length keys.old + 1 < 4294967296) }
@@ -77,9 +79,10 @@ fn take_in(keys: &mut [u32], older: &mut [u32], heads: &mut [u32], n: usize, g: 
 {
     if n < keys.len() {
         chains::insert(keys, older, heads, n, g);
-        return n + 1;
+        n + 1
+    } else {
+        n
     }
-    n
 }
 
 // One block: the values from position s on, as many as the table has room for, are taken into it. The lowest position below `best` whose value has a
@@ -98,16 +101,14 @@ fn in_block(
     requires empty { Empty keys.old older.old heads.old }
     ensures { Blocked (called bins.now (entries_of bins.now e)) s (length keys.old) best result }
 {
-    let mut j = s;
-    let mut n: usize = 0;
-    while j < best {
+    let mut n = 0;
+    for j in s..best {
         let x = name_of(bins, e, j);
         let g = records::hash_of(bins, x);
         if is_met(bins, e, s, n, x, g, keys, older, heads) {
             return j;
         }
         n = take_in(keys, older, heads, n, g);
-        j += 1;
     }
     best
 }
@@ -130,8 +131,9 @@ fn many(bins: &[u8], e: Entries) -> usize
     requires { NamesLie bins.now e }
     ensures { First (called bins.now (entries_of bins.now e)) e.count result }
 {
+    // A `while`, for each block may bring the end nearer.
     let mut best = block(bins, e, 0, e.count);
-    let mut s: usize = 4096;
+    let mut s = 4096;
     while s < best {
         best = block(bins, e, s, best);
         s += 4096;
@@ -146,58 +148,56 @@ fn is_repeat(bins: &[u8], e: Entries, j: usize) -> bool
     ensures { result ≡ met_in (called bins.now (entries_of bins.now e)) j (called bins.now (entries_of bins.now e) j) }
 {
     let x = name_of(bins, e, j);
-    let mut i: usize = 0;
-    while i < j {
-        let y = name_of(bins, e, i);
-        if records::is_namesake(bins, y, x) {
+    for i in 0..j {
+        if records::is_namesake(bins, name_of(bins, e, i), x) {
             return true;
         }
-        i += 1;
     }
     false
 }
 
 // A few values need no table.
+#[tactic(auto, using(crate::proofs::Readings::passing))]
 fn few(bins: &[u8], e: Entries) -> usize
     requires { NamesLie bins.now e }
     ensures { First (called bins.now (entries_of bins.now e)) e.count result }
 {
-    let end = e.count;
-    let mut j: usize = 0;
-    while j < end {
+    for j in 0..e.count {
         if is_repeat(bins, e, j) {
             return j;
         }
-        j += 1;
     }
-    end
+    e.count
 }
 
-// The lowest position whose value has a namesake before it, or the count.
+// The lowest position whose value has a namesake before it, or the count: no `Option`, for `First` of `namesake_laws` speaks of the count.
 fn first_repeated(bins: &[u8], e: Entries) -> usize
     requires { NamesLie bins.now e }
     ensures { First (called bins.now (entries_of bins.now e)) e.count result }
 {
     if e.count <= 16 {
-        return few(bins, e);
+        few(bins, e)
+    } else {
+        many(bins, e)
     }
-    many(bins, e)
 }
 
 // The check's stage of a key's names of values, where these have passed.
-pub fn namesake_flaw(bins: &[u8], k: Key) -> Verdict
+pub fn namesake_flaw(bins: &[u8], k: Key) -> Result<(), Flaw>
     requires { NamesLie bins.now (value_entries k) }
     ensures { result ≡ namesake_fault bins.now k }
 {
     let count = k.values as usize;
     if count < 2 {
-        return Verdict::Sound;
+        return Ok(());
     }
-    let cell = k.value_list;
-    let e = Entries { cell, count };
+    let e = Entries {
+        cell: k.value_list,
+        count,
+    };
     let j = first_repeated(bins, e);
     if j < count {
         return fields::flawed(Fault::Namesake, values::entry(bins, e, j));
     }
-    Verdict::Sound
+    Ok(())
 }

@@ -9,7 +9,6 @@ use lib.Dec.{eqb, leb}
 use lib.ListN.{length}
 use borrow.Author.Tests.{leb-true, le-leb, eqb-true, eq-eqb}
 use Rattle.fields.specs.declared.Fault.TheVariants.{LogBase, LogShort}
-use Rattle.fields.specs.declared.Verdict.TheVariants.{Sound}
 use Rattle.fields.specs.Number.{u32_at, u64_at}
 use Rattle.fields.specs.Faults.{flaw, nowhere, unless}
 use Rattle.fields.proofs.Firsts.{both, held, sound, holds}
@@ -21,11 +20,12 @@ use Rattle.log_versions.specs.Versions.{versions_of}
 use Rattle.new_log.specs.Tests.{is_empty, is_log_base, log_fault, all_stamped, applies}
 use Rattle.new_log.specs.Accepted.{Good, Stamped}
 use Rattle.new_log.proofs.Entry.{some-entry}
+use Rattle.std.specs.Prelude.{Ok}
 
 -- ---- the log by itself
 
 module _ (l : List ℕ) where
-  pub tests-good : log_fault l ≡ Sound → Good l
+  pub tests-good : log_fault l ≡ Ok tt → Good l
   unfolding log_fault is_log_base
   tests-good e =
       let a = both (unless (leb 512 (length l)) (flaw LogBase nowhere)) _ e in
@@ -39,13 +39,13 @@ module _ (l : List ℕ) where
         an-entry = sym (some-entry l long) ∙ held (not (is_empty (counted l))) (flaw LogShort nowhere) b.1;
       }
 
-  good-tests : Good l → log_fault l ≡ Sound
+  good-tests : Good l → log_fault l ≡ Ok tt
   unfolding log_fault is_log_base
   good-tests a =
       sound _ _ (holds _ (le-leb _ _ a.log-long))
       (sound _ _ (holds _ (and_both a.log-usable (eq-eqb _ _ a.log-settled))) (holds _ (some-entry l a.log-long ∙ a.an-entry)))
 
-  pub good-exactly : (log_fault l ≡ Sound) ↔ Good l
+  pub good-exactly : (log_fault l ≡ Ok tt) ↔ Good l
   good-exactly = (tests-good, good-tests)
 
 -- ---- whether it is one of a hive

@@ -8,7 +8,6 @@ use mathlib.Core.List.{List}
 use lib.ListN.{length}
 use lib.Seq.{sets, length-take-le}
 use borrow.Author.Tests.{eq-eqb}
-use Rattle.fields.specs.declared.Verdict.TheVariants.{Sound}
 use Rattle.fields.specs.Number.{u32_at, le32}
 use Rattle.base.specs.Block.{sector, is_regf, is_version, bins_of, is_bins_size, is_settled, usable, clean}
 use Rattle.base.proofs.Laws.{usable-facts, sized-bins}
@@ -21,6 +20,7 @@ use Rattle.new_log.specs.Tests.{log_fault, renewed, closing_of}
 use Rattle.log_entries.proofs.Counted as entries
 use Rattle.new_log.proofs.Accepts.{tests-good}
 use Rattle.new_log.proofs.Facts.{some-counted}
+use Rattle.std.specs.Prelude.{Ok}
 
 -- with the first sequence number, and with both
 abbrev one : List ℕ → ℕ → List ℕ
@@ -61,7 +61,7 @@ module _ (s : List ℕ) (n b : ℕ) (long : length s ≡ 512) where
       (put-bytes (both s n) 40 b (put-bytes (one s n) 8 n (put-bytes s 4 n bytes)))
       6 (renewed-regf ∙ a.0) (renewed-version 6 ∙ a.2) (ap is_bins_size (renewed-bins b-fits) ∙ size) (renewed-settled n-fits)
 
-module _ (l : List ℕ) (e : log_fault l ≡ Sound) where
+module _ (l : List ℕ) (e : log_fault l ≡ Ok tt) where
   long : length (sector l) ≡ 512
   long = length-take-le 512 l (tests-good l e).log-long
 

@@ -9,8 +9,6 @@ use mathlib.Core.List.{List, [], ◌∷◌, ◌++◌}
 use lib.Dec.{eqb}
 use lib.ListN.{length, get_or, replicate, length-replicate, get_or-replicate, length-append, length-drop, get_or-append}
 use borrow.Author.Tests.{eqb-true, eqb-false}
-use Rattle.fields.specs.declared.Verdict.TheVariants.{Sound}
-use Rattle.bitmap.specs.declared.Next.TheVariants.{At, Nothing}
 use Rattle.bitmap.specs.Bits.{bit, is_marked, bits_before, next_among, next_marked, map_of, zeros}
 use Rattle.bitmap.proofs.Laws.{bit_past, marked-inside, next-least, next-none, among-least, among_none, among-at, among-nothing}
 use Rattle.bitmap.proofs.Made.{map-only}
@@ -21,6 +19,7 @@ use Rattle.new_log.specs.Windows.{Windowed, always}
 use Rattle.new_log.proofs.Facts.{bins-sized, logged-below}
 use Rattle.new_log.proofs.Next.{past-pages, marks-length, marks-logged}
 use Rattle.new_log.proofs.Windows.{last-is}
+use Rattle.std.specs.Prelude.{None, Ok, Some}
 
 pub zero_bit : (m : List ℕ) (k : ℕ) → get_or m (k / 8) 0 ≡ 0 → is_marked m k ≡ false
 zero_bit m k e = rw (e, zero-div (2 ^ (k % 8)))
@@ -80,7 +79,7 @@ module _ (l : List ℕ) where
       step m g e = let z : ◌≡◌ {A = ℕ} (cond (is_logged l m) 1 0) 0 = ap (λ (t : Bool). cond t 1 0) (past-pages l m g) in omega (arith, e)
 
   -- a map that starts with the marks has them to count
-  pub marks-counted : log_fault l ≡ Sound → (rest : List ℕ) → bits_before (marks_of l ++ rest) (page_count l) ≡ logged_count l
+  pub marks-counted : log_fault l ≡ Ok tt → (rest : List ℕ) → bits_before (marks_of l ++ rest) (page_count l) ≡ logged_count l
   unfolding logged_below
   marks-counted e rest =
       let m = marks_of l ++ rest in
@@ -111,7 +110,7 @@ module _ (l : List ℕ) (base n : ℕ) {old new : List ℕ} (w : Windowed always
   shifted : (q : ℕ) → base ≤ q → q < base + 8 * n → is_logged l q ≡ is_marked new (q - base)
   shifted q g h = let e : q ≡ base + (q - base) = omega arith in ap (is_logged l) e ∙ sym (bits-logged (q - base) (omega arith))
 
-  pub next-at : (k : ℕ) → next_marked new 0 ≡ At k → (k < 8 * n) × (next_among (8 * n) (is_logged l) base ≡ At (base + k))
+  pub next-at : (k : ℕ) → next_marked new 0 ≡ Some k → (k < 8 * n) × (next_among (8 * n) (is_logged l) base ≡ Some (base + k))
   next-at k e =
       let f = next-least new 0 k e in
       let inside : k < 8 * n = omega (arith, marked-inside new k f.marked, w.long, long) in (
@@ -123,7 +122,7 @@ module _ (l : List ℕ) (base n : ℕ) {old new : List ℕ} (w : Windowed always
         }) (omega arith),
       )
 
-  pub next-nothing : next_marked new 0 ≡ Nothing → next_among (8 * n) (is_logged l) base ≡ Nothing
+  pub next-nothing : next_marked new 0 ≡ None → next_among (8 * n) (is_logged l) base ≡ None
   next-nothing e = among-nothing (is_logged l) (8 * n) base (λ q g h. shifted q g h ∙ next-none new 0 e (q - base) (omega arith))
 
   -- and these are all its bits
@@ -134,7 +133,7 @@ module _ (l : List ℕ) (base n : ℕ) {old new : List ℕ} (w : Windowed always
 -- ---- window after window
 
 module _ (l : List ℕ) (from base : ℕ) (order : from ≤ base) (before : (q : ℕ) → from ≤ q → q < base → is_logged l q ≡ false) where
-  pub found : (n p : ℕ) → next_among n (is_logged l) base ≡ At p → At p ≡ next_logged l from
+  pub found : (n p : ℕ) → next_among n (is_logged l) base ≡ Some p → Some p ≡ next_logged l from
   found n p e =
       let f = among-least (is_logged l) n base p e in
       let a = f.after in
@@ -146,16 +145,20 @@ module _ (l : List ℕ) (from base : ℕ) (order : from ≤ base) (before : (q :
       past q g h (yes k) on = before q g k
       past q g h (no k) on = on (omega arith) h
 
-  pub further : (n : ℕ) → next_among n (is_logged l) base ≡ Nothing → (q : ℕ) → from ≤ q → q < base + n → is_logged l q ≡ false
+  pub further : (n : ℕ) → next_among n (is_logged l) base ≡ None → (q : ℕ) → from ≤ q → q < base + n → is_logged l q ≡ false
   further n e q g h = go (dec_lt q base)
     where
       go : Dec (q < base) → is_logged l q ≡ false
       go (yes k) = before q g k
       go (no k) = among_none (is_logged l) n base e q (omega arith) h
 
-  pub ended : page_count l ≤ base → Nothing ≡ next_logged l from
+  pub ended : page_count l ≤ base → None ≡ next_logged l from
   ended h = sym (among-nothing (is_logged l) (page_count l - from) from (λ q g k. go q g (dec_lt q base)))
     where
       go : (q : ℕ) → from ≤ q → Dec (q < base) → is_logged l q ≡ false
       go q g (yes k) = before q g k
       go q g (no k) = past-pages l q (omega arith)
+
+pub ruleset counts = (below-le, below-past)
+
+pub ruleset nexts = (found, further, ended)

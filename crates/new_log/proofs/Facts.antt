@@ -5,7 +5,6 @@ use mathlib.Core.Path.{◌≡◌, ap, ◌∙◌}
 use mathlib.Core.Bool.{true, not}
 use mathlib.Core.List.{List, [], ◌∷◌, ◌++◌, Memᴰ}
 use lib.ListN.{length}
-use Rattle.fields.specs.declared.Verdict.TheVariants.{Sound}
 use Rattle.fields.proofs.Bools.{never}
 use Rattle.base.proofs.Laws.{Sized}
 use Rattle.sectors.proofs.Stored.{sector-length}
@@ -18,20 +17,21 @@ use Rattle.new_log.specs.Tests.{is_empty, log_fault}
 use Rattle.new_log.proofs.Entry.{some-entry}
 use Rattle.new_log.proofs.Accepts.{tests-good}
 use Rattle.new_log.proofs.Versions.{last_found, member-named, bytes-found, bytes-last}
+use Rattle.std.specs.Prelude.{Ok}
 
 module _ (l : List ℕ) where
   -- ---- what the tests say
 
-  pub log-long : log_fault l ≡ Sound → 512 ≤ length l
+  pub log-long : log_fault l ≡ Ok tt → 512 ≤ length l
   log-long e = (tests-good l e).log-long
 
-  pub some-counted : log_fault l ≡ Sound → counted l ≡ [] → ⊥
+  pub some-counted : log_fault l ≡ Ok tt → counted l ≡ [] → ⊥
   some-counted e z =
       let g = tests-good l e in
       never _ (some-entry l g.log-long ∙ g.an-entry) (ap (λ (es : List Entry). not (is_empty es)) z)
 
   -- the largest bins size is one that a base block may have
-  pub bins-sized : log_fault l ≡ Sound → Sized (log_bins l)
+  pub bins-sized : log_fault l ≡ Ok tt → Sized (log_bins l)
   bins-sized e = entries.largest-sized l (some-counted e)
 
   -- ---- its pages
@@ -66,3 +66,5 @@ module _ (l : List ℕ) where
   pub logged-length : (p : ℕ) → is_logged l p ≡ true → length (logged l p) ≡ 512
   unfolding logged
   logged-length p m = sector-length l (logged_place l p) (logged-fits p m)
+
+pub ruleset passed = (log-long, bins-sized)

@@ -93,3 +93,5 @@ module _ (h l : List ℕ) where
       by : Dec (n < page_count l) → all_in h l ≡ false
       by (yes g) = in-more n (page_count l) (omega arith) e
       by (no g) = sym (in-past n (omega arith)) ∙ e
+
+pub ruleset ins = (in-windows, in-none)

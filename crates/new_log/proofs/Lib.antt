@@ -13,3 +13,4 @@ pub mod Counts
 pub mod Ins
 pub mod Stamps
 pub mod Example
+pub mod Walks

@@ -6,8 +6,6 @@ use mathlib.Core.Path.{◌≡◌, refl, sym, ◌∙◌}
 use mathlib.Core.Bool.{Bool, true, false}
 use mathlib.Core.List.{List}
 use lib.ListN.{length}
-use Rattle.fields.specs.declared.Verdict.TheVariants.{Sound}
-use Rattle.bitmap.specs.declared.Next.TheVariants.{At, Nothing}
 use Rattle.bitmap.specs.Bits.{is_marked}
 use Rattle.bitmap.proofs.Laws.{Least, among-least, among_none}
 use Rattle.bitmap.proofs.Made.{map-length, map-bit, map-past}
@@ -15,6 +13,7 @@ use Rattle.log_versions.specs.Versions.{is_logged}
 use Rattle.new_log.specs.Layout.{page_count, next_logged, marks_of}
 use Rattle.new_log.specs.Tests.{log_fault}
 use Rattle.new_log.proofs.Facts.{bins-sized, logged-below}
+use Rattle.std.specs.Prelude.{None, Ok, Some}
 
 module _ (l : List ℕ) where
   -- no page past the bins is logged
@@ -25,10 +24,10 @@ module _ (l : List ℕ) where
       by true e = absurd (omega (arith, logged-below l p e))
       by false e = refl
 
-  pub next-least : (from p : ℕ) → next_logged l from ≡ At p → Least (is_logged l) from p
+  pub next-least : (from p : ℕ) → next_logged l from ≡ Some p → Least (is_logged l) from p
   next-least from p e = among-least (is_logged l) (page_count l - from) from p e
 
-  pub next-none : (from : ℕ) → next_logged l from ≡ Nothing → (q : ℕ) → from ≤ q → is_logged l q ≡ false
+  pub next-none : (from : ℕ) → next_logged l from ≡ None → (q : ℕ) → from ≤ q → is_logged l q ≡ false
   next-none from e q g = go (dec_lt q (page_count l))
     where
       go : Dec (q < page_count l) → is_logged l q ≡ false
@@ -40,7 +39,7 @@ module _ (l : List ℕ) where
   pub marks-length : length (marks_of l) ≡ page_count l / 8
   marks-length = map-length (is_logged l) (page_count l / 8)
 
-  pub marks-logged : log_fault l ≡ Sound → (p : ℕ) → is_marked (marks_of l) p ≡ is_logged l p
+  pub marks-logged : log_fault l ≡ Ok tt → (p : ℕ) → is_marked (marks_of l) p ≡ is_logged l p
   marks-logged e p = go (dec_lt p (8 * (page_count l / 8)))
     where
       go : Dec (p < 8 * (page_count l / 8)) → is_marked (marks_of l) p ≡ is_logged l p

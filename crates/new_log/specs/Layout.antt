@@ -1,6 +1,5 @@
 -- What the repair asks of a new-format log l: its bins size, its pages and their bytes.
-use Rattle.std.specs.Prelude.{ℕ, zero, suc, ◌+◌, ◌-◌, ◌/◌, Bool, cond, List}
-use Rattle.bitmap.specs.declared.Next.{Next}
+use Rattle.std.specs.Prelude.{ℕ, zero, suc, ◌+◌, ◌-◌, ◌/◌, Bool, cond, List, Option}
 use Rattle.bitmap.specs.Bits.{next_among, map_of}
 use Rattle.sectors.specs.Logged.{in_below, put_below}
 use Rattle.log_entries.specs.Entries.{chain_of}
@@ -22,7 +21,7 @@ abbrev pub logged_count : List ℕ → ℕ
 logged_count l = logged_below l (page_count l)
 
 -- the least logged page at or after a number: all are below the number of pages
-abbrev pub next_logged : List ℕ → ℕ → Next
+abbrev pub next_logged : List ℕ → ℕ → Option ℕ
 next_logged l from = next_among (page_count l - from) (is_logged l) from
 
 -- the map of the logged pages: "one bit per 512-byte page", lowest bit first

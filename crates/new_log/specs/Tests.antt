@@ -1,19 +1,16 @@
 -- The tests of a new-format log and of a hive with it, and its closing sector.
-use Rattle.std.specs.Prelude.{ℕ, Bool, true, false, cond, not, ◌&&◌, List, [], ◌∷◌, eqb, leb, length}
+use Rattle.std.specs.Prelude.{ℕ, Bool, true, false, cond, not, ◌&&◌, List, [], ◌∷◌, eqb, leb, length, Err, Ok, Result}
 use Rattle.std.proofs.lemmas.List.Edits.{sets}
 use Rattle.fields.specs.declared.Fault.TheVariants.{LogBase, LogShort}
-use Rattle.fields.specs.declared.Verdict.{Verdict}
-use Rattle.fields.specs.declared.Verdict.TheVariants as verdict
 use Rattle.fields.specs.Number.{u32_at, u64_at, le32}
-use Rattle.fields.specs.Faults.{flaw, nowhere, unless, ◌next◌}
+use Rattle.fields.specs.Faults.{flaw, nowhere, unless, ◌next◌, Verdict}
 use Rattle.base.specs.Block.{sector, usable, is_settled}
 use Rattle.sectors.specs.Sector.{page}
 use Rattle.sectors.specs.Closing.{closing_sector}
 use Rattle.log_entries.specs.Entries.{Entry, counted, chain_of}
 use Rattle.log_versions.specs.Versions.{versions_of}
 use Rattle.log_entries.specs.declared.Chain.{Chain}
-use Rattle.new_log.specs.declared.Head.{Head}
-use Rattle.new_log.specs.declared.Head.TheVariants as head
+use Rattle.fields.specs.declared.Flaw.{Flaw}
 
 abbrev pub is_empty : List Entry → Bool
 is_empty [] = true
@@ -31,9 +28,9 @@ log_fault l =
     next unless (not (is_empty (counted l))) (flaw LogShort nowhere)
 
 -- the log's tests give its flaw, or what one pass over its entries finds
-abbrev pub headed : Verdict → Chain → Head
-headed verdict.Sound c = head.Good c
-headed (verdict.Flawed f) c = head.Flawed f
+abbrev pub headed : Verdict → Chain → Result Chain Flaw
+headed (Ok tt) c = Ok c
+headed (Err f) c = Err f
 
 -- every version bears the stamp s at 20
 unfoldable pub all_stamped : ℕ → List (List ℕ) → Bool

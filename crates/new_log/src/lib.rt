@@ -1,8 +1,7 @@
 // The new-format log: its own tests, its pages, what it says of a hive, and the repair's stores.
 #![tactic(auto)]
 
-ghost use Rattle.std.specs.Prelude.{◌≡◌, not, ◌&&◌, ◌||◌, ◌++◌, ◌+◌, ◌/◌, ◌≤◌, ◌<◌, eqb, length, drop};
-ghost use Rattle.fields.specs.declared.Verdict.TheVariants.{Sound};
+ghost use Rattle.std.specs.Prelude.{◌≡◌, not, ◌&&◌, ◌||◌, ◌++◌, ◌+◌, ◌/◌, ◌≤◌, ◌<◌, eqb, length, drop, Ok};
 ghost use Rattle.fields.specs.Number.{u64_at};
 ghost use Rattle.bitmap.specs.Bits.{next_among};
 ghost use Rattle.fields.specs.Bytes.{same_bytes};
@@ -15,72 +14,63 @@ ghost use Rattle.new_log.specs.Layout.{log_bins, page_count, logged_below, logge
 ghost use Rattle.new_log.specs.Tests.{is_log_base, log_fault, headed, all_stamped, applies as is_of, renewed, closing_of};
 ghost use Rattle.new_log.specs.Windows.{has_page, in_window, Windowed, always, differs};
 
-use bitmap::Next;
 use fields::{Fault, Flaw, Offset, Place};
 use log_entries::Chain;
 
 // ---- its own tests
 
-// What the log's own tests give: what one pass over its entries finds.
-#[derive(Clone, Copy)]
-pub enum Head {
-    Good(Chain),
-    Flawed(Flaw),
-}
-
 // s is the log's first 512 bytes.
+#[tactic(auto, unfolding(crate::specs::Tests::is_log_base))]
 fn is_log_base(s: &[u8]) -> bool
     requires { 512 ≤ length s.now }
     ensures { result ≡ is_log_base s.now }
 {
-    if !base::usable(s, 6) {
-        return false;
-    }
-    base::sequences_equal(s)
+    base::usable(s, 6) && base::sequences_equal(s)
 }
 
 // 21; 22. The one pass that hashes: what it finds is handed on.
-pub fn read(log: &[u8]) -> Head
+#[tactic(auto, using(crate::proofs::Ways::ladder))]
+pub fn read(log: &[u8]) -> Result<Chain, Flaw>
     ensures { result ≡ headed (log_fault log.now) (chain_of log.now) }
 {
-    if log.len() < 512 {
-        return Head::Flawed(Flaw {
-            fault: Fault::LogBase,
-            place: Offset(0),
-        });
-    }
-    if !is_log_base(&log[0..512]) {
-        return Head::Flawed(Flaw {
+    if log.len() < 512 || !is_log_base(&log[0..512]) {
+        return Err(Flaw {
             fault: Fault::LogBase,
             place: Offset(0),
         });
     }
     let chain = log_entries::chain_of(log);
     if chain.entries == 0 {
-        return Head::Flawed(Flaw {
+        return Err(Flaw {
             fault: Fault::LogShort,
             place: Offset(0),
         });
     }
-    Head::Good(chain)
+    Ok(chain)
 }
 
 // ---- windows: maps with one bit for each page from `base` on
 
+// Whether the window has a bit for a page.
+#[tactic(auto, using(std::proofs::lemmas::Bool::Decides::nat_tests))]
+fn has_page(map: &[u8], base: usize, page: usize) -> bool
+    ensures { result ≡ has_page map.now base page }
+{
+    base <= page && (page - base) / 8 < map.len()
+}
+
 // Sets or clears the bit of a page, where the window has one.
+#[tactic(auto, unfolding(crate::specs::Windows::in_window))]
 fn put_page(map: &mut [u8], base: usize, page: usize, on: bool)
     ensures { map.new ≡ in_window map.old base page on }
 {
-    if page < base {
-        return;
+    if has_page(map, base, page) {
+        bitmap::put_bit(map, page - base, on);
     }
-    if map.len() <= (page - base) / 8 {
-        return;
-    }
-    bitmap::put_bit(map, page - base, on);
 }
 
 // Sets the bit of each logged page.
+#[tactic(auto, using(crate::proofs::Walks::windows))]
 fn mark_window(log: &[u8], chain: Chain, base: usize, map: &mut [u8])
     requires { chain ≡ chain_of log.now }
     ensures { Windowed always base (versions_in log.now) map.old map.new }
@@ -103,51 +93,41 @@ fn window_count(log: &[u8], chain: Chain, base: usize) -> usize
 }
 
 // No test needs the count: it is made where it is asked.
+#[tactic(auto, using(crate::proofs::Counts::counts), unfolding(crate::specs::Layout::logged_below))]
 pub fn logged_count(log: &[u8], chain: Chain) -> usize
     requires { chain ≡ chain_of log.now }
     ensures { result ≡ logged_count log.now }
 {
-    let pages = chain.largest / 512;
-    let mut count: usize = 0;
-    let mut base: usize = 0;
-    while base < pages {
+    let mut count = 0;
+    for base in (0..chain.largest / 512).step_by(131072) {
         count += window_count(log, chain, base);
-        base += 131072;
     }
     count
 }
 
 // The least logged page among 131,072.
-fn window_next(log: &[u8], chain: Chain, base: usize) -> Next
+fn window_next(log: &[u8], chain: Chain, base: usize) -> Option<usize>
     requires chain_value { chain ≡ chain_of log.now }
     requires base_bound { base < page_count log.now }
     ensures { result ≡ next_among 131072 (is_logged log.now) base }
 {
     let mut window = [0u8; 16384];
     mark_window(log, chain, base, &mut window);
-    match bitmap::next_marked(&window, 0) {
-        Next::At(k) => Next::At(base + k),
-        Next::Nothing => Next::Nothing,
-    }
+    let k = bitmap::next_marked(&window, 0)?;
+    Some(base + k)
 }
 
-pub fn next_logged(log: &[u8], chain: Chain, from: usize) -> Next
+#[tactic(auto, using(crate::proofs::Counts::nexts))]
+pub fn next_logged(log: &[u8], chain: Chain, from: usize) -> Option<usize>
     requires { chain ≡ chain_of log.now }
     ensures { result ≡ next_logged log.now from }
 {
-    let n = chain.largest / 512;
-    let mut base = from;
-    while base < n {
-        match window_next(log, chain, base) {
-            Next::At(p) => {
-                return Next::At(p);
-            }
-            Next::Nothing => {
-                base += 131072;
-            }
+    for base in (from..chain.largest / 512).step_by(131072) {
+        if let Some(p) = window_next(log, chain, base) {
+            return Some(p);
         }
     }
-    Next::Nothing
+    None
 }
 
 // Writes the map of the logged pages to the first bytes of a lent one.
@@ -163,7 +143,7 @@ fn write_marks(log: &[u8], chain: Chain, map: &mut [u8])
 
 // The same, and how many they are: the map that is written has them to count.
 pub fn mark(log: &[u8], chain: Chain, map: &mut [u8]) -> usize
-    requires log_value { log_fault log.now ≡ Sound }
+    requires log_value { log_fault log.now ≡ Ok tt }
     requires chain_value { chain ≡ chain_of log.now }
     requires log_in_bounds { page_count log.now / 8 ≤ length map.old }
     ensures value { result ≡ logged_count log.now }
@@ -176,6 +156,7 @@ pub fn mark(log: &[u8], chain: Chain, map: &mut [u8]) -> usize
 // ---- one page
 
 // Whether some version names the page.
+#[tactic(auto, using(crate::proofs::Walks::naming), unfolding(log_versions::specs::Versions::names))]
 pub fn is_logged(log: &[u8], chain: Chain, page: usize) -> bool
     requires { chain ≡ chain_of log.now }
     ensures { result ≡ is_logged log.now page }
@@ -191,11 +172,12 @@ pub fn is_logged(log: &[u8], chain: Chain, page: usize) -> bool
 }
 
 // Where the last version of the page lies, 0 where there is none.
+#[tactic(auto, using(crate::proofs::Walks::placing), unfolding(log_versions::specs::Versions::last_place))]
 pub fn logged_place(log: &[u8], chain: Chain, page: usize) -> Place
     requires { chain ≡ chain_of log.now }
     ensures { result.0 ≡ logged_place log.now page }
 {
-    let mut place: usize = 0;
+    let mut place = 0;
     let mut c = log_versions::first(log, chain);
     while 0 < c.pages {
         if c.page == page {
@@ -209,17 +191,16 @@ pub fn logged_place(log: &[u8], chain: Chain, page: usize) -> Place
 // ---- what it says of a hive
 
 // Whether a version is of another page, or bears the stamp.
+#[tactic(auto, using(std::proofs::lemmas::Bool::Decides::nat_tests))]
 fn is_stamped(log: &[u8], page: usize, place: usize, stamp: u64) -> bool
     requires { place + 512 ≤ length log.now }
     ensures { result ≡ (not (eqb page 0) || eqb (u64_at (sector_at log.now place) 20) stamp) }
 {
-    if page != 0 {
-        return true;
-    }
-    fields::u64_at(&log[place..place + 512], 20) == stamp
+    page != 0 || fields::u64_at(&log[place..place + 512], 20) == stamp
 }
 
 // "every logged version of page 0"
+#[tactic(auto, using(crate::proofs::Walks::stamping), unfolding(crate::specs::Tests::all_stamped, log_versions::specs::Versions::bytes_in))]
 fn all_stamped(log: &[u8], chain: Chain, stamp: u64) -> bool
     requires { chain ≡ chain_of log.now }
     ensures { result ≡ all_stamped stamp (versions_of log.now 0) }
@@ -234,23 +215,23 @@ fn all_stamped(log: &[u8], chain: Chain, stamp: u64) -> bool
     true
 }
 
+#[tactic(auto, using(crate::proofs::Facts::passed), unfolding(crate::specs::Tests::applies, sectors::specs::Sector::page))]
 pub fn applies(hive: &[u8], log: &[u8], chain: Chain) -> bool
-    requires log_value { log_fault log.now ≡ Sound }
+    requires log_value { log_fault log.now ≡ Ok tt }
     requires chain_value { chain ≡ chain_of log.now }
     requires log_in_bounds { 4096 + log_bins log.now ≤ length hive.now }
     ensures { result ≡ is_of hive.now log.now }
 {
     if base::usable(&hive[0..512], 0) {
-        return fields::u32_at(&hive[0..512], 8) == fields::u32_at(&log[0..512], 4);
+        fields::u32_at(&hive[0..512], 8) == fields::u32_at(&log[0..512], 4)
+    } else {
+        let stamp = fields::u64_at(&log[0..512], 12);
+        fields::u64_at(&hive[4096..4608], 20) == stamp && all_stamped(log, chain, stamp)
     }
-    let stamp = fields::u64_at(&log[0..512], 12);
-    if fields::u64_at(&hive[4096..4608], 20) != stamp {
-        return false;
-    }
-    all_stamped(log, chain, stamp)
 }
 
 // Whether a page of the hive has the bytes of one of its versions.
+#[tactic(auto, unfolding(sectors::specs::Sector::page))]
 fn is_same(hive: &[u8], log: &[u8], page: usize, place: usize) -> bool
     requires page_in_bounds { page_place page + 512 ≤ length hive.now }
     requires place_in_bounds { place + 512 ≤ length log.now }
@@ -260,27 +241,19 @@ fn is_same(hive: &[u8], log: &[u8], page: usize, place: usize) -> bool
     fields::same(&hive[at..at + 512], &log[place..place + 512])
 }
 
-fn has_page(map: &[u8], base: usize, page: usize) -> bool
-    ensures { result ≡ has_page map.now base page }
-{
-    if page < base {
-        return false;
-    }
-    (page - base) / 8 < map.len()
-}
-
 // The bit of a page, where the window has one: set if the hive's bytes differ from those of this version, else cleared.
+#[tactic(auto, unfolding(crate::specs::Windows::in_window))]
 fn put_differs(hive: &[u8], log: &[u8], map: &mut [u8], base: usize, page: usize, place: usize)
     requires page_in_bounds { page_place page + 512 ≤ length hive.now }
     requires place_in_bounds { place + 512 ≤ length log.now }
     ensures { map.new ≡ in_window map.old base page (differs hive.now log.now page place) }
 {
     if has_page(map, base, page) {
-        let on = !is_same(hive, log, page, place);
-        put_page(map, base, page, on);
+        bitmap::put_bit(map, page - base, !is_same(hive, log, page, place));
     }
 }
 
+#[tactic(auto, using(crate::proofs::Walks::windows))]
 fn differ_window(hive: &[u8], log: &[u8], chain: Chain, base: usize, map: &mut [u8])
     requires chain_value { chain ≡ chain_of log.now }
     requires log_in_bounds { 4096 + log_bins log.now ≤ length hive.now }
@@ -304,18 +277,16 @@ fn window_in(hive: &[u8], log: &[u8], chain: Chain, base: usize) -> bool
     bitmap::bits_before(&window, 131072) == 0
 }
 
+#[tactic(auto, using(crate::proofs::Ins::ins), unfolding(sectors::specs::Logged::in_below))]
 pub fn all_in(hive: &[u8], log: &[u8], chain: Chain) -> bool
     requires chain_value { chain ≡ chain_of log.now }
     requires log_in_bounds { 4096 + log_bins log.now ≤ length hive.now }
     ensures { result ≡ all_in hive.now log.now }
 {
-    let n = chain.largest / 512;
-    let mut base: usize = 0;
-    while base < n {
+    for base in (0..chain.largest / 512).step_by(131072) {
         if !window_in(hive, log, chain, base) {
             return false;
         }
-        base += 131072;
     }
     true
 }
@@ -323,6 +294,7 @@ pub fn all_in(hive: &[u8], log: &[u8], chain: Chain) -> bool
 // ---- the repair's stores
 
 // Every version in turn, so that the last of a page stays.
+#[tactic(auto, using(crate::proofs::Walks::windows))]
 pub fn put_all(hive: &mut [u8], log: &[u8], chain: Chain)
     requires chain_value { chain ≡ chain_of log.now }
     requires log_in_bounds { 4096 + log_bins log.now ≤ length hive.old }
@@ -330,9 +302,7 @@ pub fn put_all(hive: &mut [u8], log: &[u8], chain: Chain)
 {
     let mut c = log_versions::first(log, chain);
     while 0 < c.pages {
-        let to = sectors::page_place(c.page);
-        let from = c.place;
-        sectors::store(hive, to, log, Place(from));
+        sectors::store(hive, sectors::page_place(c.page), log, Place(c.place));
         c = log_versions::next(log, c);
     }
 }
@@ -349,8 +319,9 @@ fn put_number_and_size(dst: &mut [u8], number: u32, bins: u32)
 }
 
 // Writes the closing sector to the hive's first 512 bytes.
+#[tactic(auto, using(crate::proofs::Facts::passed))]
 pub fn store_closing(hive: &mut [u8], log: &[u8], chain: Chain)
-    requires log_value { log_fault log.now ≡ Sound }
+    requires log_value { log_fault log.now ≡ Ok tt }
     requires chain_value { chain ≡ chain_of log.now }
     requires in_bounds { 512 ≤ length hive.old }
     ensures { hive.new ≡ stored hive.old 0 (closing_of log.now) }

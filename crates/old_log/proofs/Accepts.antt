@@ -9,7 +9,6 @@ use mathlib.Core.List.{List}
 use lib.Dec.{eqb, leb}
 use lib.ListN.{length, take, drop}
 use borrow.Author.Tests.{le-leb, eqb-true, eq-eqb}
-use Rattle.fields.specs.declared.Verdict.TheVariants.{Sound}
 use Rattle.fields.specs.Bytes.{same_bytes, stands_at}
 use Rattle.fields.proofs.Firsts.{sound, holds}
 use Rattle.fields.proofs.Bools.{and-inv, and_both}
@@ -22,6 +21,7 @@ use Rattle.old_log.specs.Tests.{is_log_type, is_log_base, pages_fit, head_fault,
 use Rattle.old_log.specs.Accepted.{Good, Stamped}
 use Rattle.old_log.proofs.Facts.{head_of, head-facts, log-base, pages-fit}
 use Rattle.old_log.proofs.Hive.{by-base, by-bin, of-log}
+use Rattle.std.specs.Prelude.{Ok}
 
 -- ---- the parts that are said by tests
 
@@ -44,7 +44,7 @@ type-log n (inr e) = rw e
 -- ---- the log by itself
 
 module _ (l : List ℕ) where
-  tests-good : log_fault l ≡ Sound → Good l
+  tests-good : log_fault l ≡ Ok tt → Good l
   unfolding stands_at
   tests-good e =
       let f = head-facts l (head_of l e) in
@@ -79,7 +79,7 @@ module _ (l : List ℕ) where
         go (yes z) = ap (λ (x : Bool). x || leb (pages_at l + 512 * logged_count l) (length l)) (eq-eqb (logged_count l) 0 z)
         go (no z) = second (eqb (logged_count l) 0) (le-leb _ _ (a.pages-fit (omega arith)))
 
-    good-tests : log_fault l ≡ Sound
+    good-tests : log_fault l ≡ Ok tt
     unfolding log_fault head_fault
     good-tests =
         sound _ _
@@ -87,7 +87,7 @@ module _ (l : List ℕ) where
         (sound _ _ (holds _ based) (sound _ _ (holds _ (le-leb _ _ a.map-fits)) (holds _ dirty))))
         (holds _ fit)
 
-  pub good-exactly : (log_fault l ≡ Sound) ↔ Good l
+  pub good-exactly : (log_fault l ≡ Ok tt) ↔ Good l
   good-exactly = (tests-good, good-tests)
 
 -- ---- the stamps

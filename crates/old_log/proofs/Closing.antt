@@ -5,15 +5,15 @@ use mathlib.Core.Bool.{true}
 use mathlib.Core.List.{List}
 use lib.ListN.{length}
 use lib.Seq.{length-take-le}
-use Rattle.fields.specs.declared.Verdict.TheVariants.{Sound}
 use Rattle.base.specs.Block.{sector, type_of, clean}
 use Rattle.sectors.specs.Sector.{Bytes}
 use Rattle.sectors.proofs.Closed as closed
 use Rattle.sectors.proofs.Words.{take-bytes}
 use Rattle.old_log.specs.Tests.{log_fault, closing_of}
 use Rattle.old_log.proofs.Facts.{head_of, head-facts, log-base}
+use Rattle.std.specs.Prelude.{Ok}
 
-module _ (l : List ℕ) (e : log_fault l ≡ Sound) where
+module _ (l : List ℕ) (e : log_fault l ≡ Ok tt) where
   pub closing-length : length (closing_of l) ≡ 512
   closing-length = closed.closing-length (sector l) ∙ length-take-le 512 l (head-facts l (head_of l e)).long
 

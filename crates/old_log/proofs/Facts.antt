@@ -8,7 +8,6 @@ use lib.Dec.{leb}
 use lib.ListN.{length, take, drop, length-take, length-drop}
 use borrow.Author.Tests.{leb-true, ne_eqb}
 use Rattle.fields.specs.declared.Fault.TheVariants.{LogBase, LogShort, NoDirt}
-use Rattle.fields.specs.declared.Verdict.TheVariants.{Sound}
 use Rattle.fields.specs.Bytes.{stands_at}
 use Rattle.fields.specs.Faults.{flaw, nowhere, unless}
 use Rattle.fields.proofs.Firsts.{both, held}
@@ -20,6 +19,7 @@ use Rattle.sectors.specs.Sector.{page_place}
 use Rattle.sectors.proofs.Stored.{sector-length}
 use Rattle.old_log.specs.Layout.{log_bins, page_count, dirt, map_size, bitmap, is_logged, logged_count, pages_at, logged_place, logged}
 use Rattle.old_log.specs.Tests.{is_log_type, is_log_base, pages_fit, head_fault, log_fault}
+use Rattle.std.specs.Prelude.{Ok}
 
 -- a log whose first tests are passed: where its bitmap lies
 pub record Head (l : List ℕ) : Type 0 where
@@ -34,7 +34,7 @@ unfolding is_log_base
 log-base s e = and-inv (usable s (type_of s)) (is_settled s) (and-inv (is_log_type (type_of s)) _ e).1
 
 module _ (l : List ℕ) where
-  pub head-facts : head_fault l ≡ Sound → Head l
+  pub head-facts : head_fault l ≡ Ok tt → Head l
   unfolding head_fault
   head-facts e =
       let a = both (unless (leb 512 (length l)) (flaw LogBase nowhere)) _ e in
@@ -49,7 +49,7 @@ module _ (l : List ℕ) where
         is-dirt = held (stands_at l 512 dirt) (flaw NoDirt nowhere) d.1;
       }
 
-  pub head_of : log_fault l ≡ Sound → head_fault l ≡ Sound
+  pub head_of : log_fault l ≡ Ok tt → head_fault l ≡ Ok tt
   unfolding log_fault
   head_of e = (both (head_fault l) _ e).0
 
@@ -58,12 +58,12 @@ module _ (l : List ℕ) where
   unfolding bitmap
   map-part b e = let k : 516 + b / 4096 - 516 ≡ map_size l = omega (arith, ap (λ (n : ℕ). n / 4096) e) in ap (λ (n : ℕ). take n (drop 516 l)) k
 
-  pub map-length : head_fault l ≡ Sound → length (bitmap l) ≡ map_size l
+  pub map-length : head_fault l ≡ Ok tt → length (bitmap l) ≡ map_size l
   unfolding bitmap
   map-length e = simp (length-take, length-drop) (omega (arith, (head-facts e).map-fits))
 
   -- a marked page lies in the bins data
-  pub marked-below : head_fault l ≡ Sound → (p : ℕ) → is_logged l p ≡ true → p < page_count l
+  pub marked-below : head_fault l ≡ Ok tt → (p : ℕ) → is_logged l p ≡ true → p < page_count l
   marked-below e p m = omega (arith, marked-inside (bitmap l) p m, map-length e, (head-facts e).size.pages)
 
   -- the number of set bits, and what a log with some has room for
@@ -71,10 +71,10 @@ module _ (l : List ℕ) where
   count-le = before-le (bitmap l) (page_count l)
 
   -- no sum of these wraps
-  pub small : head_fault l ≡ Sound → pages_at l + 512 * logged_count l < 2 ^ 64
+  pub small : head_fault l ≡ Ok tt → pages_at l + 512 * logged_count l < 2 ^ 64
   small e = omega (arith, count-le, (head-facts e).size.limit)
 
-  module _ (e : log_fault l ≡ Sound) where
+  module _ (e : log_fault l ≡ Ok tt) where
     pub pages-fit : 0 < logged_count l → pages_at l + 512 * logged_count l ≤ length l
     unfolding log_fault
     pages-fit some =

@@ -1,4 +1,3 @@
-pub mod Ways
 pub mod Facts
 pub mod Hive
 pub mod Versions
@@ -6,3 +5,4 @@ pub mod Half
 pub mod Closing
 pub mod Accepts
 pub mod Refusals
+pub mod Rules

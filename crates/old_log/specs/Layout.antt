@@ -1,8 +1,7 @@
 -- Where the parts of an old log l lie: "Base block copy in the first 512 bytes; "DIRT" at 512; bitmap at 516, one bit per 512-byte page, bins size /
 -- 4096 bytes, lowest bit first; pages from the next multiple of 512 at or after its end, one for each set bit in order."
-use Rattle.std.specs.Prelude.{ℕ, ◌+◌, ◌*◌, ◌/◌, Bool, cond, List, [], ◌∷◌, take, drop}
+use Rattle.std.specs.Prelude.{ℕ, ◌+◌, ◌*◌, ◌/◌, Bool, cond, List, [], ◌∷◌, take, drop, Option}
 use Rattle.base.specs.Block.{sector, bins_of}
-use Rattle.bitmap.specs.declared.Next.{Next}
 use Rattle.bitmap.specs.Bits.{is_marked, bits_before, next_marked}
 use Rattle.sectors.specs.Sector.{sector_at}
 use Rattle.sectors.specs.Logged.{put_below}
@@ -36,7 +35,7 @@ logged_before l p = bits_before (bitmap l) p
 abbrev pub logged_count : List ℕ → ℕ
 logged_count l = logged_before l (page_count l)
 
-abbrev pub next_logged : List ℕ → ℕ → Next
+abbrev pub next_logged : List ℕ → ℕ → Option ℕ
 next_logged l from = next_marked (bitmap l) from
 
 -- "pages from the next multiple of 512 at or after its end"

@@ -1,18 +1,15 @@
 -- The tests of an old log: 21, 22 for the bitmap, 23, 22 for the pages; and the stamps, whether the logged pages are in, and the closing sector.
-use Rattle.std.specs.Prelude.{ℕ, ◌+◌, ◌*◌, Bool, not, cond, ◌&&◌, ◌||◌, List, eqb, leb, length}
+use Rattle.std.specs.Prelude.{ℕ, ◌+◌, ◌*◌, Bool, not, cond, ◌&&◌, ◌||◌, List, eqb, leb, length, Err, Ok, Result}
 use Rattle.fields.specs.declared.Fault.TheVariants.{LogBase, LogShort, NoDirt}
-use Rattle.fields.specs.declared.Verdict.{Verdict}
-use Rattle.fields.specs.declared.Verdict.TheVariants as verdict
 use Rattle.fields.specs.Number.{u64_at}
 use Rattle.fields.specs.Bytes.{stands_at}
-use Rattle.fields.specs.Faults.{flaw, nowhere, unless, ◌next◌}
+use Rattle.fields.specs.Faults.{flaw, nowhere, unless, ◌next◌, Verdict}
 use Rattle.base.specs.Block.{sector, type_of, usable, is_settled}
 use Rattle.sectors.specs.Sector.{page}
 use Rattle.sectors.specs.Logged.{in_below}
 use Rattle.sectors.specs.Closing.{closing_sector}
-use Rattle.old_log.specs.declared.Tested.{Tested}
-use Rattle.old_log.specs.declared.Tested.TheVariants.{Logged, Flawed}
 use Rattle.old_log.specs.Layout.{dirt, map_size, page_count, is_logged, logged_count, pages_at, logged}
+use Rattle.fields.specs.declared.Flaw.{Flaw}
 
 -- "old-format logs (file type 1 or 2)"
 abbrev pub is_log_type : ℕ → Bool
@@ -39,9 +36,9 @@ unfoldable pub log_fault : List ℕ → Verdict
 log_fault l = head_fault l next unless (pages_fit l) (flaw LogShort nowhere)
 
 -- the log's tests give its flaw, or the number of set bits
-abbrev pub counted : Verdict → ℕ → Tested
-counted verdict.Sound n = Logged n
-counted (verdict.Flawed f) n = Flawed f
+abbrev pub counted : Verdict → ℕ → Result ℕ Flaw
+counted (Ok tt) n = Ok n
+counted (Err f) n = Err f
 
 -- "last written stamp (8 bytes) at 12"
 abbrev pub stamp_of : List ℕ → ℕ

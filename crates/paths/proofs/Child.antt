@@ -7,7 +7,6 @@ use mathlib.Core.List.{List, [], ◌∷◌, Memᴰ}
 use lib.ListN.{get_or}
 use Rattle.fields.specs.declared.Fault.TheVariants.{NoKey}
 use Rattle.fields.specs.declared.Offset.{Offset}
-use Rattle.fields.specs.declared.Verdict.TheVariants.{Sound}
 use Rattle.fields.specs.Faults.{flaw, nowhere, refusal_of}
 use Rattle.base.specs.Block.{sector, bins_of, bins_data}
 use Rattle.base.proofs.Laws.{facts-base}
@@ -16,12 +15,8 @@ use Rattle.records.specs.Keys.{key_fault, key_of}
 use Rattle.tree.specs.Tree.{levels, hive_of, keys_of}
 use Rattle.tree.specs.WellFormed.{CleanAndWellFormed, TreeStands}
 use Rattle.search.specs.declared.How.TheVariants.{InTurn}
-use Rattle.search.specs.declared.Look.{Look}
-use Rattle.search.specs.declared.Look.TheVariants.{Found, Missing, Flawed}
 use Rattle.search.specs.Quick.{below_by}
 use Rattle.search.proofs.Finds.{key-good}
-use Rattle.paths.specs.declared.KeyFound.TheVariants.{At, Refused}
-use Rattle.paths.specs.declared.Way.{Way}
 use Rattle.paths.specs.declared.Way.TheVariants as way
 use Rattle.paths.specs.Descent.{on_found, descend_by, descend, opened, lookup_key_by}
 use Rattle.paths.specs.Answers.{ask_fault, key_found}
@@ -32,12 +27,16 @@ use Rattle.paths.proofs.Exact.{found-look-is}
 use Rattle.paths.proofs.Listed.{listed-tree}
 use Rattle.paths.proofs.Quick.{part_bytes, quick-descends}
 use Rattle.paths.proofs.Steps.{child-is}
+use Rattle.fields.specs.declared.Flaw.{Flaw}
+use Rattle.fields.specs.declared.Refusal.{Refusal}
+use Rattle.paths.specs.declared.Way.{Way}
+use Rattle.std.specs.Prelude.{Err, None, Ok, Option, Result, Some}
 
 module _ (h : List ℕ) (w : CleanAndWellFormed h) (o : Offset) (i : Memᴰ o (keys_of h)) where
   tree_of : (m : ℕ) × TreeStands (bins_data h) (hive_of h) (suc m) o
   tree_of = listed-tree (bins_data h) (hive_of h) levels (hive_of h).root w.formed.tree o i
 
-  tested : key_fault Header (bins_data h) [] o ≡ Sound
+  tested : key_fault Header (bins_data h) [] o ≡ Ok tt
   tested = key-good (bins_data h) (hive_of h) w.formed.tiled (suc tree_of.0) o tree_of.1
 
   -- for every name, the backslash too: 16 comes from both
@@ -45,36 +44,36 @@ module _ (h : List ℕ) (w : CleanAndWellFormed h) (o : Offset) (i : Memᴰ o (k
   unfolding child_by child_look_by lookup_key_by
   quick-child bytes x =
       let m = suc tree_of.0 in
-      ap (λ (y : Way). key_found (opened (ask_fault h (is_step x)) (opened (key_fault Header (bins_data h) [] o) y)))
+      ap (λ (y : Result Way Refusal). key_found (opened (ask_fault h (is_step x)) (opened (key_fault Header (bins_data h) [] o) y)))
       (quick-descends (bins_data h) (part_bytes h 4096 (bins_of (sector h)) bytes) (hive_of h) w.formed.tiled m o (x ∷ []) tree_of.1)
 
   module _ (x : List ℕ) (step : is_step x ≡ true) where
-    abbrev below : Look
+    abbrev below : Result (Option Offset) Flaw
     below = below_by InTurn (bins_data h) x (key_of (bins_data h) o)
 
     -- the search below the key is the way of one part
-    one-part : {l : Look} → below ≡ l → descend (bins_data h) o (x ∷ []) ≡ on_found o l way.Found
+    one-part : {l : Result (Option Offset) Flaw} → below ≡ l → descend (bins_data h) o (x ∷ []) ≡ on_found o l (λ (x : Offset). Ok (way.Found x))
     unfolding descend_by
-    one-part e = ap (λ (y : Look). on_found o y way.Found) e
+    one-part e = ap (λ (y : Result (Option Offset) Flaw). on_found o y (λ (x : Offset). Ok (way.Found x))) e
 
     child-way : child_answer h o x ≡ key_found (descend (bins_data h) o (x ∷ []))
     unfolding descend_by
     child-way = child-is InTurn h (facts-base h w.is-clean w.inside) o tested x step
 
-    holds : {c : Offset} → descend (bins_data h) o (x ∷ []) ≡ way.Found c → Holds (bins_data h) o (x ∷ []) c
+    holds : {c : Offset} → descend (bins_data h) o (x ∷ []) ≡ Ok (way.Found c) → Holds (bins_data h) o (x ∷ []) c
     holds e = found-holds (bins_data h) (hive_of h) w.formed.tiled (suc tree_of.0) o (x ∷ []) tree_of.1 e
 
-    pub child-exactly : (c : Offset) → (child_answer h o x ≡ At c) ↔ Holds (bins_data h) o (x ∷ []) c
+    pub child-exactly : (c : Offset) → (child_answer h o x ≡ Ok c) ↔ Holds (bins_data h) o (x ∷ []) c
     child-exactly c = (
       λ e. holds (found-look-is _ (sym child-way ∙ e)),
       λ r. child-way ∙ ap key_found (holds-found (bins_data h) (hive_of h) w.formed.tiled (suc tree_of.0) o (x ∷ []) tree_of.1 r),
     )
 
-    pub child-none : ((c : Offset) → Holds (bins_data h) o (x ∷ []) c → ⊥) → child_answer h o x ≡ Refused (refusal_of o (flaw NoKey nowhere))
+    pub child-none : ((c : Offset) → Holds (bins_data h) o (x ∷ []) c → ⊥) → child_answer h o x ≡ Err (refusal_of o (flaw NoKey nowhere))
     unfolding on_found
     child-none f = by below refl
       where
-        by : (l : Look) → below ≡ l → child_answer h o x ≡ Refused (refusal_of o (flaw NoKey nowhere))
-        by (Found c) q = absurd (f c (holds (one-part q)))
-        by Missing q = child-way ∙ ap key_found (one-part q)
-        by (Flawed g) q = absurd (never-faulty (bins_data h) (hive_of h) w.formed.tiled (suc tree_of.0) o (x ∷ []) tree_of.1 (one-part q))
+        by : (l : Result (Option Offset) Flaw) → below ≡ l → child_answer h o x ≡ Err (refusal_of o (flaw NoKey nowhere))
+        by (Ok (Some c)) q = absurd (f c (holds (one-part q)))
+        by (Ok None) q = child-way ∙ ap key_found (one-part q)
+        by (Err g) q = absurd (never-faulty (bins_data h) (hive_of h) w.formed.tiled (suc tree_of.0) o (x ∷ []) tree_of.1 (one-part q))

@@ -17,10 +17,10 @@ use Rattle.tree.specs.declared.Hive.{Hive}
 use Rattle.tree.specs.Tree.{name_at, levels, hive_of, keys_of}
 use Rattle.tree.specs.WellFormed.{CleanAndWellFormed, TreeStands, key}
 use Rattle.tree.proofs.Once.{each-once}
-use Rattle.paths.specs.declared.KeyFound.TheVariants.{At}
 use Rattle.paths.specs.Reach.{Holds, here, below, Named, itself, child}
 use Rattle.paths.proofs.Held.{held-few}
 use Rattle.paths.proofs.Listed.{listed-named, named-holds, named-found}
+use Rattle.std.specs.Prelude.{Ok}
 
 -- ---- every key
 
@@ -124,7 +124,7 @@ module _ (h : List ℕ) (w : CleanAndWellFormed h) where
   same_names xs k k' p q =
       let a = named-found h w k xs p in
       let b = named-found h w k' xs q in
-      let e : At k ≡ At k' = sym a ∙ b in
+      let e : Ok k ≡ Ok k' = sym a ∙ b in
       cc
 
   -- and a key's names are one list

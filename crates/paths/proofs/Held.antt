@@ -8,12 +8,10 @@ use mathlib.Core.List.{List, [], ◌∷◌}
 use lib.ListN.{length}
 use borrow.Author.Tests.{le-leb}
 use Rattle.fields.specs.declared.Offset.{Offset}
-use Rattle.fields.specs.declared.Verdict.TheVariants.{Sound}
 use Rattle.fields.proofs.Bools.{and_both}
 use Rattle.base.specs.Block.{bins_data}
 use Rattle.cells.specs.declared.Rule.TheVariants.{Header}
 use Rattle.cells.specs.Tiled.{BinsTile}
-use Rattle.names.specs.declared.Order.TheVariants.{Same}
 use Rattle.names.specs.Comparison.{compare}
 use Rattle.names.proofs.LawsOrder.{same_length}
 use Rattle.records.specs.Keys.{key_fault}
@@ -25,15 +23,17 @@ use Rattle.search.proofs.Finds.{key-good}
 use Rattle.paths.specs.Paths.{parts_of, is_part, are_parts, is_path}
 use Rattle.paths.specs.Reach.{Holds, here, below}
 use Rattle.paths.proofs.Splits.{PartName}
+use Rattle.std.specs.Prelude.{Ok}
+use Rattle.std.specs.declared.cmp.Ordering.TheVariants.{Equal}
 
 -- a key's name may be a part of a path
-pub part-name : (d : List ℕ) (o : Offset) → key_fault Header d [] o ≡ Sound → PartName (name_at d o)
+pub part-name : (d : List ℕ) (o : Offset) → key_fault Header d [] o ≡ Ok tt → PartName (name_at d o)
 part-name d o s =
     let f = key-facts Header d [] o s in
     rw (name-codes d o) (record { some = f.some; most = f.few; plain = f.no-backslash })
 
 -- and so may every name that is the same
-same-part : (x y : List ℕ) → compare x y ≡ Same → PartName x → is_part y ≡ true
+same-part : (x y : List ℕ) → compare x y ≡ Equal → PartName x → is_part y ≡ true
 unfolding is_part
 same-part x y e p =
     let l = same_length x y e in

@@ -14,3 +14,4 @@ pub mod Refusals
 pub mod Quick
 pub mod Steps
 pub mod Child
+pub mod Ways

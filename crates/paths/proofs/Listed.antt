@@ -18,13 +18,13 @@ use Rattle.records.proofs.Listed.{in-joined}
 use Rattle.tree.specs.Tree.{name_at, levels, hive_of, keys_of}
 use Rattle.tree.specs.WellFormed.{CleanAndWellFormed, TreeStands, key}
 use Rattle.search.proofs.Finds.{key-good}
-use Rattle.paths.specs.declared.KeyFound.TheVariants.{At}
 use Rattle.paths.specs.Paths.{is_path}
 use Rattle.paths.specs.Answers.{find_answer}
 use Rattle.paths.specs.Reach.{Holds, here, below, Named, itself, child, joined_by, FoundAgain}
 use Rattle.paths.proofs.Held.{part-name, held-few}
 use Rattle.paths.proofs.Splits.{PartNames, no_names, names-on, parts-joined, path-joined}
 use Rattle.paths.proofs.Exact.{find-exactly}
+use Rattle.std.specs.Prelude.{Ok}
 
 -- a key that is listed has names along its way, fewer than there are levels
 pub listed-named : (d : List ℕ) (n : ℕ) (at k : Offset) → Memᴰ k (keys_in d n at) → (xs : List (List ℕ)) × Named d at xs k × (length xs < n)
@@ -72,7 +72,7 @@ module _ (h : List ℕ) (w : CleanAndWellFormed h) where
         let f = held-few (bins_data h) (hive_of h) w.formed.tiled levels xs w.formed.tree (named-holds named) in
         path-joined xs good-names (omega arith)
 
-    pub named-found : find_answer h (joined_by xs) ≡ At k
+    pub named-found : find_answer h (joined_by xs) ≡ Ok k
     named-found =
         (find-exactly h w (joined_by xs) k).1
         (rw (parts-joined xs good-names) (named-holds named))

@@ -94,9 +94,6 @@ pub record Passed (us : List ℕ) (units cuts i : ℕ) : Type 0 where
   pub good : good_from 0 us ≡ good_from units (drop i us)
   pub number : cuts_in us ≡ cuts + cuts_in (drop i us)
 
-pub passed_start : (us : List ℕ) → Passed us 0 0 0
-passed_start us = record { within = omega arith; few = omega arith; counted = omega arith; good = refl; number = omega arith }
-
 module _ (us : List ℕ) (units cuts i : ℕ) (w : Passed us units cuts i) where
   module _ (some : length us ≡ 0 → ⊥) where
     ill : good_from units (drop i us) ≡ false → false ≡ is_path us

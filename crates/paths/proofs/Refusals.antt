@@ -7,9 +7,7 @@ use Rattle.fields.specs.declared.Fault.TheVariants.{NoKey}
 use Rattle.fields.specs.declared.Flaw.{Flaw}
 use Rattle.fields.specs.declared.Offset.{Offset}
 use Rattle.fields.specs.declared.Refusal.{Refusal}
-use Rattle.fields.specs.declared.Verdict.{Verdict}
-use Rattle.fields.specs.declared.Verdict.TheVariants.{Sound, Flawed}
-use Rattle.fields.specs.Faults.{flaw, nowhere, no_key, refusal_of, Because}
+use Rattle.fields.specs.Faults.{flaw, nowhere, no_key, refusal_of, Because, Verdict}
 use Rattle.fields.proofs.Every.{Every, every-unless, every-next}
 use Rattle.base.specs.Block.{bins_data, base_fault}
 use Rattle.base.proofs.Refusals.{base-refuses}
@@ -24,35 +22,33 @@ use Rattle.search.specs.declared.How.{How}
 use Rattle.search.specs.Quick.{below_by}
 use Rattle.search.proofs.Quick_found.{by-tested, by-found, by-each}
 use Rattle.search.proofs.Refusals.{Each}
-use Rattle.paths.specs.declared.KeyFound.TheVariants.{Refused}
-use Rattle.search.specs.declared.Look.{Look}
-use Rattle.search.specs.declared.Look.TheVariants.{Found, Missing, Flawed as Faulty}
-use Rattle.paths.specs.declared.Way.{Way}
 use Rattle.paths.specs.declared.Way.TheVariants as way
 use Rattle.paths.specs.Paths.{is_path, path_fault, parts_of}
 use Rattle.paths.specs.Descent.{on_found, descend_by, opened, lookup_key_by}
 use Rattle.paths.specs.Answers.{ask_fault, open_fault, key_look_by, key_found, find_by}
 use Rattle.paths.specs.Children.{is_step, child_look_by, child_by}
 use Rattle.paths.specs.Refused.{OnWay, the-root, a-child, OfKeyBy, of-base, no-path, of-root, of-lists, no-key, OfChildBy, by-base, no_step, by-given, by-lists, no-child}
+use Rattle.paths.specs.declared.Way.{Way}
+use Rattle.std.specs.Prelude.{Err, None, Ok, Option, Result, Some}
 
 -- ---- all refusals of a way
 module _ (P : Offset → Flaw → Type 0) where
-  abbrev pub Ends : Way → Type 0
-  Ends w = (r : Refusal) → key_found w ≡ Refused r → Because P r
+  abbrev pub Ends : Result Way Refusal → Type 0
+  Ends w = (r : Refusal) → key_found w ≡ Err r → Because P r
 
-  ends_found : (o : Offset) → Ends (way.Found o)
+  ends_found : (o : Offset) → Ends (Ok (way.Found o))
   ends_found o r e = absurd (let z : ◌≡◌ {A = ℕ} 0 1 = cc in omega arith)
 
-  ends-opened : (v : Verdict) (w : Way) → Every (P no_key) v → (v ≡ Sound → Ends w) → Ends (opened v w)
-  ends-opened Sound w p q r e = q refl r e
-  ends-opened (Flawed g) w p q r e = (no_key, g, let z : refusal_of no_key g ≡ r = cc in sym z, p g refl)
+  ends-opened : (v : Verdict) (w : Result Way Refusal) → Every (P no_key) v → (v ≡ Ok tt → Ends w) → Ends (opened v w)
+  ends-opened (Ok tt) w p q r e = q refl r e
+  ends-opened (Err g) w p q r e = (no_key, g, let z : refusal_of no_key g ≡ r = cc in sym z, p g refl)
 
-  ends_on : (k : Offset) (l : Look) (go : Offset → Way) → Each (P k) l → (l ≡ Missing → P k (flaw NoKey nowhere)) → ((o : Offset) → l ≡ Found o → Ends (go o))
+  ends_on : (k : Offset) (l : Result (Option Offset) Flaw) (go : Offset → Result Way Refusal) → Each (P k) l → (l ≡ Ok None → P k (flaw NoKey nowhere)) → ((o : Offset) → l ≡ Ok (Some o) → Ends (go o))
       → Ends (on_found k l go)
   unfolding on_found
-  ends_on k (Found o) go p s q r e = q o refl r e
-  ends_on k Missing go p s q r e = (k, flaw NoKey nowhere, let z : refusal_of k (flaw NoKey nowhere) ≡ r = cc in sym z, s refl)
-  ends_on k (Faulty g) go p s q r e = (k, g, let z : refusal_of k g ≡ r = cc in sym z, p g refl)
+  ends_on k (Ok (Some o)) go p s q r e = q o refl r e
+  ends_on k (Ok None) go p s q r e = (k, flaw NoKey nowhere, let z : refusal_of k (flaw NoKey nowhere) ≡ r = cc in sym z, s refl)
+  ends_on k (Err g) go p s q r e = (k, g, let z : refusal_of k g ≡ r = cc in sym z, p g refl)
 
 -- ---- the way
 module _ (how : How) (h us : List ℕ) where
@@ -86,7 +82,7 @@ module _ (how : How) (h us : List ℕ) where
       (λ b. descend-each (hive_of h).root (parts_of us) (the-root (key-fit Header (bins_data h) [] ruled (hive_of h).root b))))
 
   -- find_key and quick_key
-  pub find-refuses : {r : Refusal} → find_by how h us ≡ Refused r → Because (OfKeyBy how h us) r
+  pub find-refuses : {r : Refusal} → find_by how h us ≡ Err r → Because (OfKeyBy how h us) r
   unfolding find_by
   find-refuses {r} = look-each r
 
@@ -99,7 +95,7 @@ module _ (how : How) (h : List ℕ) (o : Offset) (x : List ℕ) where
       (λ s. every-unless (OfChildBy how h o x no_key) (is_step x) _ (λ e. no_step e))
 
   -- child_of and quick_child_of
-  pub child-refuses : {r : Refusal} → child_by how h o x ≡ Refused r → Because (OfChildBy how h o x) r
+  pub child-refuses : {r : Refusal} → child_by how h o x ≡ Err r → Because (OfChildBy how h o x) r
   unfolding child_by child_look_by lookup_key_by descend_by
   child-refuses {r} =
       let P = OfChildBy how h o x in

@@ -11,19 +11,18 @@ use lib.ListN.{length, drop}
 use borrow.Author.Tests.{ne_eqb, le-leb, lt-leb, leb-true, not-true}
 use Rattle.fields.specs.declared.Flaw.{Flaw}
 use Rattle.fields.specs.declared.Offset.{Offset}
-use Rattle.fields.specs.declared.Verdict.TheVariants.{Sound, Flawed}
 use Rattle.fields.specs.Faults.{no_key, refusal_of}
 use Rattle.fields.proofs.Bools.{and-inv, and_both}
 use Rattle.base.specs.Block.{bins_data}
 use Rattle.names.specs.Codes.{has_code, backslash}
 use Rattle.search.specs.declared.How.{How}
-use Rattle.paths.specs.declared.Way.TheVariants.{Refused}
 use Rattle.paths.specs.Paths.{first_part, parts_of, is_part, is_path}
 use Rattle.paths.specs.Descent.{lookup_key_by}
 use Rattle.paths.specs.Answers.{ask_fault}
 use Rattle.paths.specs.Reach.{joined_by}
 use Rattle.paths.specs.Children.{is_step, child_look_by}
 use Rattle.paths.proofs.Splits.{PartName, no_names, names-on, parts-joined, path-joined}
+use Rattle.std.specs.Prelude.{Err, Ok}
 
 -- a name without a backslash is its own first part
 whole_part : (x : List ℕ) → eqb (length (first_part x)) (length x) ≡ not (has_code backslash x)
@@ -73,10 +72,10 @@ module _ (x : List ℕ) where
 
 -- the child of a key
 module _ (how : How) (h : List ℕ) (o : Offset) (x : List ℕ) where
-  pub child-stop : {f : Flaw} → ask_fault h (is_step x) ≡ Flawed f → child_look_by how h o x ≡ Refused (refusal_of no_key f)
+  pub child-stop : {f : Flaw} → ask_fault h (is_step x) ≡ Err f → child_look_by how h o x ≡ Err (refusal_of no_key f)
   unfolding child_look_by
   child-stop e = rw e
 
-  pub child-on : ask_fault h (is_step x) ≡ Sound → child_look_by how h o x ≡ lookup_key_by how (bins_data h) o (x ∷ [])
+  pub child-on : ask_fault h (is_step x) ≡ Ok tt → child_look_by how h o x ≡ lookup_key_by how (bins_data h) o (x ∷ [])
   unfolding child_look_by
   child-on e = rw e

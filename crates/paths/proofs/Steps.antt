@@ -10,9 +10,7 @@ use borrow.Author.Tests.{le-leb, leb-true}
 use Rattle.fields.specs.declared.Flaw.{Flaw}
 use Rattle.fields.specs.declared.Offset.{Offset}
 use Rattle.fields.specs.declared.Refusal.{Refusal}
-use Rattle.fields.specs.declared.Verdict.{Verdict}
-use Rattle.fields.specs.declared.Verdict.TheVariants.{Sound, Flawed}
-use Rattle.fields.specs.Faults.{no_key, refusal_of}
+use Rattle.fields.specs.Faults.{no_key, refusal_of, Verdict}
 use Rattle.fields.proofs.Bools.{and-inv}
 use Rattle.base.specs.Block.{bins_data, base_fault}
 use Rattle.cells.specs.declared.Rule.TheVariants.{Header}
@@ -20,12 +18,8 @@ use Rattle.names.specs.Codes.{has_code, backslash}
 use Rattle.records.specs.Keys.{key_fault, key_of}
 use Rattle.tree.specs.Tree.{hive_of}
 use Rattle.search.specs.declared.How.{How}
-use Rattle.search.specs.declared.Look.{Look}
-use Rattle.search.specs.declared.Look.TheVariants.{Found, Missing, Flawed as Faulty}
 use Rattle.search.specs.Quick.{below_by}
 use Rattle.search.proofs.Quick_found.{by-tested}
-use Rattle.paths.specs.declared.KeyFound.{KeyFound}
-use Rattle.paths.specs.declared.KeyFound.TheVariants.{At, Refused}
 use Rattle.paths.specs.declared.Way.TheVariants as way
 use Rattle.paths.specs.Paths.{join_first, split, parts_of, is_part, are_parts, is_path}
 use Rattle.paths.specs.Descent.{on_found, descend_by, opened, lookup_key_by}
@@ -35,6 +29,7 @@ use Rattle.paths.proofs.Parts.{split-is}
 use Rattle.paths.proofs.Splits.{PartNames, no_names, names-on, split-last}
 use Rattle.paths.proofs.Opens.{ask-base, ask-good, ask-bad, open_is, look_stop, look-on}
 use Rattle.paths.proofs.StepTests.{step-name, name-step, step-parts, child-on}
+use Rattle.std.specs.Prelude.{Err, None, Ok, Option, Result, Some}
 
 -- ---- each part of a path is a name for a step
 
@@ -75,65 +70,65 @@ path_names us e = part-names (parts_of us) (parts-plain us) (and-inv (are_parts 
 
 -- ---- from a key that was tested
 
-steps-refused : (how : How) (h : List ℕ) (r : Refusal) (xs : List (List ℕ)) → steps_by how h (Refused r) xs ≡ Refused r
+steps-refused : (how : How) (h : List ℕ) (r : Refusal) (xs : List (List ℕ)) → steps_by how h (Err r) xs ≡ Err r
 unfolding steps_by
 steps-refused how h r [] = refl
 steps-refused how h r (x ∷ xs) = steps-refused how h r xs
 
 -- a step is one more step
-steps-last : (how : How) (h : List ℕ) (a : KeyFound) (xs : List (List ℕ)) (x : List ℕ)
+steps-last : (how : How) (h : List ℕ) (a : Result Offset Refusal) (xs : List (List ℕ)) (x : List ℕ)
     → steps_by how h a (xs ++ (x ∷ [])) ≡ on_key (steps_by how h a xs) (λ o. child_by how h o x)
 unfolding steps_by
 steps-last how h a [] x = refl
 steps-last how h a (y ∷ xs) x = steps-last how h (on_key a (λ o. child_by how h o y)) xs x
 
 -- the way of one part
-one-part : (how : How) (d : List ℕ) (o : Offset) (x : List ℕ) → key_fault Header d [] o ≡ Sound
-    → lookup_key_by how d o (x ∷ []) ≡ on_found o (below_by how d x (key_of d o)) way.Found
+one-part : (how : How) (d : List ℕ) (o : Offset) (x : List ℕ) → key_fault Header d [] o ≡ Ok tt
+    → lookup_key_by how d o (x ∷ []) ≡ on_found o (below_by how d x (key_of d o)) (λ (x : Offset). Ok (way.Found x))
 unfolding lookup_key_by descend_by
 one-part how d o x t = rw t
 
-module _ (how : How) (h : List ℕ) (base : base_fault h ≡ Sound) where
+module _ (how : How) (h : List ℕ) (base : base_fault h ≡ Ok tt) where
   -- a step searches below the key, which is under examination
-  pub child-is : (o : Offset) → key_fault Header (bins_data h) [] o ≡ Sound → (x : List ℕ) → is_step x ≡ true
-      → child_by how h o x ≡ key_found (on_found o (below_by how (bins_data h) x (key_of (bins_data h) o)) way.Found)
+  pub child-is : (o : Offset) → key_fault Header (bins_data h) [] o ≡ Ok tt → (x : List ℕ) → is_step x ≡ true
+      → child_by how h o x ≡ key_found (on_found o (below_by how (bins_data h) x (key_of (bins_data h) o)) (λ (x : Offset). Ok (way.Found x)))
   unfolding child_by
   child-is o t x p = ap key_found (child-on how h o x (ask-good h (is_step x) base p) ∙ one-part how (bins_data h) o x t)
 
-  descend-steps : (xs : List (List ℕ)) → PartNames xs → (o : Offset) → key_fault Header (bins_data h) [] o ≡ Sound
-      → key_found (descend_by how (bins_data h) o xs) ≡ steps_by how h (At o) xs
+  descend-steps : (xs : List (List ℕ)) → PartNames xs → (o : Offset) → key_fault Header (bins_data h) [] o ≡ Ok tt
+      → key_found (descend_by how (bins_data h) o xs) ≡ steps_by how h (Ok o) xs
   unfolding descend_by steps_by on_found
   descend-steps [] n o t = refl
   descend-steps (x ∷ xs) (names-on p n) o t =
       by (below_by how (bins_data h) x (key_of (bins_data h) o)) refl (child-is o t x (name-step x p)) (descend-steps xs n)
     where
-      by : (l : Look) → below_by how (bins_data h) x (key_of (bins_data h) o) ≡ l → child_by how h o x ≡ key_found (on_found o l way.Found)
-          → ((c : Offset) → key_fault Header (bins_data h) [] c ≡ Sound → key_found (descend_by how (bins_data h) c xs) ≡ steps_by how h (At c) xs)
+      by : (l : Result (Option Offset) Flaw) → below_by how (bins_data h) x (key_of (bins_data h) o) ≡ l → child_by how h o x ≡ key_found (on_found o l (λ (x : Offset). Ok (way.Found x)))
+          → ((c : Offset) → key_fault Header (bins_data h) [] c ≡ Ok tt → key_found (descend_by how (bins_data h) c xs) ≡ steps_by how h (Ok c) xs)
           → key_found (on_found o l (λ c. descend_by how (bins_data h) c xs)) ≡ steps_by how h (child_by how h o x) xs
-      by (Found c) q e rest = rest c (by-tested (bins_data h) x how (key_of (bins_data h) o) q) ∙ ap (λ (a : KeyFound). steps_by how h a xs) (sym e)
-      by Missing q e rest = sym (ap (λ (a : KeyFound). steps_by how h a xs) e ∙ steps-refused how h _ xs)
-      by (Faulty f) q e rest = sym (ap (λ (a : KeyFound). steps_by how h a xs) e ∙ steps-refused how h _ xs)
+      by (Ok (Some c)) q e rest = rest c (by-tested (bins_data h) x how (key_of (bins_data h) o) q) ∙ ap (λ (a : Result Offset Refusal). steps_by how h a xs) (sym e)
+      by (Ok None) q e rest = sym (ap (λ (a : Result Offset Refusal). steps_by how h a xs) e ∙ steps-refused how h _ xs)
+      by (Err f) q e rest = sym (ap (λ (a : Result Offset Refusal). steps_by how h a xs) e ∙ steps-refused how h _ xs)
 
   root-steps : (v : Verdict) → key_fault Header (bins_data h) [] (hive_of h).root ≡ v → (xs : List (List ℕ)) → PartNames xs
-      → key_found (opened v (descend_by how (bins_data h) (hive_of h).root xs)) ≡ steps_by how h (key_found (opened v (way.Found (hive_of h).root))) xs
-  root-steps Sound t xs n = descend-steps xs n (hive_of h).root t
-  root-steps (Flawed f) t xs n = sym (steps-refused how h (refusal_of no_key f) xs)
+      → key_found (opened v (descend_by how (bins_data h) (hive_of h).root xs)) ≡ steps_by how h (key_found (opened v (Ok (way.Found (hive_of h).root)))) xs
+  root-steps (Ok tt) t xs n = descend-steps xs n (hive_of h).root t
+  root-steps (Err f) t xs n = sym (steps-refused how h (refusal_of no_key f) xs)
 
 -- ---- a path
 
 module _ (how : How) (h : List ℕ) where
   -- where 1 to 7 pass, and 16
-  look_is : (us : List ℕ) → base_fault h ≡ Sound → is_path us ≡ true
+  look_is : (us : List ℕ) → base_fault h ≡ Ok tt → is_path us ≡ true
       → key_look_by how h us ≡ opened (key_fault Header (bins_data h) [] (hive_of h).root) (descend_by how (bins_data h) (hive_of h).root (parts_of us))
   unfolding lookup_key_by
   look_is us b p = look-on how h us (open_is h us ∙ ask-good h (is_path us) b p)
 
-  look-bad : (us : List ℕ) {f : Flaw} → ask_fault h (is_path us) ≡ Flawed f → find_by how h us ≡ Refused (refusal_of no_key f)
+  look-bad : (us : List ℕ) {f : Flaw} → ask_fault h (is_path us) ≡ Err f → find_by how h us ≡ Err (refusal_of no_key f)
   unfolding find_by
   look-bad us e = ap key_found (look_stop how h us (open_is h us ∙ e))
 
   -- of the empty path
-  root-alone : base_fault h ≡ Sound → find_by how h [] ≡ key_found (opened (key_fault Header (bins_data h) [] (hive_of h).root) (way.Found (hive_of h).root))
+  root-alone : base_fault h ≡ Ok tt → find_by how h [] ≡ key_found (opened (key_fault Header (bins_data h) [] (hive_of h).root) (Ok (way.Found (hive_of h).root)))
   unfolding find_by is_path parts_of are_parts descend_by
   root-alone b = ap key_found (look_is [] b refl)
 
@@ -142,14 +137,14 @@ module _ (how : How) (h : List ℕ) where
   unfolding find_by
   path-steps us p = by (base_fault h) refl
     where
-      steps : KeyFound → KeyFound
+      steps : Result Offset Refusal → Result Offset Refusal
       steps a = steps_by how h a (parts_of us)
 
       by : (v : Verdict) → base_fault h ≡ v → find_by how h us ≡ steps_by how h (find_by how h []) (parts_of us)
-      by Sound b =
+      by (Ok tt) b =
           ap key_found (look_is us b p) ∙ root-steps how h b (key_fault Header (bins_data h) [] (hive_of h).root) refl (parts_of us) (path_names us p)
           ∙ sym (ap steps (root-alone b))
-      by (Flawed f) b =
+      by (Err f) b =
           look-bad us (ask-base h (is_path us) b) ∙ sym (ap steps (look-bad [] (ask-base h (is_path []) b)) ∙ steps-refused how h _ (parts_of us))
 
 -- ---- one part more
@@ -195,19 +190,19 @@ module _ (x : List ℕ) (step : is_step x ≡ true) where
     pub step-last : (how : How) (h : List ℕ) → find_by how h (joined_to us x) ≡ on_key (find_by how h us) (λ o. child_by how h o x)
     step-last how h = by (is_path us) refl
       where
-        go : Offset → KeyFound
+        go : Offset → Result Offset Refusal
         go o = child_by how h o x
 
-        bad : (f : Flaw) → ask_fault h (is_path us) ≡ Flawed f → find_by how h (joined_to us x) ≡ on_key (find_by how h us) go
+        bad : (f : Flaw) → ask_fault h (is_path us) ≡ Err f → find_by how h (joined_to us x) ≡ on_key (find_by how h us) go
         bad f e =
-            look-bad how h (joined_to us x) (ap (ask_fault h) joined-path ∙ e) ∙ sym (ap (λ (a : KeyFound). on_key a go) (look-bad how h us e))
+            look-bad how h (joined_to us x) (ap (ask_fault h) joined-path ∙ e) ∙ sym (ap (λ (a : Result Offset Refusal). on_key a go) (look-bad how h us e))
 
         by : (t : Bool) → is_path us ≡ t → find_by how h (joined_to us x) ≡ on_key (find_by how h us) go
         by true e =
             path-steps how h (joined_to us x) (joined-path ∙ e) ∙ ap (steps_by how h (find_by how h [])) (joined-parts us)
-            ∙ steps-last how h (find_by how h []) (parts_of us) x ∙ sym (ap (λ (a : KeyFound). on_key a go) (path-steps how h us e))
+            ∙ steps-last how h (find_by how h []) (parts_of us) x ∙ sym (ap (λ (a : Result Offset Refusal). on_key a go) (path-steps how h us e))
         by false e = either (base_fault h) refl
           where
             either : (v : Verdict) → base_fault h ≡ v → find_by how h (joined_to us x) ≡ on_key (find_by how h us) go
-            either Sound b = bad _ (ask-bad h (is_path us) b e)
-            either (Flawed f) b = bad f (ask-base h (is_path us) b)
+            either (Ok tt) b = bad _ (ask-bad h (is_path us) b e)
+            either (Err f) b = bad f (ask-base h (is_path us) b)

@@ -1,8 +1,7 @@
 -- "A path is UTF-16 units split at backslash; the empty path is the root."
 use Rattle.std.specs.Prelude.{ℕ, Bool, true, cond, ◌&&◌, List, [], ◌∷◌, eqb, leb, length}
 use Rattle.fields.specs.declared.Fault.TheVariants.{PathParts}
-use Rattle.fields.specs.declared.Verdict.{Verdict}
-use Rattle.fields.specs.Faults.{flaw, nowhere, unless}
+use Rattle.fields.specs.Faults.{flaw, nowhere, unless, Verdict}
 use Rattle.names.specs.Codes.{backslash}
 
 -- a unit in front of the first part

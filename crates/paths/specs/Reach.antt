@@ -1,22 +1,21 @@
 -- What the tree holds, said without a search: a key under a path. d is the bins data.
-use Rattle.std.specs.Prelude.{ℕ, ◌≤◌, ◌≡◌, true, length}
+use Rattle.std.specs.Prelude.{ℕ, ◌≤◌, ◌≡◌, true, length, Ok}
 use mathlib.Core.List.{List, [], ◌∷◌, ◌++◌, Memᴰ}
 use Rattle.fields.specs.declared.Offset.{Offset}
 use Rattle.base.specs.Block.{bins_data}
-use Rattle.names.specs.declared.Order.TheVariants.{Same}
 use Rattle.names.specs.Codes.{backslash}
 use Rattle.names.specs.Comparison.{compare}
 use Rattle.records.specs.declared.Child.{Child}
 use Rattle.records.specs.Lists.{children}
 use Rattle.tree.specs.Tree.{name_at, hive_of}
-use Rattle.paths.specs.declared.KeyFound.TheVariants.{At}
 use Rattle.paths.specs.Paths.{is_path}
 use Rattle.paths.specs.Answers.{find_answer}
+use Rattle.std.specs.declared.cmp.Ordering.TheVariants.{Equal}
 
 -- the tree holds a key under a path of names, from a key on: each name compared as the paper says
 pub data Holds (d : List ℕ) : Offset → List (List ℕ) → Offset → Type 0 where
   here : {o : Offset} → Holds d o [] o
-  below : {o e : Offset} {c : Child} {x : List ℕ} {xs : List (List ℕ)} → Memᴰ c (children d o) → compare (name_at d c.at) x ≡ Same
+  below : {o e : Offset} {c : Child} {x : List ℕ} {xs : List (List ℕ)} → Memᴰ c (children d o) → compare (name_at d c.at) x ≡ Equal
       → Holds d c.at xs e → Holds d o (x ∷ xs) e
 
 -- the deepest key along a path of names: the tree holds it under the first of them, and none under more
@@ -43,4 +42,4 @@ pub record FoundAgain (h : List ℕ) (k : Offset) : Type 0 where
   pub names : List (List ℕ)
   pub along : Named (bins_data h) (hive_of h).root names k
   pub is-path : is_path (joined_by names) ≡ true
-  pub found : find_answer h (joined_by names) ≡ At k
+  pub found : find_answer h (joined_by names) ≡ Ok k

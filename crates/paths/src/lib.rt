@@ -1,8 +1,7 @@
 // The way to a key: a path, its parts, and the keys along it. There is no work map: an offset names a cell by the cell's own header.
 #![tactic(auto)]
 
-ghost use Rattle.std.specs.Prelude.{◌≡◌, true, [], ◌+◌, ◌≤◌, length, drop};
-ghost use Rattle.fields.specs.declared.Verdict.TheVariants.{Sound};
+ghost use Rattle.std.specs.Prelude.{◌≡◌, true, [], ◌+◌, ◌≤◌, length, drop, Ok};
 ghost use Rattle.cells.specs.declared.Rule.TheVariants.{Header};
 ghost use Rattle.records.specs.Keys.{key_fault};
 ghost use Rattle.paths.specs.Paths.{first_part, parts_of, is_path};
@@ -11,9 +10,8 @@ ghost use Rattle.paths.specs.Answers.{ask_fault, key_look_by, key_found, find_by
 ghost use Rattle.paths.specs.Children.{is_step, child_look_by, child_by};
 
 use cells::Rule;
-use fields::{Fault, Flaw, Offset, Refusal, Verdict};
-use records::Keyed;
-use search::{How, Look};
+use fields::{Fault, Flaw, Offset, Refusal};
+use search::How;
 
 const BACKSLASH: u16 = 92;
 
@@ -21,14 +19,13 @@ const BACKSLASH: u16 = 92;
 fn is_path(path: &[u16]) -> bool
     ensures { result ≡ is_path path.now }
 {
-    if path.len() == 0 {
+    if path.is_empty() {
         return true;
     }
     let mut units: usize = 0;
     let mut cuts: usize = 0;
-    let mut i: usize = 0;
-    while i < path.len() {
-        if path[i] == BACKSLASH {
+    for u in path {
+        if *u == BACKSLASH {
             if units == 0 {
                 return false;
             }
@@ -40,12 +37,8 @@ fn is_path(path: &[u16]) -> bool
             }
             units += 1;
         }
-        i += 1;
     }
-    if units == 0 {
-        return false;
-    }
-    cuts < 512
+    units != 0 && cuts < 512
 }
 
 // Where the part that starts at a position ends.
@@ -53,14 +46,12 @@ fn part_end(path: &[u16], start: usize) -> usize
     requires { start ≤ length path.now }
     ensures { result ≡ start + length (first_part (drop start path.now)) }
 {
-    let mut i = start;
-    while i < path.len() {
+    for i in start..path.len() {
         if path[i] == BACKSLASH {
             return i;
         }
-        i += 1;
     }
-    i
+    path.len()
 }
 
 // Where the way along a path ends: at its key, at a key that has no child of the next name, or with a refusal.
@@ -68,13 +59,13 @@ fn part_end(path: &[u16], start: usize) -> usize
 pub enum Way {
     Found(Offset),
     Missing(Offset),
-    Refused(Refusal),
 }
 
 // Along the parts of a path, from a key that was tested. Each search is made on behalf of the key that the way stands on.
-fn descend(bins: &[u8], from: Offset, path: &[u16], how: How) -> Way
+#[tactic(auto, using(crate::proofs::Ways::descents))]
+fn descend(bins: &[u8], from: Offset, path: &[u16], how: How) -> Result<Way, Refusal>
     requires path_value { is_path path.now ≡ true }
-    requires from_value { key_fault Header bins.now [] from ≡ Sound }
+    requires from_value { key_fault Header bins.now [] from ≡ Ok tt }
     ensures { result ≡ descend_by how bins.now from (parts_of path.now) }
 {
     let mut key = from;
@@ -82,93 +73,75 @@ fn descend(bins: &[u8], from: Offset, path: &[u16], how: How) -> Way
     while start < path.len() {
         let end = part_end(path, start);
         let k = records::key_fields(bins, key);
+        // with `map_err` and `?` the proof finds no name for the flaw
         match search::below(bins, &path[start..end], k, how) {
-            Look::Missing => {
-                return Way::Missing(key);
-            }
-            Look::Flawed(f) => {
-                return Way::Refused(fields::refused(key, f));
-            }
-            Look::Found(o) => {
-                key = o;
-            }
+            Ok(Some(o)) => key = o,
+            Ok(None) => return Ok(Way::Missing(key)),
+            Err(f) => return Err(fields::refused(key, f)),
         }
         start = end;
         if start < path.len() {
             start += 1;
         }
     }
-    Way::Found(key)
+    Ok(Way::Found(key))
 }
 
 // The key of a path. The root's own record is read for every path.
-fn lookup_key(bins: &[u8], root: Offset, path: &[u16], how: How) -> Way
+#[tactic(auto, unfolding(crate::specs::Descent::lookup_key_by), using(crate::proofs::Ways::key_ways))]
+fn lookup_key(bins: &[u8], root: Offset, path: &[u16], how: How) -> Result<Way, Refusal>
     requires { is_path path.now ≡ true }
     ensures { result ≡ lookup_key_by how bins.now root (parts_of path.now) }
 {
-    match records::key_at(bins, b"", Rule::Header, root) {
-        Keyed::Flawed(f) => Way::Refused(fields::refused(Offset(fields::NO_KEY), f)),
-        Keyed::Whole(_) => descend(bins, root, path, how),
-    }
+    records::key_at(bins, b"", Rule::Header, root)?;
+    descend(bins, root, path, how)
 }
 
 // 1 to 7, then 16 where a path, or a name for a step, is not good.
-fn ask_flaw(hive: &[u8], good: bool) -> Verdict
+#[tactic(auto, unfolding(crate::specs::Answers::ask_fault), using(fields::proofs::Firsts::on, fields::proofs::Firsts::stop))]
+fn ask_flaw(hive: &[u8], good: bool) -> Result<(), Flaw>
     ensures { result ≡ ask_fault hive.now good }
 {
-    match base::base_flaw(hive) {
-        Verdict::Flawed(f) => Verdict::Flawed(f),
-        Verdict::Sound => {
-            if good {
-                Verdict::Sound
-            } else {
-                fields::flawed(Fault::PathParts, Offset(0))
-            }
-        }
+    base::base_flaw(hive)?;
+    if good {
+        Ok(())
+    } else {
+        fields::flawed(Fault::PathParts, Offset(0))
     }
 }
 
 // The key of a path in a hive, by either search.
-pub fn key_look(hive: &[u8], path: &[u16], how: How) -> Way
+#[tactic(auto, unfolding(crate::specs::Answers::key_look_by), using(crate::proofs::Ways::path_ways))]
+pub fn key_look(hive: &[u8], path: &[u16], how: How) -> Result<Way, Refusal>
     ensures { result ≡ key_look_by how hive.now path.now }
 {
-    match ask_flaw(hive, is_path(path)) {
-        Verdict::Flawed(f) => Way::Refused(fields::refused(Offset(fields::NO_KEY), f)),
-        Verdict::Sound => lookup_key(base::bins_of(hive), base::root_of(hive), path, how),
-    }
-}
-
-#[derive(Clone, Copy)]
-pub enum KeyFound {
-    At(Offset),
-    Refused(Refusal),
+    ask_flaw(hive, is_path(path))?;
+    lookup_key(base::bins_of(hive), base::root_of(hive), path, how)
 }
 
 // "17: no such key", with the last key that the way stood on.
-fn key_on(w: Way) -> KeyFound
+fn key_on(w: Result<Way, Refusal>) -> Result<Offset, Refusal>
     ensures { result ≡ key_found w }
 {
-    match w {
-        Way::Found(o) => KeyFound::At(o),
-        Way::Missing(key) => KeyFound::Refused(fields::refused(
+    match w? {
+        Way::Found(o) => Ok(o),
+        Way::Missing(key) => Err(Refusal {
+            fault: Fault::NoKey,
+            place: Offset(0),
             key,
-            Flaw {
-                fault: Fault::NoKey,
-                place: Offset(0),
-            },
-        )),
-        Way::Refused(r) => KeyFound::Refused(r),
+        }),
     }
 }
 
-fn key_by(hive: &[u8], path: &[u16], how: How) -> KeyFound
+#[tactic(auto, unfolding(crate::specs::Answers::find_by))]
+fn key_by(hive: &[u8], path: &[u16], how: How) -> Result<Offset, Refusal>
     ensures { result ≡ find_by how hive.now path.now }
 {
     key_on(key_look(hive, path, how))
 }
 
 // The offset of the key under a path.
-pub fn find_key(hive: &[u8], path: &[u16]) -> KeyFound
+pub fn find_key(hive: &[u8], path: &[u16]) -> Result<Offset, Refusal>
     ensures { result ≡ find_answer hive.now path.now }
 {
     key_by(hive, path, How::InTurn)
@@ -176,37 +149,32 @@ pub fn find_key(hive: &[u8], path: &[u16]) -> KeyFound
 
 // The same by halves: a few dozen key records for each part of the path, however many siblings there are. It answers as `find_key` in every hive that
 // the check accepts.
-pub fn quick_key(hive: &[u8], path: &[u16]) -> KeyFound
+pub fn quick_key(hive: &[u8], path: &[u16]) -> Result<Offset, Refusal>
     ensures { result ≡ quick_answer hive.now path.now }
 {
     key_by(hive, path, How::Halving)
 }
 
 // A name that a path can have as one part.
+#[tactic(auto, using(crate::proofs::Ways::step_tests))]
 fn is_step(name: &[u16]) -> bool
     ensures { result ≡ is_step name.now }
 {
-    if name.len() == 0 {
-        return false;
-    }
-    if 255 < name.len() {
-        return false;
-    }
-    part_end(name, 0) == name.len()
+    !name.is_empty() && name.len() <= 255 && part_end(name, 0) == name.len()
 }
 
 // A step is a path of one part, from any key.
-fn child_look(hive: &[u8], key: Offset, name: &[u16], how: How) -> Way
+#[tactic(auto, unfolding(crate::specs::Children::child_look_by), using(crate::proofs::Ways::step_ways))]
+fn child_look(hive: &[u8], key: Offset, name: &[u16], how: How) -> Result<Way, Refusal>
     ensures { result ≡ child_look_by how hive.now key name.now }
 {
-    match ask_flaw(hive, is_step(name)) {
-        Verdict::Flawed(f) => Way::Refused(fields::refused(Offset(fields::NO_KEY), f)),
-        Verdict::Sound => lookup_key(base::bins_of(hive), key, name, how),
-    }
+    ask_flaw(hive, is_step(name))?;
+    lookup_key(base::bins_of(hive), key, name, how)
 }
 
 // The child of the key at an offset by its name, by either search.
-pub fn child_by(hive: &[u8], key: Offset, name: &[u16], how: How) -> KeyFound
+#[tactic(auto, unfolding(crate::specs::Children::child_by))]
+pub fn child_by(hive: &[u8], key: Offset, name: &[u16], how: How) -> Result<Offset, Refusal>
     ensures { result ≡ child_by how hive.now key name.now }
 {
     key_on(child_look(hive, key, name, how))

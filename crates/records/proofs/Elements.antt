@@ -5,7 +5,6 @@ use mathlib.Core.Path.{◌≡◌, refl, sym, ap, ◌∙◌, subst}
 use mathlib.Core.List.{List, [], ◌∷◌, Memᴰ}
 use lib.ListN.{length, get_or}
 use Rattle.fields.specs.declared.Offset.{Offset}
-use Rattle.fields.specs.declared.Verdict.TheVariants.{Sound}
 use Rattle.fields.specs.Faults.{nowhere}
 use Rattle.cells.specs.declared.Rule.TheVariants.{Map}
 use Rattle.cells.specs.Named.{data_at}
@@ -16,6 +15,7 @@ use Rattle.records.specs.Terms.{leaves_at, leaf_named, leaves_named, LeavesLie}
 use Rattle.records.proofs.ListFacts.{list-room}
 use Rattle.records.proofs.LawsLists.{below_none, below-some, lists-head, lists-leaf}
 use Rattle.records.proofs.LawsPlaces.{named-at, named-length, head-tested, leaves-are}
+use Rattle.std.specs.Prelude.{Ok}
 
 -- what stands at an index is in the list
 pub at_in : {A : Type 0} (xs : List A) (i : ℕ) (z : A) → i < length xs → Memᴰ (get_or xs i z) xs
@@ -35,8 +35,8 @@ pub no-children : (d : List ℕ) (k : Key) → k.subkeys ≡ 0 → children_belo
 unfolding children_below children_in
 no-children d k e = rw (below_none d k e)
 
-module _ (d m : List ℕ) (k : Key) (e : lists_fault Map d m k ≡ Sound) (ne : k.subkeys ≡ 0 → ⊥) where
-  pub head-sound : head_fault Map d m k.list ≡ Sound
+module _ (d m : List ℕ) (k : Key) (e : lists_fault Map d m k ≡ Ok tt) (ne : k.subkeys ≡ 0 → ⊥) where
+  pub head-sound : head_fault Map d m k.list ≡ Ok tt
   head-sound = lists-head Map d m k e ne
 
   pub head-room : 4 ≤ length (data_at d k.list)
@@ -50,5 +50,5 @@ module _ (d m : List ℕ) (k : Key) (e : lists_fault Map d m k ≡ Sound) (ne : 
     unfolding children_below
     as-list = ap (children_in d) as-leaves
 
-    pub each-sound : (o : Offset) → Memᴰ o (leaves_named d ls) → leaf_fault Map d m o ≡ Sound
+    pub each-sound : (o : Offset) → Memᴰ o (leaves_named d ls) → leaf_fault Map d m o ≡ Ok tt
     each-sound o i = lists-leaf Map d m k e o (subst (λ (xs : List Offset). Memᴰ o xs) (sym as-leaves) i)

@@ -6,7 +6,6 @@ use mathlib.Core.List.{List, [], ◌∷◌, ◌++◌}
 use lib.ListN.{replicate}
 use Rattle.fields.specs.declared.Fault.TheVariants.{NoCell, Record}
 use Rattle.fields.specs.declared.Offset.{Offset}
-use Rattle.fields.specs.declared.Verdict.TheVariants.{Sound, Flawed}
 use Rattle.fields.specs.Number.{u16_at, u32_at, size_at}
 use Rattle.fields.specs.Bytes.{same_bytes, stands_at}
 use Rattle.fields.specs.Faults.{flaw, ◌next◌, fault_over}
@@ -17,6 +16,7 @@ use Rattle.names.specs.Codes.{codes, characters_in, has_code}
 use Rattle.records.specs.Offsets.{offsets_at}
 use Rattle.records.specs.Keys.{is_key_name, is_key, key_fault, key_in, key_of, codes_of}
 use Rattle.records.specs.Lists.{has_elements, width_of, has_leaf_signature, is_leaf, child_at, children_from, leaf_children, leaves_of, children_in, leaf_fault, is_list, head_fault, list_fault}
+use Rattle.std.specs.Prelude.{Err, Ok}
 
 -- a key record with one byte of name; bit 0x0020 of the flags says how it is stored
 abbrev key_record : ℕ → ℕ → List ℕ
@@ -44,7 +44,7 @@ at32 = record { 0 = 32 }
 abbrev at48 : Offset
 at48 = record { 0 = 48 }
 
-key-found : key_fault Header one_key [] at32 ≡ Sound
+key-found : key_fault Header one_key [] at32 ≡ Ok tt
 unfolding key_fault cell_fault cell_of by_header is_named good_size size_at data_at data_of is_key is_key_name stands_at same_bytes u32_at u16_at codes characters_in has_code ◌next◌
 key-found = refl
 
@@ -52,7 +52,7 @@ key-called : codes_of one_key (key_of one_key at32).name ≡ 65 ∷ []
 unfolding codes_of key_of key_in data_at data_of size_at u32_at u16_at codes
 key-called = refl
 
-no-key-there : key_fault Header one_key [] at48 ≡ Flawed (flaw NoCell at48)
+no-key-there : key_fault Header one_key [] at48 ≡ Err (flaw NoCell at48)
 unfolding key_fault cell_fault cell_of by_header is_named good_size size_at data_at data_of is_key is_key_name stands_at same_bytes u32_at u16_at codes characters_in has_code ◌next◌
 no-key-there = refl
 
@@ -71,11 +71,11 @@ index_of_leaf =
     (232 ∷ 255 ∷ 255 ∷ 255 ∷ 108 ∷ 104 ∷ 2 ∷ 0 ∷ 80 ∷ 0 ∷ 0 ∷ 0 ∷ 65 ∷ 0 ∷ 0 ∷ 0 ∷ 88 ∷ 0 ∷ 0 ∷ 0 ∷ 66 ∷ 0 ∷ 0 ∷ 0 ∷ [])
 
 -- "`ri`: offsets of `li`, `lf` or `lh` lists, never of `ri`": 12 at the inner list
-index-in-index : list_fault Header index_in_index [] at32 ≡ Flawed (flaw Record at48)
+index-in-index : list_fault Header index_in_index [] at32 ≡ Err (flaw Record at48)
 unfolding list_fault head_fault leaf_fault fault_over cell_fault cell_of by_header is_named good_size size_at data_at data_of is_list is_leaf has_leaf_signature has_elements width_of leaves_of offsets_at stands_at same_bytes u32_at u16_at ◌next◌
 index-in-index = refl
 
-index-of-leaf : list_fault Header index_of_leaf [] at32 ≡ Sound
+index-of-leaf : list_fault Header index_of_leaf [] at32 ≡ Ok tt
 unfolding list_fault head_fault leaf_fault fault_over cell_fault cell_of by_header is_named good_size size_at data_at data_of is_list is_leaf has_leaf_signature has_elements width_of leaves_of offsets_at stands_at same_bytes u32_at u16_at ◌next◌
 index-of-leaf = refl
 

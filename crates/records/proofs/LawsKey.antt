@@ -8,7 +8,6 @@ use lib.ListN.{length}
 use lib.Dec.{leb}
 use borrow.Author.Tests.{leb-true, not-true}
 use Rattle.fields.specs.declared.Offset.{Offset}
-use Rattle.fields.specs.declared.Verdict.TheVariants.{Sound}
 use Rattle.fields.specs.Number.{u16_at}
 use Rattle.fields.specs.Bytes.{stands_at}
 use Rattle.fields.proofs.Bools.{and-inv}
@@ -19,6 +18,7 @@ use Rattle.names.specs.Codes.{codes, characters_in, has_code, backslash}
 use Rattle.names.proofs.LawsCodes.{counted}
 use Rattle.records.specs.Keys.{is_whole, is_key_name, key_narrow, key_name, is_key, key_fault, key_in, key_of, NameIn, codes_of}
 use Rattle.records.proofs.LawsRecord.{record-tested}
+use Rattle.std.specs.Prelude.{Ok}
 
 -- the codes of the name of a key record
 abbrev pub name_codes : List ℕ → List ℕ
@@ -56,7 +56,7 @@ is-key-facts r e =
     }
 
 module _ (rule : Rule) (d m : List ℕ) (o : Offset) where
-  module _ (e : key_fault rule d m o ≡ Sound) where
+  module _ (e : key_fault rule d m o ≡ Ok tt) where
     pub key-facts : IsKey (data_at d o)
     unfolding key_fault
     key-facts = is-key-facts (data_at d o) (record-tested is_key rule d m o e)
@@ -74,3 +74,6 @@ module _ (rule : Rule) (d m : List ℕ) (o : Offset) where
 pub name-codes : (d : List ℕ) (o : Offset) → codes_of d (key_of d o).name ≡ name_codes (data_at d o)
 unfolding key_of key_in codes_of
 name-codes d o = refl
+
+pub key_room : (r : List ℕ) → is_key r ≡ true → 76 ≤ length r
+key_room r e = let k = is-key-facts r e in omega (arith, k.room)

@@ -6,7 +6,6 @@ use mathlib.Core.Bool.{Bool, true, false, cond}
 use mathlib.Core.List.{List, [], ◌∷◌}
 use lib.ListN.{length, get_or}
 use Rattle.fields.specs.declared.Offset.{Offset}
-use Rattle.fields.specs.declared.Verdict.TheVariants.{Sound}
 use Rattle.fields.specs.Faults.{nowhere}
 use Rattle.cells.specs.declared.Rule.{Rule}
 use Rattle.cells.specs.Named.{data_at}
@@ -19,6 +18,7 @@ use Rattle.records.specs.Terms.{leaves_in, leaves_at, leaf_named, leaves_named, 
 use Rattle.records.proofs.LawsRecord.{record-tested}
 use Rattle.records.proofs.ListFacts.{IsLeaf, leaf-facts, index-facts, list-room}
 use Rattle.records.proofs.LawsSequence.{offsets-length, offsets-at, leaf-children-length, leaf-children-at}
+use Rattle.std.specs.Prelude.{Ok}
 
 -- leaf j of some leaves
 module _ (d : List ℕ) (ls : Leaves) (lie : LeavesLie d ls) where
@@ -52,7 +52,7 @@ leaves-are d o = by (is_ri (data_at d o)) refl
     by true i = rw i
     by false i = rw i
 
-module _ (rule : Rule) (d m : List ℕ) (o : Offset) (e : head_fault rule d m o ≡ Sound) where
+module _ (rule : Rule) (d m : List ℕ) (o : Offset) (e : head_fault rule d m o ≡ Ok tt) where
   pub head-tested : is_list (data_at d o) ≡ true
   unfolding head_fault
   head-tested = record-tested is_list rule d m o e
@@ -90,7 +90,7 @@ wide r = by (is_li r)
     by true = (omega arith, λ h. absurd (h refl))
     by false = (omega arith, λ h. omega arith)
 
-module _ (rule : Rule) (d m : List ℕ) (o : Offset) (e : leaf_fault rule d m o ≡ Sound) where
+module _ (rule : Rule) (d m : List ℕ) (o : Offset) (e : leaf_fault rule d m o ≡ Ok tt) where
   pub leaf-tested : IsLeaf (data_at d o)
   unfolding leaf_fault
   leaf-tested = leaf-facts (data_at d o) (record-tested is_leaf rule d m o e)

@@ -1,4 +1,5 @@
 -- What a list that passes its test says, and where its leaves and elements lie.
+pub use Rattle.cells.proofs.Parts.{data-short}
 use Prim.Native.Nat.{ℕ, ◌+◌, ◌*◌, ◌<◌, ◌≤◌}
 use native.Mathlib.Nat.{add-mul, one-mul, mul-le-mul_right}
 use native.Mathlib.Omega.{arith}
@@ -59,3 +60,8 @@ list-room r e = by (is_ri r) refl
     by : (t : Bool) → is_ri r ≡ t → 4 ≤ length r
     by true i = let f = index-facts r e i in omega arith
     by false i = let f = (single-facts r e i).holds in omega arith
+
+-- what a list that was found has room for, and what an element has
+pub ruleset rooms = (leaf_room, list-room)
+
+pub ruleset places = (element-room, data-short)

@@ -66,3 +66,8 @@ module _ (r : List ℕ) where
   pub leaf-list : is_ri r ≡ false → is_list r ≡ is_leaf r
   unfolding is_list
   leaf-list e = rw e
+
+-- what `has_elements`, `is_leaf` and `is_list` need
+pub ruleset rooms = (product-fits, width_small)
+
+pub ruleset tests = (short-leaf, no-leaf, by-elements, short-list, index-list, leaf-list, width_small)

@@ -1,24 +1,19 @@
 -- "Key `nk`: flags at 2 (0x0020: one byte per character, else UTF-16LE), parent at 16, subkey count at 20, subkey list at 28, value count at 36,
 -- value list at 40, name length at 72, name at 76." Below, r is the data of a cell.
-use Rattle.std.specs.Prelude.{ℕ, ◌+◌, ◌/◌, ◌%◌, Bool, not, ◌&&◌, ◌||◌, List, [], ◌∷◌, eqb, leb, length, take, drop}
+use Rattle.std.specs.Prelude.{ℕ, ◌+◌, ◌/◌, ◌%◌, Bool, not, ◌&&◌, ◌||◌, List, [], ◌∷◌, eqb, leb, length, take, drop, Err, Ok, Result}
 use Rattle.fields.specs.declared.Fault.TheVariants.{Record}
 use Rattle.fields.specs.declared.Offset.{Offset}
-use Rattle.fields.specs.declared.Verdict.{Verdict}
-use Rattle.fields.specs.declared.Verdict.TheVariants.{Sound, Flawed}
 use Rattle.fields.specs.Number.{u16_at, u32_at}
 use Rattle.fields.specs.Bytes.{stands_at}
-use Rattle.fields.specs.Faults.{flaw, unless, ◌next◌}
+use Rattle.fields.specs.Faults.{flaw, unless, ◌next◌, Verdict}
 use Rattle.cells.specs.declared.Rule.{Rule}
 use Rattle.cells.specs.Named.{cell_fault, data_at, part_in}
 use Rattle.cells.specs.Terms.{PartIn}
 use Rattle.names.specs.Codes.{codes, characters_in, has_code, backslash}
-use Rattle.records.specs.declared.Called.{Called}
-use Rattle.records.specs.declared.Called.TheVariants as name
 use Rattle.records.specs.declared.Key.{Key}
-use Rattle.records.specs.declared.Keyed.{Keyed}
-use Rattle.records.specs.declared.Keyed.TheVariants as answer
 use Rattle.records.specs.declared.Name.{Name}
 use Rattle.records.specs.Offsets.{offset_at}
+use Rattle.fields.specs.declared.Flaw.{Flaw}
 
 -- whether a name is stored with one byte per character, by a flag of so much
 abbrev pub is_flagged : ℕ → ℕ → Bool
@@ -71,14 +66,14 @@ unfoldable pub security_of : List ℕ → Offset → Offset
 security_of d o = offset_at (data_at d o) 44
 
 -- the answer: the flaw, or the key
-abbrev pub keyed : Verdict → Key → Keyed
-keyed Sound k = answer.Whole k
-keyed (Flawed f) k = answer.Flawed f
+abbrev pub keyed : Verdict → Key → Result Key Flaw
+keyed (Ok tt) k = Ok k
+keyed (Err f) k = Err f
 
 -- the answer that holds its name alone
-abbrev pub called : Verdict → Name → Called
-called Sound n = name.Whole n
-called (Flawed f) n = name.Flawed f
+abbrev pub called : Verdict → Name → Result Name Flaw
+called (Ok tt) n = Ok n
+called (Err f) n = Err f
 
 -- a name lies in its cell's data: its bytes there, and their codes
 abbrev pub NameIn : List ℕ → Name → Type 0

@@ -1,13 +1,11 @@
 -- "Lists: signature, count at 2 (at least 1), elements at 4. `li`: offset. `lf`: offset, 4 bytes not read. `lh`: offset, hash. `ri`: offsets of
 -- `li`, `lf` or `lh` lists, never of `ri`. The key's count is the total over its leaves." Below, r is the data of a cell.
-use Rattle.std.specs.Prelude.{ℕ, zero, suc, ◌+◌, ◌*◌, Bool, cond, ◌&&◌, ◌||◌, List, [], ◌∷◌, ◌++◌, eqb, leb, length}
+use Rattle.std.specs.Prelude.{ℕ, zero, suc, ◌+◌, ◌*◌, Bool, cond, ◌&&◌, ◌||◌, List, [], ◌∷◌, ◌++◌, eqb, leb, length, Ok}
 use Rattle.fields.specs.declared.Fault.TheVariants.{Record}
 use Rattle.fields.specs.declared.Offset.{Offset}
-use Rattle.fields.specs.declared.Verdict.{Verdict}
-use Rattle.fields.specs.declared.Verdict.TheVariants.{Sound}
 use Rattle.fields.specs.Number.{u16_at, u32_at}
 use Rattle.fields.specs.Bytes.{stands_at}
-use Rattle.fields.specs.Faults.{flaw, unless, ◌next◌, fault_over}
+use Rattle.fields.specs.Faults.{flaw, unless, ◌next◌, fault_over, Verdict}
 use Rattle.cells.specs.declared.Rule.{Rule}
 use Rattle.cells.specs.Named.{cell_fault, data_at}
 use Rattle.records.specs.declared.Child.{Child}
@@ -95,8 +93,8 @@ head_fault rule d m o = cell_fault rule d m o next unless (is_list (data_at d o)
 unfoldable pub list_fault : Rule → List ℕ → List ℕ → Offset → Verdict
 list_fault rule d m o =
     head_fault rule d m o
-    next cond (is_ri (data_at d o)) (fault_over (leaf_fault rule d m) (leaves_of d o)) Sound
+    next cond (is_ri (data_at d o)) (fault_over (leaf_fault rule d m) (leaves_of d o)) (Ok tt)
 
 -- "all its lists"
 unfoldable pub lists_fault : Rule → List ℕ → List ℕ → Key → Verdict
-lists_fault rule d m k = cond (eqb k.subkeys 0) Sound (list_fault rule d m k.list)
+lists_fault rule d m k = cond (eqb k.subkeys 0) (Ok tt) (list_fault rule d m k.list)

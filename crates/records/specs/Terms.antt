@@ -1,23 +1,16 @@
 -- The leaves of a list and the elements of a leaf, where they stand in the list's cell, so that a loop over them reads each list's head once.
-use Rattle.std.specs.Prelude.{ℕ, zero, suc, ◌+◌, ◌*◌, ◌≤◌, ◌≡◌, true, false, cond, List, [], ◌∷◌, eqb, length}
+use Rattle.std.specs.Prelude.{ℕ, zero, suc, ◌+◌, ◌*◌, ◌≤◌, ◌≡◌, true, false, cond, List, [], ◌∷◌, eqb, length, Err, Ok, Result}
 use Rattle.fields.specs.declared.Offset.{Offset}
-use Rattle.fields.specs.declared.Verdict.{Verdict}
-use Rattle.fields.specs.declared.Verdict.TheVariants.{Sound, Flawed}
 use Rattle.fields.specs.Number.{u32_at}
-use Rattle.fields.specs.Faults.{nowhere, fault_over}
+use Rattle.fields.specs.Faults.{nowhere, fault_over, Verdict}
 use Rattle.cells.specs.declared.Rule.{Rule}
 use Rattle.cells.specs.Named.{data_at}
 use Rattle.records.specs.declared.Child.{Child}
 use Rattle.records.specs.declared.Leaf.{Leaf}
 use Rattle.records.specs.declared.Leaves.{Leaves}
-use Rattle.records.specs.declared.Headed.{Headed}
-use Rattle.records.specs.declared.Headed.TheVariants as head
-use Rattle.records.specs.declared.Leafed.{Leafed}
-use Rattle.records.specs.declared.Leafed.TheVariants as leaf
-use Rattle.records.specs.declared.Totalled.{Totalled}
-use Rattle.records.specs.declared.Totalled.TheVariants as total
 use Rattle.records.specs.Offsets.{offset_at, offsets_at}
 use Rattle.records.specs.Lists.{is_lf, is_ri, is_lh, count_of, width_of, children_in, leaf_fault}
+use Rattle.fields.specs.declared.Flaw.{Flaw}
 
 -- the leaves of the list r at an offset
 unfoldable pub leaves_in : List ℕ → Offset → Leaves
@@ -75,18 +68,18 @@ pub record ElementsLie (d : List ℕ) (l : Leaf) : Type 0 where
   pub beside-fits : (l.width ≡ 4 → ⊥) → 8 ≤ l.width
 
 -- the answers: the flaw, or what was found
-abbrev pub headed : Verdict → Leaves → Headed
-headed Sound ls = head.Whole ls
-headed (Flawed f) ls = head.Flawed f
+abbrev pub headed : Verdict → Leaves → Result Leaves Flaw
+headed (Ok tt) ls = Ok ls
+headed (Err f) ls = Err f
 
-abbrev pub leafed : Verdict → Leaf → Leafed
-leafed Sound l = leaf.Whole l
-leafed (Flawed f) l = leaf.Flawed f
+abbrev pub leafed : Verdict → Leaf → Result Leaf Flaw
+leafed (Ok tt) l = Ok l
+leafed (Err f) l = Err f
 
-abbrev pub totalled : Verdict → ℕ → Totalled
-totalled Sound n = total.Total n
-totalled (Flawed f) n = total.Flawed f
+abbrev pub totalled : Verdict → ℕ → Result ℕ Flaw
+totalled (Ok tt) n = Ok n
+totalled (Err f) n = Err f
 
 -- the elements of some leaves, counted, or the first leaf's flaw
-abbrev pub total_over : Rule → List ℕ → List ℕ → Leaves → Totalled
+abbrev pub total_over : Rule → List ℕ → List ℕ → Leaves → Result ℕ Flaw
 total_over rule d m ls = totalled (fault_over (leaf_fault rule d m) (leaves_named d ls)) (length (children_in d (leaves_named d ls)))

@@ -12,8 +12,9 @@ ghost use Rattle.records.specs.Keys.{is_flagged, is_whole, is_key_name, is_key, 
 ghost use Rattle.records.specs.Lists.{has_elements, width_of, has_leaf_signature, is_leaf, is_list, children_below, leaf_fault, head_fault, lists_fault};
 ghost use Rattle.records.specs.Terms.{leaves_in, leaves_at, headed, LeavesLie, leaf_named, leaf_in, leaf_of, leafed, ElementsLie, child_named, totalled, total_over};
 
-use cells::{Found, Rule};
+use cells::Rule;
 use fields::{Fault, Flaw, Offset};
+use std::cmp::Ordering;
 
 // A stored name: its bytes lie in the data of a cell, from a position on.
 #[derive(Clone, Copy)]
@@ -36,6 +37,7 @@ pub struct Key {
 }
 
 // An element of a leaf: the key that it names, and what stands beside: in an `lh` the hash, in an `lf` the hint, in an `li` nothing.
+// The kind stands in two flags and not in an enum around the value, for the theorems name these fields.
 #[derive(Clone, Copy)]
 pub struct Child {
     pub at: Offset,
@@ -56,47 +58,32 @@ pub fn is_flagged(flags: u16, bit: u16) -> bool
 pub fn is_whole(len: usize, narrow: bool) -> bool
     ensures { result ≡ is_whole len narrow }
 {
-    if narrow {
-        return true;
-    }
-    len % 2 == 0
+    narrow || len % 2 == 0
 }
 
 // "A name has 1 to 255 characters and no backslash; UTF-16 lengths are even."
+#[tactic(auto, unfolding(crate::specs::Keys::is_key_name))]
 fn is_key_name(s: &[u8], narrow: bool) -> bool
     ensures { result ≡ is_key_name s.now narrow }
 {
-    if !is_whole(s.len(), narrow) {
-        return false;
-    }
     let count = names::characters(s.len(), narrow);
-    if count < 1 {
-        return false;
-    }
-    if 255 < count {
-        return false;
-    }
-    !names::has_backslash(s, narrow)
+    is_whole(s.len(), narrow) && (1..=255).contains(&count) && !names::has_backslash(s, narrow)
 }
 
 // Whether a cell's data hold a key record: 76 bytes and the name.
+#[tactic(auto, unfolding(crate::specs::Keys::is_key))]
 pub fn is_key(r: &[u8]) -> bool
     ensures { result ≡ is_key r.now }
 {
-    if r.len() < 76 {
+    if r.len() < 76 || !fields::stands_at(r, 0, b"nk") {
         return false;
     }
-    if !fields::stands_at(r, 0, b"nk") {
-        return false;
-    }
-    let end = 76 + fields::u16_at(r, 72) as usize;
-    if r.len() < end {
-        return false;
-    }
-    is_key_name(&r[76..end], is_flagged(fields::u16_at(r, 2), 32))
+    let end = 76 + usize::from(fields::u16_at(r, 72));
+    end <= r.len() && is_key_name(&r[76..end], is_flagged(fields::u16_at(r, 2), 32))
 }
 
 // The name of the key record r at an offset.
+#[tactic(auto, unfolding(crate::specs::Keys::key_in))]
 fn name_in(r: &[u8], o: Offset) -> Name
     requires { 76 ≤ length r.now }
     ensures { result ≡ (key_in r.now o).name }
@@ -104,12 +91,13 @@ fn name_in(r: &[u8], o: Offset) -> Name
     Name {
         cell: o,
         at: 76,
-        len: fields::u16_at(r, 72) as usize,
+        len: usize::from(fields::u16_at(r, 72)),
         narrow: is_flagged(fields::u16_at(r, 2), 32),
     }
 }
 
 // The fields of the key record r at an offset.
+#[tactic(auto, unfolding(crate::specs::Keys::key_in))]
 fn key_in(r: &[u8], o: Offset) -> Key
     requires { 76 ≤ length r.now }
     ensures { result ≡ key_in r.now o }
@@ -124,55 +112,35 @@ fn key_in(r: &[u8], o: Offset) -> Key
     }
 }
 
-#[derive(Clone, Copy)]
-pub enum Keyed {
-    Whole(Key),
-    Flawed(Flaw),
-}
-
 // The key at an offset: its cell, then its record.
-pub fn key_at(bins: &[u8], map: &[u8], rule: Rule, o: Offset) -> Keyed
+#[tactic(auto, using(crate::proofs::LawsRecord::records, crate::proofs::LawsKey::key_room), unfolding(crate::specs::Keys::key_fault, crate::specs::Keys::key_of))]
+pub fn key_at(bins: &[u8], map: &[u8], rule: Rule, o: Offset) -> Result<Key, Flaw>
     ensures { result ≡ keyed (key_fault rule bins.now map.now o) (key_of bins.now o) }
 {
-    match cells::find_cell(bins, map, rule, o) {
-        Found::Flawed(f) => Keyed::Flawed(f),
-        Found::Named(c) => {
-            let r = cells::cell_data(bins, c);
-            if !is_key(r) {
-                return Keyed::Flawed(Flaw {
-                    fault: Fault::Record,
-                    place: o,
-                });
-            }
-            Keyed::Whole(key_in(r, o))
-        }
+    let r = cells::cell_data(bins, cells::find_cell(bins, map, rule, o)?);
+    if !is_key(r) {
+        return Err(Flaw {
+            fault: Fault::Record,
+            place: o,
+        });
     }
-}
-
-#[derive(Clone, Copy)]
-pub enum Called {
-    Whole(Name),
-    Flawed(Flaw),
+    Ok(key_in(r, o))
 }
 
 // The key at an offset, tested as `key_at` tests it, by its cell's own header: of its fields the name alone is read, for a search that passes over most
 // of the keys that it meets.
-pub fn name_at(bins: &[u8], o: Offset) -> Called
+#[tactic(auto, using(crate::proofs::LawsRecord::records, crate::proofs::LawsKey::key_room), unfolding(crate::specs::Keys::key_fault, crate::specs::Keys::key_of))]
+pub fn name_at(bins: &[u8], o: Offset) -> Result<Name, Flaw>
     ensures { result ≡ called (key_fault Header bins.now [] o) (key_of bins.now o).name }
 {
-    match cells::find_cell(bins, b"", Rule::Header, o) {
-        Found::Flawed(f) => Called::Flawed(f),
-        Found::Named(c) => {
-            let r = cells::cell_data(bins, c);
-            if !is_key(r) {
-                return Called::Flawed(Flaw {
-                    fault: Fault::Record,
-                    place: o,
-                });
-            }
-            Called::Whole(name_in(r, o))
-        }
+    let r = cells::cell_data(bins, cells::find_cell(bins, b"", Rule::Header, o)?);
+    if !is_key(r) {
+        return Err(Flaw {
+            fault: Fault::Record,
+            place: o,
+        });
     }
+    Ok(name_in(r, o))
 }
 
 // The fields of a key that was tested before.
@@ -184,6 +152,7 @@ pub fn key_fields(bins: &[u8], o: Offset) -> Key
 }
 
 // The security offset of a key that was tested before. It is read beside the fields, by the pass that wants it: the walk does not.
+#[tactic(auto, unfolding(crate::specs::Keys::security_of))]
 pub fn security_of(bins: &[u8], o: Offset) -> Offset
     requires { 76 ≤ length (data_at bins.now o) }
     ensures { result ≡ security_of bins.now o }
@@ -200,7 +169,8 @@ fn name_part(bins: &[u8], n: Name) -> &[u8]
 }
 
 // The order of two stored names.
-pub fn compare_names(bins: &[u8], a: Name, b: Name) -> names::Order
+#[tactic(auto, unfolding(crate::specs::Keys::codes_of))]
+pub fn compare_names(bins: &[u8], a: Name, b: Name) -> Ordering
     requires { NameIn bins.now a × NameIn bins.now b }
     ensures { result ≡ compare (codes_of bins.now a) (codes_of bins.now b) }
 {
@@ -208,6 +178,7 @@ pub fn compare_names(bins: &[u8], a: Name, b: Name) -> names::Order
 }
 
 // The hash of a stored name.
+#[tactic(auto, unfolding(crate::specs::Keys::codes_of))]
 pub fn hash_of(bins: &[u8], n: Name) -> u32
     requires { NameIn bins.now n }
     ensures { result ≡ hash_of (codes_of bins.now n) }
@@ -216,7 +187,8 @@ pub fn hash_of(bins: &[u8], n: Name) -> u32
 }
 
 // A stored name against a given one.
-pub fn order_of(bins: &[u8], n: Name, name: &[u16]) -> names::Order
+#[tactic(auto, unfolding(crate::specs::Keys::codes_of))]
+pub fn order_of(bins: &[u8], n: Name, name: &[u16]) -> Ordering
     requires { NameIn bins.now n }
     ensures { result ≡ compare (codes_of bins.now n) name.now }
 {
@@ -224,6 +196,7 @@ pub fn order_of(bins: &[u8], n: Name, name: &[u16]) -> names::Order
 }
 
 // Whether a stored name is the given one.
+#[tactic(auto, unfolding(crate::specs::Keys::codes_of))]
 pub fn is_called(bins: &[u8], n: Name, name: &[u16]) -> bool
     requires { NameIn bins.now n }
     ensures { result ≡ same_name (codes_of bins.now n) name.now }
@@ -232,6 +205,7 @@ pub fn is_called(bins: &[u8], n: Name, name: &[u16]) -> bool
 }
 
 // Whether a hint is that of a stored name.
+#[tactic(auto, unfolding(crate::specs::Keys::codes_of))]
 pub fn is_hinted(bins: &[u8], n: Name, hint: u32) -> bool
     requires { NameIn bins.now n }
     ensures { result ≡ fits_hint hint (codes_of bins.now n) }
@@ -240,6 +214,7 @@ pub fn is_hinted(bins: &[u8], n: Name, hint: u32) -> bool
 }
 
 // Whether two stored names are the same.
+#[tactic(auto, unfolding(crate::specs::Keys::codes_of))]
 pub fn is_namesake(bins: &[u8], a: Name, b: Name) -> bool
     requires { NameIn bins.now a × NameIn bins.now b }
     ensures { result ≡ same_name (codes_of bins.now a) (codes_of bins.now b) }
@@ -248,6 +223,7 @@ pub fn is_namesake(bins: &[u8], a: Name, b: Name) -> bool
 }
 
 // "count at 2 (at least 1), elements at 4": room for all elements, of so many bytes each.
+#[tactic(auto, using(crate::proofs::ListTests::rooms), unfolding(crate::specs::Lists::has_elements))]
 fn has_elements(r: &[u8], width: usize) -> bool
     requires { width ≤ 8 }
     ensures { result ≡ has_elements r.now width }
@@ -255,14 +231,12 @@ fn has_elements(r: &[u8], width: usize) -> bool
     if r.len() < 4 {
         return false;
     }
-    let n = fields::u16_at(r, 2) as usize;
-    if n < 1 {
-        return false;
-    }
-    4 + n * width <= r.len()
+    let n = usize::from(fields::u16_at(r, 2));
+    1 <= n && 4 + n * width <= r.len()
 }
 
 // An element of an `li` has 4 bytes, one of an `lf` or `lh` 8.
+#[tactic(auto, unfolding(crate::specs::Lists::width_of))]
 fn width_of(r: &[u8]) -> usize
     requires { 4 ≤ length r.now }
     ensures { result ≡ width_of r.now }
@@ -271,43 +245,36 @@ fn width_of(r: &[u8]) -> usize
 }
 
 // "`ri`: offsets of `li`, `lf` or `lh` lists, never of `ri`."
+#[tactic(auto, unfolding(crate::specs::Lists::has_leaf_signature))]
 fn has_leaf_signature(r: &[u8]) -> bool
     requires { 4 ≤ length r.now }
     ensures { result ≡ has_leaf_signature r.now }
 {
-    if fields::stands_at(r, 0, b"li") {
-        return true;
-    }
-    if fields::stands_at(r, 0, b"lf") {
-        return true;
-    }
-    fields::stands_at(r, 0, b"lh")
+    fields::stands_at(r, 0, b"li")
+        || fields::stands_at(r, 0, b"lf")
+        || fields::stands_at(r, 0, b"lh")
 }
 
 // Whether a cell's data hold a leaf.
+#[tactic(auto, using(crate::proofs::ListTests::tests))]
 fn is_leaf(r: &[u8]) -> bool
     ensures { result ≡ is_leaf r.now }
 {
-    if r.len() < 4 {
-        return false;
-    }
-    if !has_leaf_signature(r) {
-        return false;
-    }
-    has_elements(r, width_of(r))
+    4 <= r.len() && has_leaf_signature(r) && has_elements(r, width_of(r))
 }
 
 // Whether a cell's data hold a list: an `ri` with its elements, or a leaf.
+#[tactic(auto, using(crate::proofs::ListTests::tests))]
 fn is_list(r: &[u8]) -> bool
     ensures { result ≡ is_list r.now }
 {
     if r.len() < 4 {
-        return false;
+        false
+    } else if fields::stands_at(r, 0, b"ri") {
+        has_elements(r, 4)
+    } else {
+        is_leaf(r)
     }
-    if fields::stands_at(r, 0, b"ri") {
-        return has_elements(r, 4);
-    }
-    is_leaf(r)
 }
 
 // The leaves of a list, by its cell: those that an `ri` (index) names, "elements at 4", else the list itself.
@@ -318,51 +285,42 @@ pub struct Leaves {
     pub index: bool,
 }
 
-#[derive(Clone, Copy)]
-pub enum Headed {
-    Whole(Leaves),
-    Flawed(Flaw),
-}
-
 // The leaves of the list r at an offset.
+#[tactic(auto, unfolding(crate::specs::Terms::leaves_in))]
 fn leaves_in(r: &[u8], o: Offset) -> Leaves
     requires { 4 ≤ length r.now }
     ensures { result ≡ leaves_in r.now o }
 {
-    if fields::stands_at(r, 0, b"ri") {
-        return Leaves {
-            cell: o,
-            count: fields::u16_at(r, 2) as usize,
-            index: true,
-        };
-    }
+    let index = fields::stands_at(r, 0, b"ri");
+    let count = if index {
+        usize::from(fields::u16_at(r, 2))
+    } else {
+        1
+    };
     Leaves {
         cell: o,
-        count: 1,
-        index: false,
+        count,
+        index,
     }
 }
 
 // The list at an offset, without the leaves that an `ri` names.
-pub fn head_at(bins: &[u8], map: &[u8], rule: Rule, o: Offset) -> Headed
+#[tactic(auto, using(crate::proofs::LawsRecord::records, crate::proofs::ListFacts::rooms), unfolding(crate::specs::Lists::head_fault, crate::specs::Terms::leaves_at))]
+pub fn head_at(bins: &[u8], map: &[u8], rule: Rule, o: Offset) -> Result<Leaves, Flaw>
     ensures { result ≡ headed (head_fault rule bins.now map.now o) (leaves_at bins.now o) }
 {
-    match cells::find_cell(bins, map, rule, o) {
-        Found::Flawed(f) => Headed::Flawed(f),
-        Found::Named(c) => {
-            let r = cells::cell_data(bins, c);
-            if !is_list(r) {
-                return Headed::Flawed(Flaw {
-                    fault: Fault::Record,
-                    place: o,
-                });
-            }
-            Headed::Whole(leaves_in(r, o))
-        }
+    let r = cells::cell_data(bins, cells::find_cell(bins, map, rule, o)?);
+    if !is_list(r) {
+        return Err(Flaw {
+            fault: Fault::Record,
+            place: o,
+        });
     }
+    Ok(leaves_in(r, o))
 }
 
 // The offset of leaf j.
+#[tactic(auto, using(crate::proofs::ListFacts::places), unfolding(crate::specs::Terms::leaf_named))]
 pub fn leaf_offset(bins: &[u8], ls: Leaves, j: usize) -> Offset
     requires { (j < ls.count) × LeavesLie bins.now ls }
     ensures { result ≡ leaf_named bins.now ls j }
@@ -392,21 +350,15 @@ pub struct Leaf {
     pub hinted: bool,
 }
 
-#[derive(Clone, Copy)]
-pub enum Leafed {
-    Whole(Leaf),
-    Flawed(Flaw),
-}
-
 // The elements of the leaf r at an offset.
+#[tactic(auto, unfolding(crate::specs::Terms::leaf_in))]
 fn leaf_in(r: &[u8], o: Offset) -> Leaf
     requires { 4 ≤ length r.now }
     ensures { result ≡ leaf_in r.now o }
 {
-    let count = fields::u16_at(r, 2) as usize;
     Leaf {
         cell: o,
-        count,
+        count: usize::from(fields::u16_at(r, 2)),
         width: width_of(r),
         hashed: fields::stands_at(r, 0, b"lh"),
         hinted: fields::stands_at(r, 0, b"lf"),
@@ -414,22 +366,18 @@ fn leaf_in(r: &[u8], o: Offset) -> Leaf
 }
 
 // The leaf at an offset; an `ri` there is 12.
-pub fn leaf_at(bins: &[u8], map: &[u8], rule: Rule, o: Offset) -> Leafed
+#[tactic(auto, using(crate::proofs::LawsRecord::records, crate::proofs::ListFacts::rooms), unfolding(crate::specs::Lists::leaf_fault, crate::specs::Terms::leaf_of))]
+pub fn leaf_at(bins: &[u8], map: &[u8], rule: Rule, o: Offset) -> Result<Leaf, Flaw>
     ensures { result ≡ leafed (leaf_fault rule bins.now map.now o) (leaf_of bins.now o) }
 {
-    match cells::find_cell(bins, map, rule, o) {
-        Found::Flawed(f) => Leafed::Flawed(f),
-        Found::Named(c) => {
-            let r = cells::cell_data(bins, c);
-            if !is_leaf(r) {
-                return Leafed::Flawed(Flaw {
-                    fault: Fault::Record,
-                    place: o,
-                });
-            }
-            Leafed::Whole(leaf_in(r, o))
-        }
+    let r = cells::cell_data(bins, cells::find_cell(bins, map, rule, o)?);
+    if !is_leaf(r) {
+        return Err(Flaw {
+            fault: Fault::Record,
+            place: o,
+        });
     }
+    Ok(leaf_in(r, o))
 }
 
 // The elements of a leaf that was tested before.
@@ -441,6 +389,7 @@ pub fn leaf_fields(bins: &[u8], o: Offset) -> Leaf
 }
 
 // The offset of the key that element i of a leaf names, without what stands beside it.
+#[tactic(auto, using(crate::proofs::ListFacts::places), unfolding(crate::specs::Terms::child_named))]
 pub fn child_offset(bins: &[u8], leaf: Leaf, i: usize) -> Offset
     requires { (i < leaf.count) × ElementsLie bins.now leaf }
     ensures { result ≡ (child_named bins.now leaf i).at }
@@ -449,66 +398,46 @@ pub fn child_offset(bins: &[u8], leaf: Leaf, i: usize) -> Offset
 }
 
 // Element i of a leaf.
+#[tactic(auto, using(crate::proofs::ListFacts::places), unfolding(crate::specs::Terms::child_named))]
 pub fn child_of(bins: &[u8], leaf: Leaf, i: usize) -> Child
     requires { (i < leaf.count) × ElementsLie bins.now leaf }
     ensures { result ≡ child_named bins.now leaf i }
 {
     let p = 4 + i * leaf.width;
-    let at = Offset(cells::word_in(bins, leaf.cell, p));
-    if leaf.width == 4 {
-        return Child {
-            at,
-            hashed: leaf.hashed,
-            hinted: leaf.hinted,
-            beside: 0,
-        };
-    }
+    let beside = if leaf.width == 4 {
+        0
+    } else {
+        cells::word_in(bins, leaf.cell, p + 4)
+    };
     Child {
-        at,
+        at: Offset(cells::word_in(bins, leaf.cell, p)),
         hashed: leaf.hashed,
         hinted: leaf.hinted,
-        beside: cells::word_in(bins, leaf.cell, p + 4),
+        beside,
     }
-}
-
-#[derive(Clone, Copy)]
-pub enum Totalled {
-    Total(usize),
-    Flawed(Flaw),
 }
 
 // The elements of all leaves, counted, or the first leaf's flaw.
-fn total_over(bins: &[u8], map: &[u8], rule: Rule, ls: Leaves) -> Totalled
+fn total_over(bins: &[u8], map: &[u8], rule: Rule, ls: Leaves) -> Result<usize, Flaw>
     requires { (ls.count < 65536) × LeavesLie bins.now ls }
     ensures { result ≡ total_over rule bins.now map.now ls }
 {
-    let mut sum: usize = 0;
-    let mut j: usize = 0;
-    while j < ls.count {
-        let o = leaf_offset(bins, ls, j);
-        match leaf_at(bins, map, rule, o) {
-            Leafed::Flawed(f) => {
-                return Totalled::Flawed(f);
-            }
-            Leafed::Whole(l) => {
-                sum += l.count;
-            }
-        }
-        j += 1;
+    let mut sum = 0;
+    for j in 0..ls.count {
+        let leaf = leaf_at(bins, map, rule, leaf_offset(bins, ls, j))?;
+        sum += leaf.count;
     }
-    Totalled::Total(sum)
+    Ok(sum)
 }
 
 // "The key's count is the total over its leaves": that total, or the first flaw of its lists. "Count 0: the list offset is not read."
-pub fn total_of(bins: &[u8], map: &[u8], rule: Rule, k: Key) -> Totalled
+#[tactic(auto, using(crate::proofs::Totals::totals))]
+pub fn total_of(bins: &[u8], map: &[u8], rule: Rule, k: Key) -> Result<usize, Flaw>
     ensures { result ≡ totalled (lists_fault rule bins.now map.now k) (length (children_below bins.now k)) }
 {
     if k.subkeys == 0 {
-        return Totalled::Total(0);
+        return Ok(0);
     }
-    let list = k.list;
-    match head_at(bins, map, rule, list) {
-        Headed::Flawed(f) => Totalled::Flawed(f),
-        Headed::Whole(ls) => total_over(bins, map, rule, ls),
-    }
+    let ls = head_at(bins, map, rule, k.list)?;
+    total_over(bins, map, rule, ls)
 }

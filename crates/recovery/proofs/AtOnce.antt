@@ -9,15 +9,12 @@ use mathlib.Core.List.Memᴰ
 use mathlib.Core.List.{List, [], ◌∷◌, ◌++◌, append-nil, Memᴰ}
 use lib.Dec.{eqb}
 use lib.ListN.{length, drop, get_or-append}
-use Rattle.fields.specs.declared.Verdict.{Verdict}
-use Rattle.fields.specs.declared.Verdict.TheVariants.{Sound, Flawed}
 use Rattle.fields.proofs.Firsts.{both}
 use Rattle.bitmap.specs.Bits.{is_marked}
 use Rattle.sectors.specs.Sector.{stored, page_place}
 use Rattle.sectors.specs.Logged.{put_one, put_below}
 use Rattle.logs.specs.Logs.{log_fault, page_count, is_logged, logged_count, logged, marks_of, all_put}
 use Rattle.logs.proofs.Laws.{head_of, bins-sized, logged-below, marks-length, marks-logged}
-use Rattle.recovery.specs.declared.Marked.TheVariants as marked
 use Rattle.recovery.specs.declared.Started.TheVariants.{Pages}
 use Rattle.recovery.specs.Calls.{start_answer, page_hive, close_hive}
 use Rattle.recovery.specs.Finished.{finished, after_pages, Covers}
@@ -25,6 +22,8 @@ use Rattle.recovery.specs.AtOnce.{logged_below, logged_pages, all_hive, marked_f
 use Rattle.recovery.proofs.ByStart.{all-hive}
 use Rattle.recovery.proofs.Within.{Within, within-self, good, page-stores}
 use Rattle.recovery.proofs.Repair.{pages-within, repaired}
+use Rattle.fields.specs.Faults.{Verdict}
+use Rattle.std.specs.Prelude.{Err, Ok}
 
 after_both : (l ps qs h : List ℕ) → after_pages h l (ps ++ qs) ≡ after_pages (after_pages h l ps) l qs
 unfolding after_pages
@@ -43,7 +42,7 @@ below-has l (suc k) p g m = go (ℕ_discrete p k) (below-has l k p)
         (subst (λ (b : Bool). Memᴰ p (cond b (k ∷ []) [])) (sym m ∙ ap (is_logged l) e) (Memᴰ.head e))
     go (no e) rest = Memᴰ.append_left (cond (is_logged l k) (k ∷ []) []) (rest (omega arith) m)
 
-module _ (h l : List ℕ) (n : ℕ) (ok : start_answer h l ≡ Pages n) where
+module _ (h l : List ℕ) (n : ℕ) (ok : start_answer h l ≡ Ok (Pages n)) where
   -- the hive once the pages below p are done
   abbrev so_far : ℕ → List ℕ
   so_far p = after_pages h l (logged_below p l)
@@ -73,18 +72,18 @@ module _ (h l : List ℕ) (n : ℕ) (ok : start_answer h l ≡ Pages n) where
   all-covered p m = below-has l (page_count l) p (logged-below l (good h l n ok).log p m) m
 
   pub at_once : close_hive (all_hive h l) l ≡ finished h l
-  at_once = ap (λ (d : List ℕ). close_hive d l) (all-hive h l (Pages n) ok) ∙ (repaired h l n ok (logged_pages l) all-covered).file
+  at_once = ap (λ (d : List ℕ). close_hive d l) (all-hive h l (Ok (Pages n)) ok) ∙ (repaired h l n ok (logged_pages l) all-covered).file
 
 -- the map has each logged page's bit set, and no other of the bins' pages
-pub marked-right : (l m : List ℕ) (n : ℕ) → marked_answer l (length m) ≡ marked.Pages n
+pub marked-right : (l m : List ℕ) (n : ℕ) → marked_answer l (length m) ≡ Ok n
     → (n ≡ logged_count l) × ((p : ℕ) → p < page_count l → is_marked (marked_map l m) p ≡ is_logged l p)
 unfolding marked_answer marked_map marked_fault
 marked-right l m n e = by (marked_fault l (length m)) refl e
   where
-    by : (v : Verdict) → marked_fault l (length m) ≡ v → marked_by v (logged_count l) ≡ marked.Pages n
+    by : (v : Verdict) → marked_fault l (length m) ≡ v → marked_by v (logged_count l) ≡ Ok n
         → (n ≡ logged_count l) × ((p : ℕ) → p < page_count l → is_marked (where_marked (marked_by v (logged_count l)) (marks_of l ++ drop (page_count l / 8) m) m) p ≡ is_logged l p)
-    by (Flawed f) q w = absurd (let z : ◌≡◌ {A = ℕ} 0 1 = cc in omega arith)
-    by Sound q w =
+    by (Err f) q w = absurd (let z : ◌≡◌ {A = ℕ} 0 1 = cc in omega arith)
+    by (Ok tt) q w =
         let k = (both (log_fault l) _ q).0 in
         let size = (bins-sized l (head_of l k)).pages in (
           let z : logged_count l ≡ n = cc in sym z,

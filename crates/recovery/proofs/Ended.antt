@@ -21,15 +21,16 @@ use Rattle.recovery.proofs.Ways.{is-clean}
 use Rattle.recovery.proofs.ByStart.{page-answer, page-hive, close-answer, close-hive}
 use Rattle.recovery.proofs.Within.{Within, within-self, said, good}
 use Rattle.recovery.proofs.Repair.{lid, lid-length, finished-is, pages-within, covered}
+use Rattle.std.specs.Prelude.{Ok}
 
 -- ---- where the start says clean, every call does, and changes nothing
 
-module _ (d l : List ℕ) (e : start_answer d l ≡ start.Clean) where
-  pub clean-page : (p : ℕ) → (page_answer d l p ≡ step.Clean) × (page_hive d l p ≡ d)
-  clean-page p = (page-answer d l start.Clean e p, page-hive d l start.Clean e p)
+module _ (d l : List ℕ) (e : start_answer d l ≡ Ok start.Clean) where
+  pub clean-page : (p : ℕ) → (page_answer d l p ≡ Ok step.Clean) × (page_hive d l p ≡ d)
+  clean-page p = (page-answer d l (Ok start.Clean) e p, page-hive d l (Ok start.Clean) e p)
 
-  pub clean_close : (close_answer d l ≡ step.Clean) × (close_hive d l ≡ d)
-  clean_close = (close-answer d l start.Clean e, close-hive d l start.Clean e)
+  pub clean_close : (close_answer d l ≡ Ok step.Clean) × (close_hive d l ≡ d)
+  clean_close = (close-answer d l (Ok start.Clean) e, close-hive d l (Ok start.Clean) e)
 
 -- ---- all page numbers below n
 
@@ -46,7 +47,7 @@ below_all (suc n) p g = go (below_all n p) (ℕ_discrete p n)
     go rest (yes e) = Memᴰ.head e
     go rest (no e) = Memᴰ.tail (rest (omega arith))
 
-module _ (h l : List ℕ) (n : ℕ) (ok : start_answer h l ≡ start.Pages n) where
+module _ (h l : List ℕ) (n : ℕ) (ok : start_answer h l ≡ Ok (start.Pages n)) where
   whole : List ℕ
   whole = after_pages h l (below (page_count l))
 
@@ -79,5 +80,5 @@ module _ (h l : List ℕ) (n : ℕ) (ok : start_answer h l ≡ start.Pages n) wh
     lid-clean = closing-clean l (good h l n ok).log bytes
 
     -- whatever log is lent, the start says clean
-    pub end_clean : (l' : List ℕ) → start_answer (finished h l) l' ≡ start.Clean
+    pub end_clean : (l' : List ℕ) → start_answer (finished h l) l' ≡ Ok start.Clean
     end_clean l' = is-clean (finished h l) l' (omega (arith, end-length, (said h l n ok).long)) (ap clean end-lid ∙ lid-clean)

@@ -21,6 +21,7 @@ use Rattle.recovery.specs.declared.Started.TheVariants.{Pages}
 use Rattle.recovery.specs.Calls.{start_answer, page_hive, close_hive}
 use Rattle.recovery.specs.Finished.{finished_byte, listed, finished, after_pages, Covers, AllIn, Repaired}
 use Rattle.recovery.proofs.Within.{Version, Within, within-self, said, good, page-done, within-page, page-is, page-stays, all-close, close-stores}
+use Rattle.std.specs.Prelude.{Ok}
 
 pub length-listed : (f : ℕ → ℕ) (n : ℕ) → length (listed f n) ≡ n
 unfolding listed
@@ -43,7 +44,7 @@ same-past a b k i g e =
 same-before : (a b : List ℕ) (k i : ℕ) → i < k → take k a ≡ take k b → get_or a i 0 ≡ get_or b i 0
 same-before a b k i g e = sym (get_or-take k a i 0 g) ∙ ap (λ (x : List ℕ). get_or x i 0) e ∙ get_or-take k b i 0 g
 
-module _ (h l : List ℕ) (n : ℕ) (ok : start_answer h l ≡ Pages n) where
+module _ (h l : List ℕ) (n : ℕ) (ok : start_answer h l ≡ Ok (Pages n)) where
   abbrev pub lid : List ℕ
   lid = closing_of l
 

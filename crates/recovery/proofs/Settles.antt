@@ -12,10 +12,8 @@ use lib.Seq.{get_or-take, get_or-drop}
 use borrow.Author.Tests.{eq-eqb, ne_eqb, eqb-true, eqb-false, leb-true}
 use Rattle.fields.specs.declared.Flaw.{Flaw}
 use Rattle.fields.specs.declared.Refusal.{Refusal}
-use Rattle.fields.specs.declared.Verdict.{Verdict}
-use Rattle.fields.specs.declared.Verdict.TheVariants.{Sound, Flawed}
 use Rattle.fields.specs.declared.Fault.TheVariants.{HiveShort, NoRegf, Checksum, Version, BinsSize, BinsCut, Sequences}
-use Rattle.fields.specs.Faults.{number_of, flaw, nowhere, no_key, refusal_of, Keyless, unless, is_sound}
+use Rattle.fields.specs.Faults.{number_of, flaw, nowhere, no_key, refusal_of, Keyless, unless, is_sound, Verdict}
 use Rattle.fields.proofs.Firsts.{held}
 use Rattle.fields.proofs.Bools.{never}
 use Rattle.fields.proofs.Every.{Every, every-next, every-unless}
@@ -27,10 +25,11 @@ use Rattle.sectors.specs.Settling.{settled_sector}
 use Rattle.sectors.proofs.Stored.{sector-length, stored-length, stored_same, stored-drop}
 use Rattle.sectors.proofs.Words.{take-bytes}
 use Rattle.sectors.proofs.Settles.{settled-length, settled-u32, settled-apart, settled-clean}
-use Rattle.recovery.specs.declared.Stepped.{Stepped}
-use Rattle.recovery.specs.declared.Stepped.TheVariants.{Clean, Done, Refused}
+use Rattle.recovery.specs.declared.Stepped.TheVariants.{Clean, Done}
 use Rattle.recovery.specs.Calls.{changed}
 use Rattle.recovery.specs.Settling.{settled_by, settle_answer, settle_hive, OfSettle, of-base, is_refused, Settles}
+use Rattle.recovery.specs.declared.Stepped.{Stepped}
+use Rattle.std.specs.Prelude.{Err, Ok, Result}
 
 -- ---- where 7 answers, 1 to 6 have passed
 
@@ -54,7 +53,7 @@ module _ (h : List ℕ) where
       every-next Seven (unless (is_version (sector h) 0) (flaw Version nowhere)) _ (another (is_version (sector h) 0) (flaw Version nowhere) (λ m. omega arith)) (λ c.
       another (is_bins_size (bins_of (sector h))) (flaw BinsSize nowhere) (λ m. omega arith))))
 
-  pub torn : (f : Flaw) → base_fault h ≡ Flawed f → number_of f.fault ≡ 7 → Torn h
+  pub torn : (f : Flaw) → base_fault h ≡ Err f → number_of f.fault ≡ 7 → Torn h
   unfolding base_fault usable
   torn =
       let inside = leb (4096 + bins_of (sector h)) (length h) in
@@ -63,6 +62,10 @@ module _ (h : List ℕ) where
       every-next Seven (unless inside (flaw BinsCut nowhere)) _ (another inside (flaw BinsCut nowhere) (λ m. omega arith)) (λ c.
       every-unless Seven (is_settled (sector h)) (flaw Sequences nowhere) (λ e m.
       record { is-usable = ap is_sound b; inside = leb-true _ _ (held inside (flaw BinsCut nowhere) c) }))))
+
+  -- so its first sector is all there
+  pub torn_long : (f : Flaw) → base_fault h ≡ Err f → f.fault ≡ Sequences → 512 ≤ length h
+  torn_long f e q = let t = torn f e (ap number_of q) in omega (arith, t.inside)
 
 -- ---- the hive
 
@@ -88,7 +91,7 @@ module _ (h : List ℕ) (bytes : Bytes h) (t : Torn h) where
   done-clean : clean (sector done) ≡ true
   done-clean = ap clean done-sector ∙ settled-clean (sector h) (sector-length h 0 long) (take-bytes h bytes 512) t.is-usable
 
-  done-sound : base_fault done ≡ Sound
+  done-sound : base_fault done ≡ Ok tt
   done-sound =
       let bins : bins_of (sector done) ≡ bins_of (sector h) =
       ap bins_of done-sector ∙ settled-u32 (sector h) 40 (inr (omega arith)) (omega arith) in
@@ -108,25 +111,25 @@ module _ (h : List ℕ) (bytes : Bytes h) (t : Torn h) where
 -- ---- the answers
 
 -- what holds where it answers so
-data Met (h : List ℕ) : Stepped → Type 0 where
-  met-clean : base_fault h ≡ Sound → Met h Clean
-  met-torn : Torn h → Met h Done
-  met-flaw : (f : Flaw) → base_fault h ≡ Flawed f → number_of f.fault ≤ 6 → Met h (Refused (refusal_of no_key f))
+data Met (h : List ℕ) : Result Stepped Refusal → Type 0 where
+  met-clean : base_fault h ≡ Ok tt → Met h (Ok Clean)
+  met-torn : Torn h → Met h (Ok Done)
+  met-flaw : (f : Flaw) → base_fault h ≡ Err f → number_of f.fault ≤ 6 → Met h (Err (refusal_of no_key f))
 
 module _ (h : List ℕ) where
-  pub answer-clean : base_fault h ≡ Sound → settle_answer h ≡ Clean
+  pub answer-clean : base_fault h ≡ Ok tt → settle_answer h ≡ Ok Clean
   unfolding settle_answer
   answer-clean e = ap settled_by e
 
-  module _ (f : Flaw) (e : base_fault h ≡ Flawed f) where
-    abbrev by_number : Bool → Stepped
-    by_number t = cond t Done (Refused (refusal_of no_key f))
+  module _ (f : Flaw) (e : base_fault h ≡ Err f) where
+    abbrev by_number : Bool → Result Stepped Refusal
+    by_number t = cond t (Ok Done) (Err (refusal_of no_key f))
 
-    pub answer-seven : number_of f.fault ≡ 7 → settle_answer h ≡ Done
+    pub answer-seven : number_of f.fault ≡ 7 → settle_answer h ≡ Ok Done
     unfolding settle_answer
     answer-seven n = ap settled_by e ∙ ap by_number (eq-eqb (number_of f.fault) 7 n)
 
-    pub answer-other : (number_of f.fault ≡ 7 → ⊥) → settle_answer h ≡ Refused (refusal_of no_key f)
+    pub answer-other : (number_of f.fault ≡ 7 → ⊥) → settle_answer h ≡ Err (refusal_of no_key f)
     unfolding settle_answer
     answer-other n = ap settled_by e ∙ ap by_number (ne_eqb (number_of f.fault) 7 n)
 
@@ -134,46 +137,46 @@ module _ (h : List ℕ) where
   unfolding settle_answer
   meets = by (base_fault h) refl
     where
-      pick : (f : Flaw) → base_fault h ≡ Flawed f → (t : Bool) → eqb (number_of f.fault) 7 ≡ t → Met h (cond t Done (Refused (refusal_of no_key f)))
+      pick : (f : Flaw) → base_fault h ≡ Err f → (t : Bool) → eqb (number_of f.fault) 7 ≡ t → Met h (cond t (Ok Done) (Err (refusal_of no_key f)))
       pick f p true q = met-torn (torn h f p (eqb-true _ _ q))
       pick f p false q = met-flaw f p (omega (arith, base-number h (base-refuses h f p), eqb-false (number_of f.fault) 7 q))
 
       by : (v : Verdict) → base_fault h ≡ v → Met h (settled_by v)
-      by Sound p = met-clean p
-      by (Flawed f) p = pick f p (eqb (number_of f.fault) 7) refl
+      by (Ok tt) p = met-clean p
+      by (Err f) p = pick f p (eqb (number_of f.fault) 7) refl
 
   -- the hive afterwards, by the answer
-  pub after : {a : Stepped} → settle_answer h ≡ a → settle_hive h ≡ changed a (stored h 0 (settled_sector (sector h))) h
+  pub after : {a : Result Stepped Refusal} → settle_answer h ≡ a → settle_hive h ≡ changed a (stored h 0 (settled_sector (sector h))) h
   unfolding settle_hive
-  after e = ap (λ (a : Stepped). changed a (stored h 0 (settled_sector (sector h))) h) e
+  after e = ap (λ (a : Result Stepped Refusal). changed a (stored h 0 (settled_sector (sector h))) h) e
 
-  pub settle-stays : {r : Refusal} → settle_answer h ≡ Refused r → settle_hive h ≡ h
+  pub settle-stays : {r : Refusal} → settle_answer h ≡ Err r → settle_hive h ≡ h
   settle-stays e = after e
 
-  pub settle-refuses : {r : Refusal} → settle_answer h ≡ Refused r → Keyless (OfSettle h) r
+  pub settle-refuses : {r : Refusal} → settle_answer h ≡ Err r → Keyless (OfSettle h) r
   settle-refuses {r} e = by (settle_answer h) e meets
     where
-      by : (a : Stepped) → a ≡ Refused r → Met h a → Keyless (OfSettle h) r
-      by Clean q m = absurd (let z : ◌≡◌ {A = ℕ} 0 1 = cc in omega arith)
-      by Done q m = absurd (let z : ◌≡◌ {A = ℕ} 0 1 = cc in omega arith)
-      by (Refused x) q (met-flaw f p n) = (f, let z : refusal_of no_key f ≡ r = cc in sym z, of-base (base-refuses h f p) n)
+      by : (a : Result Stepped Refusal) → a ≡ Err r → Met h a → Keyless (OfSettle h) r
+      by (Ok Clean) q m = absurd (let z : ◌≡◌ {A = ℕ} 0 1 = cc in omega arith)
+      by (Ok Done) q m = absurd (let z : ◌≡◌ {A = ℕ} 0 1 = cc in omega arith)
+      by (Err x) q (met-flaw f p n) = (f, let z : refusal_of no_key f ≡ r = cc in sym z, of-base (base-refuses h f p) n)
 
   pub settles : Bytes h → Settles h
   settles b = by (settle_answer h) refl meets
     where
-      whole : ((base_fault (settle_hive h) ≡ Sound) ↔ (is_refused (settle_answer h) ≡ false)) → length (settle_hive h) ≡ length h
+      whole : ((base_fault (settle_hive h) ≡ Ok tt) ↔ (is_refused (settle_answer h) ≡ false)) → length (settle_hive h) ≡ length h
           → ((i : ℕ) → (i < 8) ⊎ (12 ≤ i) → (i < 508) ⊎ (512 ≤ i) → get_or (settle_hive h) i 0 ≡ get_or h i 0) → Settles h
       whole r l a = record { reads = r; is-clean = λ q. (base-facts (settle_hive h) (r.1 q)).is-clean; as_long = l; apart = a }
 
-      same : settle_hive h ≡ h → ((base_fault h ≡ Sound) ↔ (is_refused (settle_answer h) ≡ false)) → Settles h
+      same : settle_hive h ≡ h → ((base_fault h ≡ Ok tt) ↔ (is_refused (settle_answer h) ≡ false)) → Settles h
       same k r =
           whole (λ p. r.0 (sym (ap base_fault k) ∙ p), λ q. ap base_fault k ∙ r.1 q) (ap length k) (λ i x y. ap (λ (l : List ℕ). get_or l i 0) k)
 
-      by : (a : Stepped) → settle_answer h ≡ a → Met h a → Settles h
-      by Clean e (met-clean p) = same (after e) (λ q. ap is_refused e, λ q. p)
-      by (Refused x) e (met-flaw f p n) =
+      by : (a : Result Stepped Refusal) → settle_answer h ≡ a → Met h a → Settles h
+      by (Ok Clean) e (met-clean p) = same (after e) (λ q. ap is_refused e, λ q. p)
+      by (Err x) e (met-flaw f p n) =
           same (after e) (λ q. absurd (let z : ◌≡◌ {A = ℕ} 0 1 = cc in omega arith), λ q. absurd (never _ (ap is_refused e) q))
-      by Done e (met-torn t) =
+      by (Ok Done) e (met-torn t) =
           let k : settle_hive h ≡ done h b t = after e in
           whole (λ q. ap is_refused e, λ q. ap base_fault k ∙ done-sound h b t) (ap length k ∙ done-length h b t)
           (λ i x y. ap (λ (l : List ℕ). get_or l i 0) k ∙ done-apart h b t i x y)

@@ -9,10 +9,8 @@ use mathlib.Core.List.{List, Memᴰ}
 use lib.ListN.{length, take, drop}
 use lib.Seq.{take-take}
 use borrow.Author.Tests.{le-leb}
-use Rattle.fields.specs.declared.Verdict.{Verdict}
-use Rattle.fields.specs.declared.Verdict.TheVariants.{Sound}
 use Rattle.fields.specs.declared.Fault.TheVariants.{NotDirty, NotIn}
-use Rattle.fields.specs.Faults.{flaw, nowhere, no_key, refusal_of}
+use Rattle.fields.specs.Faults.{flaw, nowhere, no_key, refusal_of, Verdict}
 use Rattle.fields.proofs.Firsts.{sound, holds}
 use Rattle.base.specs.Block.{sector, clean}
 use Rattle.sectors.specs.Sector.{stored, page_place, page}
@@ -21,12 +19,14 @@ use Rattle.sectors.proofs.Pages.{page-same, page-other}
 use Rattle.logs.specs.Logs.{log_bins, page_count, is_logged, logged_count, versions_of, logged, applies, all_in, closing_of}
 use Rattle.logs.proofs.Laws.{head_of, bins-sized, logged-below, version-logged, version-length, logged-version, logged-length, half-applies, all_in_lem, in_all}
 use Rattle.recovery.specs.declared.Started.TheVariants.{Pages}
-use Rattle.recovery.specs.declared.Stepped.{Stepped}
-use Rattle.recovery.specs.declared.Stepped.TheVariants.{Done, Refused}
+use Rattle.recovery.specs.declared.Stepped.TheVariants.{Done}
 use Rattle.recovery.specs.Calls.{hive_fault, test_fault, started, start_answer, changed, page_answer, page_hive, closed, close_answer, close_hive}
 use Rattle.recovery.specs.Finished.{AllIn}
 use Rattle.recovery.proofs.Ways.{Passed, passed, Begun, begun, by_tests}
 use Rattle.recovery.proofs.ByStart.{page-answer, page-hive, close-answer}
+use Rattle.fields.specs.declared.Refusal.{Refusal}
+use Rattle.recovery.specs.declared.Stepped.{Stepped}
+use Rattle.std.specs.Prelude.{Err, Ok, Result}
 
 -- page p as the hive has it, or a version of it that the log has
 abbrev pub Version : List ℕ → List ℕ → ℕ → List ℕ → Type 0
@@ -42,7 +42,7 @@ pub record Within (h l d : List ℕ) : Type 0 where
 pub within-self : (h l : List ℕ) → Within h l h
 within-self h l = record { long = refl; front = refl; pages = λ p g. inl refl; back = refl }
 
-module _ (h l : List ℕ) (n : ℕ) (ok : start_answer h l ≡ Pages n) where
+module _ (h l : List ℕ) (n : ℕ) (ok : start_answer h l ≡ Ok (Pages n)) where
   abbrev pub said : Begun h l n
   said = begun h l n ok
 
@@ -84,7 +84,7 @@ module _ (h l : List ℕ) (n : ℕ) (ok : start_answer h l ≡ Pages n) where
         let size = bins-sized l (head_of l good.log) in
         half-applies h l d base_same (w.pages 0 (omega (arith, size.some, size.pages))) good.stamps
 
-    tests-stay : test_fault d l ≡ Sound
+    tests-stay : test_fault d l ≡ Ok tt
     unfolding test_fault hive_fault
     tests-stay = sound _ _ good.log (sound _ _ (holds _ (le-leb (4096 + log_bins l) (length d) (omega (arith, good.room, w.long)))) (holds _ stamps-stay))
 
@@ -92,34 +92,34 @@ module _ (h l : List ℕ) (n : ℕ) (ok : start_answer h l ≡ Pages n) where
     unclean = ap clean base_same ∙ said.unclean
 
     -- the same log is accepted with the same count
-    pub reached : start_answer d l ≡ Pages n
+    pub reached : start_answer d l ≡ Ok (Pages n)
     reached =
         by_tests d l (omega (arith, said.long, w.long)) unclean ∙ ap (λ (v : Verdict). started v (logged_count l)) tests-stay
-        ∙ ap Pages said.count
+        ∙ ap (λ (x : ℕ). Ok (Pages x)) said.count
 
     -- ---- a page call
 
-    pub page-done : (p : ℕ) → is_logged l p ≡ true → page_answer d l p ≡ Done
+    pub page-done : (p : ℕ) → is_logged l p ≡ true → page_answer d l p ≡ Ok Done
     page-done p e =
-        page-answer d l (Pages n) reached p ∙ ap (λ (b : Bool). cond b Done (Refused (refusal_of no_key (flaw NotDirty nowhere)))) e
+        page-answer d l (Ok (Pages n)) reached p ∙ ap (λ (b : Bool). cond b (Ok Done) (Err (refusal_of no_key (flaw NotDirty nowhere)))) e
 
     -- and only where the page is logged
-    pub done-logged : (p : ℕ) → page_answer d l p ≡ Done → is_logged l p ≡ true
-    done-logged p e = go (is_logged l p) (sym (page-answer d l (Pages n) reached p) ∙ e)
+    pub done-logged : (p : ℕ) → page_answer d l p ≡ Ok Done → is_logged l p ≡ true
+    done-logged p e = go (is_logged l p) (sym (page-answer d l (Ok (Pages n)) reached p) ∙ e)
       where
-        go : (b : Bool) → cond b Done (Refused (refusal_of no_key (flaw NotDirty nowhere))) ≡ Done → b ≡ true
+        go : (b : Bool) → cond b (Ok Done) (Err (refusal_of no_key (flaw NotDirty nowhere))) ≡ Ok Done → b ≡ true
         go true e = refl
         go false e = absurd (let z : ◌≡◌ {A = ℕ} 0 1 = cc in omega arith)
 
     pub page-stores : (p : ℕ) → is_logged l p ≡ true → page_hive d l p ≡ stored d (page_place p) (logged l p)
     page-stores p e =
-        page-hive d l (Pages n) reached p
-        ∙ ap (λ (b : Bool). changed (cond b Done (Refused (refusal_of no_key (flaw NotDirty nowhere)))) (stored d (page_place p) (logged l p)) d) e
+        page-hive d l (Ok (Pages n)) reached p
+        ∙ ap (λ (b : Bool). changed (cond b (Ok Done) (Err (refusal_of no_key (flaw NotDirty nowhere)))) (stored d (page_place p) (logged l p)) d) e
 
     pub page-not : (p : ℕ) → is_logged l p ≡ false → page_hive d l p ≡ d
     page-not p e =
-        page-hive d l (Pages n) reached p
-        ∙ ap (λ (b : Bool). changed (cond b Done (Refused (refusal_of no_key (flaw NotDirty nowhere)))) (stored d (page_place p) (logged l p)) d) e
+        page-hive d l (Ok (Pages n)) reached p
+        ∙ ap (λ (b : Bool). changed (cond b (Ok Done) (Err (refusal_of no_key (flaw NotDirty nowhere)))) (stored d (page_place p) (logged l p)) d) e
 
     pub within-page : (p : ℕ) → Within h l (page_hive d l p)
     within-page p = go (is_logged l p) refl
@@ -148,18 +148,18 @@ module _ (h l : List ℕ) (n : ℕ) (ok : start_answer h l ≡ Pages n) where
     -- ---- the closing call
 
     closing : close_answer d l ≡ closed d l
-    closing = close-answer d l (Pages n) reached
+    closing = close-answer d l (Ok (Pages n)) reached
 
-    pub close-all : close_answer d l ≡ Done → AllIn d l
+    pub close-all : close_answer d l ≡ Ok Done → AllIn d l
     close-all e p m = all_in_lem d l good.log (go (all_in d l) (sym closing ∙ e)) p m
       where
-        go : (b : Bool) → cond b Done (Refused (refusal_of no_key (flaw NotIn nowhere))) ≡ Done → b ≡ true
+        go : (b : Bool) → cond b (Ok Done) (Err (refusal_of no_key (flaw NotIn nowhere))) ≡ Ok Done → b ≡ true
         go true e = refl
         go false e = absurd (let z : ◌≡◌ {A = ℕ} 0 1 = cc in omega arith)
 
-    pub all-close : AllIn d l → close_answer d l ≡ Done
-    all-close i = closing ∙ ap (λ (b : Bool). cond b Done (Refused (refusal_of no_key (flaw NotIn nowhere)))) (in_all d l i)
+    pub all-close : AllIn d l → close_answer d l ≡ Ok Done
+    all-close i = closing ∙ ap (λ (b : Bool). cond b (Ok Done) (Err (refusal_of no_key (flaw NotIn nowhere)))) (in_all d l i)
 
     pub close-stores : AllIn d l → close_hive d l ≡ stored d 0 (closing_of l)
     unfolding close_hive
-    close-stores i = ap (λ (a : Stepped). changed a (stored d 0 (closing_of l)) d) (all-close i)
+    close-stores i = ap (λ (a : Result Stepped Refusal). changed a (stored d 0 (closing_of l)) d) (all-close i)

@@ -7,7 +7,6 @@ use mathlib.Core.List.{List, Memᴰ}
 use lib.ListN.{length, length-take, length-drop}
 use Rattle.fields.specs.declared.Offset.{Offset}
 use Rattle.fields.specs.declared.Place.{Place}
-use Rattle.fields.specs.declared.Verdict.TheVariants.{Sound}
 use Rattle.fields.specs.Number.{size_at, u16_at}
 use Rattle.fields.specs.Position.{place_of}
 use Rattle.base.specs.Block.{sector, bins_of, bins_data}
@@ -20,12 +19,12 @@ use Rattle.records.specs.Facts.{KeyRecord}
 use Rattle.values.specs.Facts.{OldValueRecord}
 use Rattle.remnants.specs.declared.Kind.TheVariants as kind
 use Rattle.remnants.specs.declared.Remain.{Remain}
-use Rattle.remnants.specs.declared.Remnant.TheVariants as remnant
 use Rattle.remnants.specs.Remnants.{remain_of, remnants_of, tiles_fault, remnant_answer}
 use Rattle.remnants.specs.Found.{Inside, rest_in, Left, a_key, a-value}
 use Rattle.remnants.proofs.Tests.{base-sound}
 use Rattle.remnants.proofs.Exact.{remnant-exactly}
 use Rattle.remnants.proofs.Refusals.{next-finds}
+use Rattle.std.specs.Prelude.{Ok, Some}
 
 module _ (d : List ℕ) where
   -- a record and its name end inside the free cell, and start in it
@@ -75,12 +74,12 @@ module _ (d : List ℕ) where
       omega (arith, s.ends, l.before)
 
 -- the name's bytes lie in the file, on any bytes
-pub remnant-name : (h : List ℕ) → tiles_fault h ≡ Sound → (x : Remain) → Memᴰ x (remnants_of (bins_data h)) → x.name.0 + x.len ≤ length h
+pub remnant-name : (h : List ℕ) → tiles_fault h ≡ Ok tt → (x : Remain) → Memᴰ x (remnants_of (bins_data h)) → x.name.0 + x.len ≤ length h
 remnant-name h e x m =
     let b = base-facts h (base-sound h e) in
     let n : length (bins_data h) ≡ bins_of (sector h) = simp (length-take, length-drop) (omega (arith, b.inside)) in
     omega (arith, ends-inside (bins_data h) x m, b.inside)
 
 -- so does the name that a step answers with
-pub next-name : (h : List ℕ) (from : ℕ) {x : Remain} → remnant_answer h from ≡ remnant.At x → x.name.0 + x.len ≤ length h
+pub next-name : (h : List ℕ) (from : ℕ) {x : Remain} → remnant_answer h from ≡ Ok (Some x) → x.name.0 + x.len ≤ length h
 next-name h from {x} e = let f = next-finds h from e in remnant-name h f.0 x f.1

@@ -22,7 +22,7 @@ use Rattle.remnants.specs.declared.Kind.TheVariants as kind
 use Rattle.remnants.specs.declared.Remain.{Remain}
 use Rattle.remnants.specs.Remnants.{rest_of, kind_at, remain_of, remain_at, spot, spots_n, spots_in, spots_of, remnants_of}
 use Rattle.remnants.specs.Found.{Inside, rest_in, Left, a_key, a-value}
-use Rattle.remnants.specs.Terms.{is_some}
+use Rattle.std.specs.Prelude.{None, Option, Some}
 use Rattle.remnants.proofs.Held.{a_key as is-a-key, a-value as is-a-value, key-is, value-is, kind-of-rest, remain-offset}
 
 -- a record of a free cell, by its offset
@@ -31,23 +31,21 @@ pub record Spot (d : List ℕ) (at end : ℕ) (x : Remain) : Type 0 where
   pub after : at ≤ o
   pub before : o < end
   pub eights : o % 8 ≡ 0
-  pub some : is_some (kind_at d o end) ≡ true
-  pub is : x ≡ remain_at d o end
+  pub kind : Kind
+  pub some : kind_at d o end ≡ Some kind
+  pub is : x ≡ remain_at d o end kind
 
 past-it : (o a : ℕ) → a ≤ o → o % 8 ≡ 0 → a % 8 ≡ 0 → (o ≡ a → ⊥) → a + 8 ≤ o
 past-it o a p q r ne = omega arith
 
 module _ (d : List ℕ) where
   -- the records of one free cell
-  in_spot : (k : Kind) (x y : Remain) → Memᴰ x (spot k y) → (is_some k ≡ true) × (x ≡ y)
-  in_spot kind.Key x y m = (refl, ⊎_elim (λ e. e) (λ q. absurd (Memᴰ.not-nil q)) (Memᴰ.cases_cons m))
-  in_spot kind.Value x y m = (refl, ⊎_elim (λ e. e) (λ q. absurd (Memᴰ.not-nil q)) (Memᴰ.cases_cons m))
-  in_spot kind.Neither x y m = absurd (Memᴰ.not-nil m)
+  in_spot : (k : Option Kind) (x : Remain) (f : Kind → Remain) → Memᴰ x (spot k f) → (j : Kind) × (k ≡ Some j) × (x ≡ f j)
+  in_spot (Some j) x f m = (j, refl, ⊎_elim (λ e. e) (λ q. absurd (Memᴰ.not-nil q)) (Memᴰ.cases_cons m))
+  in_spot None x f m = absurd (Memᴰ.not-nil m)
 
-  spot_in_lem : (k : Kind) (x y : Remain) → is_some k ≡ true → x ≡ y → Memᴰ x (spot k y)
-  spot_in_lem kind.Key x y s e = Memᴰ.head e
-  spot_in_lem kind.Value x y s e = Memᴰ.head e
-  spot_in_lem kind.Neither x y s e = absurd (let z : ◌≡◌ {A = ℕ} 0 1 = cc in omega arith)
+  spot_in_lem : {k : Option Kind} {x : Remain} (f : Kind → Remain) {j : Kind} → k ≡ Some j → x ≡ f j → Memᴰ x (spot k f)
+  spot_in_lem f s e = rw s (Memᴰ.head e)
 
   spots-of : (n at end : ℕ) (x : Remain) → at % 8 ≡ 0 → at + 8 * n ≡ end → Memᴰ x (spots_n n d at end) → Spot d at end x
   unfolding spots_n
@@ -58,10 +56,10 @@ module _ (d : List ℕ) where
       here : Memᴰ x (spot (kind_at d at end) (remain_at d at end)) → Spot d at end x
       here q =
           let i = in_spot (kind_at d at end) x (remain_at d at end) q in
-          record { o = at; after = omega arith; before = omega arith; eights = a; some = i.0; is = i.1 }
+          record { o = at; after = omega arith; before = omega arith; eights = a; kind = i.0; some = i.1; is = i.2 }
 
       past : Spot d (at + 8) end x → Spot d at end x
-      past s = record { o = s.o; after = omega (arith, s.after); before = s.before; eights = s.eights; some = s.some; is = s.is }
+      past s = record { o = s.o; after = omega (arith, s.after); before = s.before; eights = s.eights; kind = s.kind; some = s.some; is = s.is }
 
   of-spots : (n at end : ℕ) (x : Remain) → at % 8 ≡ 0 → at + 8 * n ≡ end → Spot d at end x → Memᴰ x (spots_n n d at end)
   unfolding spots_n
@@ -74,13 +72,13 @@ module _ (d : List ℕ) where
       by true e ih =
           let q = eqb-true s.o at e in
           Memᴰ.append_left (spots_n n d (at + 8) end)
-          (spot_in_lem (kind_at d at end) x (remain_at d at end) (subst (λ (o : ℕ). is_some (kind_at d o end) ≡ true) q s.some)
-          (s.is ∙ ap (λ (o : ℕ). remain_at d o end) q))
+          (spot_in_lem (remain_at d at end) (subst (λ (o : ℕ). kind_at d o end ≡ Some s.kind) q s.some)
+          (s.is ∙ ap (λ (o : ℕ). remain_at d o end s.kind) q))
       by false e ih =
           let q = eqb-false s.o at e in
           let lt = past-it s.o at s.after s.eights a q in
           Memᴰ.append_right (spot (kind_at d at end) (remain_at d at end))
-          (ih (record { o = s.o; after = lt; before = s.before; eights = s.eights; some = s.some; is = s.is }))
+          (ih (record { o = s.o; after = lt; before = s.before; eights = s.eights; kind = s.kind; some = s.some; is = s.is }))
 
   pub spots-exactly : (at end : ℕ) (x : Remain) → at % 8 ≡ 0 → end % 8 ≡ 0 → at ≤ end → Memᴰ x (spots_in d at end) ↔ Spot d at end x
   unfolding spots_in
@@ -144,7 +142,7 @@ module _ (d : List ℕ) where
 
   left-of : (x : Remain) → Holds x → Left d x
   unfolding remain_at
-  left-of x g = by (kind_at d s.o end) refl s.some
+  left-of x g = by s.kind s.some s.is
     where
       end : ℕ
       end = g.start + (size_at d g.start).bytes
@@ -153,32 +151,25 @@ module _ (d : List ℕ) where
       s = g.spot
 
       at-o : x.at.0 ≡ s.o
-      at-o = ap (λ (y : Remain). y.at.0) s.is ∙ remain-offset d s.o end
+      at-o = ap (λ (y : Remain). y.at.0) s.is ∙ remain-offset d s.o end s.kind
 
       inside : Inside d g.start s.o
       inside = record { free = g.free; after = s.after; before = s.before; eights = s.eights }
 
-      is-kind : (k : Kind) → kind_at d s.o end ≡ k → x ≡ remain_of k (rest_of d s.o end) s.o
-      is-kind k e = s.is ∙ as-kind k e
-        where
-          as-kind : (k : Kind) → kind_at d s.o end ≡ k → remain_at d s.o end ≡ remain_of k (rest_of d s.o end) s.o
-          as-kind k e = ap (λ (j : Kind). remain_of j (rest_of d s.o end) s.o) e
-
-      by : (k : Kind) → kind_at d s.o end ≡ k → is_some k ≡ true → Left d x
+      by : (k : Kind) → kind_at d s.o end ≡ Some k → x ≡ remain_of k (rest_of d s.o end) s.o → Left d x
       by kind.Key e t =
           let r = (key-exactly (rest_of d s.o end)).0 (key-is (rest_of d s.o end) (sym (kind-of-rest d s.o end) ∙ e)) in
           a_key (subst (Inside d g.start) (sym at-o) inside) (subst (λ (o : ℕ). KeyRecord (rest_of d o end)) (sym at-o) r)
-          (subst (λ (o : ℕ). x ≡ remain_of kind.Key (rest_of d o end) o) (sym at-o) (is-kind kind.Key e))
+          (subst (λ (o : ℕ). x ≡ remain_of kind.Key (rest_of d o end) o) (sym at-o) t)
       by kind.Value e t =
           let r = (old-exactly (rest_of d s.o end)).0 (value-is (rest_of d s.o end) (sym (kind-of-rest d s.o end) ∙ e)) in
           a-value (subst (Inside d g.start) (sym at-o) inside) (subst (λ (o : ℕ). OldValueRecord (rest_of d o end)) (sym at-o) r)
-          (subst (λ (o : ℕ). x ≡ remain_of kind.Value (rest_of d o end) o) (sym at-o) (is-kind kind.Value e))
-      by kind.Neither e t = absurd (let z : ◌≡◌ {A = ℕ} 0 1 = cc in omega arith)
+          (subst (λ (o : ℕ). x ≡ remain_of kind.Value (rest_of d o end) o) (sym at-o) t)
 
-  spotted : (x : Remain) {start : ℕ} (k : Kind) → is_some k ≡ true → Inside d start x.at.0 → kind_at d x.at.0 (start + (size_at d start).bytes) ≡ k
+  spotted : (x : Remain) {start : ℕ} (k : Kind) → Inside d start x.at.0 → kind_at d x.at.0 (start + (size_at d start).bytes) ≡ Some k
       → x ≡ remain_of k (rest_in d start x.at.0) x.at.0 → Holds x
   unfolding remain_at
-  spotted x {start} k s i e p =
+  spotted x {start} k i e p =
       record {
         start = start;
         free = i.free;
@@ -187,18 +178,19 @@ module _ (d : List ℕ) where
           after = i.after;
           before = i.before;
           eights = i.eights;
-          some = ap is_some e ∙ s;
-          is = p ∙ ap (λ (j : Kind). remain_of j (rest_in d start x.at.0) x.at.0) (sym e);
+          kind = k;
+          some = e;
+          is = p;
         };
       }
 
   of_left : (x : Remain) → Left d x → Holds x
   of_left x (a_key {start} i r p) =
       let rest = rest_in d start x.at.0 in
-      spotted x kind.Key refl i (kind-of-rest d x.at.0 (start + (size_at d start).bytes) ∙ is-a-key rest ((key-exactly rest).1 r)) p
+      spotted x kind.Key i (kind-of-rest d x.at.0 (start + (size_at d start).bytes) ∙ is-a-key rest ((key-exactly rest).1 r)) p
   of_left x (a-value {start} i r p) =
       let rest = rest_in d start x.at.0 in
-      spotted x kind.Value refl i
+      spotted x kind.Value i
       (kind-of-rest d x.at.0 (start + (size_at d start).bytes) ∙ is-a-value rest (two-signatures rest r) ((old-exactly rest).1 r)) p
 
   pub remnant-exactly : (x : Remain) → Memᴰ x (remnants_of d) ↔ Left d x

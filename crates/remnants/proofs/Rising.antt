@@ -9,7 +9,7 @@ use borrow.Author.Tests.{leb-true, leb-false}
 use Rattle.cells.specs.Free.{Span}
 use Rattle.cells.proofs.Free.{Spread, spread_end, spread-on, free-spread}
 use Rattle.remnants.specs.declared.Kind.{Kind}
-use Rattle.remnants.specs.declared.Kind.TheVariants as kind
+use Rattle.std.specs.Prelude.{None, Option, Some}
 use Rattle.remnants.specs.declared.Remain.{Remain}
 use Rattle.remnants.specs.Remnants.{kind_at, remain_at, spot, spots_n, spots_in, spots_of, remnants_of, not_below}
 use Rattle.remnants.specs.Found.{Rises, rises-end, rises-on}
@@ -51,10 +51,9 @@ one-within x {o} e =
     let c : x.at.0 + 1 ≤ o + 8 = omega arith in
     within_on a b (within_end c)
 
-spot-within : (k : Kind) (x : Remain) {o : ℕ} → x.at.0 ≡ o → Within o (o + 8) (spot k x)
-spot-within kind.Key x e = one-within x e
-spot-within kind.Value x e = one-within x e
-spot-within kind.Neither x {o} e = let p : o ≤ o + 8 = omega arith in within_end p
+spot-within : (k : Option Kind) (f : Kind → Remain) {o : ℕ} → ((j : Kind) → (f j).at.0 ≡ o) → Within o (o + 8) (spot k f)
+spot-within (Some j) f e = one-within (f j) (e j)
+spot-within None f {o} e = let p : o ≤ o + 8 = omega arith in within_end p
 
 module _ (d : List ℕ) where
   spots_n-within : (n o end : ℕ) → Within o (o + 8 * n) (spots_n n d o end)

@@ -13,10 +13,10 @@ use Rattle.cells.specs.Free.{Span}
 use Rattle.cells.specs.Terms.{gap_of, Without}
 use Rattle.cells.proofs.Gaps.{gap-some, gap-none}
 use Rattle.remnants.specs.declared.Kind.{Kind}
-use Rattle.remnants.specs.declared.Kind.TheVariants as kind
+use Rattle.std.specs.Prelude.{None, Option, Some}
 use Rattle.remnants.specs.declared.Remain.{Remain}
 use Rattle.remnants.specs.Remnants.{kind_at, remain_at, spot, spots_n, spots_in, spots_of, not_below}
-use Rattle.remnants.specs.Terms.{is_some, Free, Skipped, Going, Hits}
+use Rattle.remnants.specs.Terms.{Free, Skipped, Going}
 use Rattle.remnants.proofs.Held.{remain-offset, spot-none, unsigned}
 
 module _ (from : ℕ) where
@@ -42,10 +42,9 @@ module _ (from : ℕ) where
   unfolding not_below
   below-nil = refl
 
-  spot-below : (k : Kind) (x : Remain) → x.at.0 < from → not_below from (spot k x) ≡ []
-  spot-below kind.Key x p = below-skips x [] p ∙ below-nil
-  spot-below kind.Value x p = below-skips x [] p ∙ below-nil
-  spot-below kind.Neither x p = below-nil
+  spot-below : (k : Option Kind) (f : Kind → Remain) → ((j : Kind) → (f j).at.0 < from) → not_below from (spot k f) ≡ []
+  spot-below (Some j) f p = below-skips (f j) [] (p j) ∙ below-nil
+  spot-below None f p = below-nil
 
 module _ (d : List ℕ) where
   pub spots-step : {at end : ℕ} → at % 8 ≡ 0 → end % 8 ≡ 0 → at < end
@@ -74,14 +73,9 @@ module _ (d : List ℕ) where
           let q : end ≡ at = omega (arith, ltb-false at end e) in
           rw (q, gap-none at, spots-end at)
 
-  pub spots-some : {at end : ℕ} → at % 8 ≡ 0 → end % 8 ≡ 0 → at < end → is_some (kind_at d at end) ≡ true
-      → spots_in d at end ≡ remain_at d at end ∷ spots_in d (at + 8) end
-  spots-some {at} {end} p q lt s = spots-step p q lt ∙ by (kind_at d at end) s
-    where
-      by : (k : Kind) → is_some k ≡ true → spot k (remain_at d at end) ++ spots_in d (at + 8) end ≡ remain_at d at end ∷ spots_in d (at + 8) end
-      by kind.Key e = refl
-      by kind.Value e = refl
-      by kind.Neither e = absurd (let z : ◌≡◌ {A = ℕ} 0 1 = cc in omega arith)
+  pub spots-some : {at end : ℕ} → at % 8 ≡ 0 → end % 8 ≡ 0 → at < end → {k : Kind} → Some k ≡ kind_at d at end
+      → spots_in d at end ≡ remain_at d at end k ∷ spots_in d (at + 8) end
+  spots-some {at} {end} p q lt s = spots-step p q lt ∙ rw (← s)
 
   module _ (from end : ℕ) where
     -- a position that holds nothing at or past `from`
@@ -94,8 +88,7 @@ module _ (d : List ℕ) where
         → not_below from (spots_in d at end) ≡ not_below from (spots_in d (at + 8 * k) end)
     skipping zero at p q h n = ap (λ (x : ℕ). not_below from (spots_in d x end)) (omega arith)
     skipping (suc k) at p q h n =
-        let o = remain-offset d at end in
-        passes p q (omega arith) (spot-below from (kind_at d at end) (remain_at d at end) (omega arith))
+        passes p q (omega arith) (spot-below from (kind_at d at end) (remain_at d at end) (λ j. let o = remain-offset d at end j in omega arith))
         ∙ skipping k (at + 8) (omega arith) q (omega arith) (omega arith)
         ∙ ap (λ (x : ℕ). not_below from (spots_in d x end)) (omega arith)
 
@@ -115,7 +108,7 @@ module _ (d : List ℕ) where
             skipping k at f.eights f.ends (omega (arith, s.high)) (omega arith) ∙ ap (λ (x : ℕ). not_below from (spots_in d x end)) e
 
     module _ {at o : ℕ} (g : Going d at end from o) where
-      pub going_on : o < end → is_some (kind_at d o end) ≡ false → Going d at end from (o + 8)
+      pub going_on : o < end → kind_at d o end ≡ None → Going d at end from (o + 8)
       going_on lt e =
           let f = g.free in
           let p = g.past lt in
@@ -123,29 +116,7 @@ module _ (d : List ℕ) where
             low = omega (arith, g.low);
             free = record { order = omega (arith, f.eights, f.ends); eights = omega (arith, f.eights); ends = f.ends; inside = f.inside; small = f.small };
             past = λ h. omega arith;
-            same = g.same ∙ passes f.eights f.ends lt (ap (not_below from) (spot-none (kind_at d o end) (remain_at d o end) e) ∙ below-nil from);
-          }
-
-      pub hit : o < end → {k : Kind} → k ≡ kind_at d o end → is_some k ≡ true → Hits d at end from (record { at = o; kind = k })
-      hit lt e s =
-          record {
-            low = g.low;
-            free = g.free;
-            same = g.same;
-            found = λ t. record { before = lt; past = g.past lt; is = e; some = s };
-            lost = λ t. absurd (let z : ◌≡◌ {A = ℕ} 0 1 = cc in omega arith);
-          }
-
-      pub missed : end ≤ o → Hits d at end from (record { at = end; kind = kind.Neither })
-      missed le =
-          let f = g.free in
-          let e : o ≡ end = omega (arith, f.order) in
-          record {
-            low = omega (arith, g.low);
-            free = rw e at f;
-            same = rw e at g.same;
-            found = λ t. absurd (let z : ◌≡◌ {A = ℕ} 0 1 = cc in omega arith);
-            lost = λ t. refl;
+            same = g.same ∙ passes f.eights f.ends lt (ap (not_below from) (spot-none (remain_at d o end) e) ∙ below-nil from);
           }
 
     -- positions without the second byte of the signatures hold nothing

@@ -12,10 +12,11 @@ use Rattle.fields.specs.declared.Fault.TheVariants.{OutputShort}
 use Rattle.fields.specs.Faults.{flaw, nowhere, no_key, refusal_of}
 use Rattle.remnants.specs.declared.Cursor.{Cursor}
 use Rattle.remnants.specs.declared.Remain.{Remain}
-use Rattle.remnants.specs.declared.Filled.TheVariants as filled
 use Rattle.remnants.specs.Remnants.{remain_at, words_of, rows_of, fitting, filled_with, poured}
-use Rattle.remnants.specs.Terms.{is_some, cursor, Sought, Sees, sought_left, pour_from, count_from}
+use Rattle.remnants.specs.declared.Kind.{Kind}
+use Rattle.remnants.specs.Terms.{cursor, Sought, Sees, sought_left, pour_from, count_from}
 use Rattle.remnants.proofs.Seeks.{first-left}
+use Rattle.std.specs.Prelude.{Err, None, Ok, Some}
 
 pub stored : (l : List ℕ) (i a b n w : ℕ) → set (set (set (set l i a) (i + 1) b) (i + 2) n) (i + 3) w ≡ sets l i (a ∷ b ∷ n ∷ w ∷ [])
 stored l i a b n w =
@@ -62,7 +63,7 @@ pub record Filling (d : List ℕ) (from : ℕ) (xs : List Remain) (rows₀ rows 
   pub pour : pour_from xs 0 rows₀ ≡ pour_from (sought_left d from c) n rows
 
 module _ {d : List ℕ} {from : ℕ} {xs : List Remain} {rows₀ rows : List ℕ} {c : Cursor} {n : ℕ} (f : Filling d from xs rows₀ rows c n) where
-  pub filled-end : is_some c.kind ≡ false → (n ≡ count_from xs 0 (length rows₀)) × (rows ≡ pour_from xs 0 rows₀)
+  pub filled-end : c.kind ≡ None → (n ≡ count_from xs 0 (length rows₀)) × (rows ≡ pour_from xs 0 rows₀)
   filled-end e =
       let l = f.sought.lost e in (
         sym (f.count ∙ ap (λ (ys : List Remain). count_from ys n (length rows₀)) l ∙ count-nil n (length rows₀)),
@@ -77,7 +78,7 @@ module _ {d : List ℕ} {from : ℕ} {xs : List Remain} {rows₀ rows : List ℕ
         sym (f.pour ∙ pour-full n (sought_left d from c) rows (omega arith)),
       )
 
-  pub filled_on : is_some c.kind ≡ true → 4 ≤ length rows - 4 * n → {x : Remain} → x ≡ remain_at d c.at c.cell
+  pub filled_on : {k : Kind} → c.kind ≡ Some k → 4 ≤ length rows - 4 * n → {x : Remain} → x ≡ remain_at d c.at c.cell k
       → {rows' : List ℕ} → rows' ≡ sets rows (4 * n) (words_of x) → {r : Cursor} → Sees d (cursor (c.at + 8) c.cell c.bin) from r
       → Filling d from xs rows₀ rows' r (n + 1)
   filled_on e p {x} is {rows'} s {r} v =
@@ -198,17 +199,17 @@ pub poured-short : (xs : List Remain) (rows : List ℕ) → length rows < 4 → 
 poured-short xs rows p = sym (pour-all xs rows) ∙ pour-full 0 xs rows (omega arith)
 
 -- the answers: where none is left, where there is no room, where there is
-pub rows_none : (rows : List ℕ) {xs : List Remain} → xs ≡ [] → (filled.Done ≡ filled_with (length rows) xs) × (rows ≡ poured xs rows)
+pub rows_none : (rows : List ℕ) {xs : List Remain} → xs ≡ [] → ((Ok None) ≡ filled_with (length rows) xs) × (rows ≡ poured xs rows)
 rows_none rows e = (rw e, rw e (sym (poured-none rows)))
 
 pub rows_short : (rows : List ℕ) {x : Remain} {xs ys : List Remain} → length rows < 4 → xs ≡ x ∷ ys
-    → (filled.Refused (refusal_of no_key (flaw OutputShort nowhere)) ≡ filled_with (length rows) xs) × (rows ≡ poured xs rows)
+    → (Err (refusal_of no_key (flaw OutputShort nowhere)) ≡ filled_with (length rows) xs) × (rows ≡ poured xs rows)
 rows_short rows {x} {xs} p e = (rw (e, lt-leb 4 (length rows) p), sym (poured-short xs rows p))
 
 pub rows-some : (rows : List ℕ) {x : Remain} {xs ys zs : List Remain} {n : ℕ} {after : List ℕ} → 4 ≤ length rows → xs ≡ x ∷ ys → xs ≡ zs
-    → n ≡ count_from zs 0 (length rows) → after ≡ pour_from zs 0 rows → (filled.With n ≡ filled_with (length rows) xs) × (after ≡ poured xs rows)
+    → n ≡ count_from zs 0 (length rows) → after ≡ pour_from zs 0 rows → (Ok (Some n) ≡ filled_with (length rows) xs) × (after ≡ poured xs rows)
 rows-some rows {x} {xs} {ys} {zs} {n} {after} p e z c o =
-    (ap filled.With (c ∙ count-all zs rows ∙ ap (λ (l : List Remain). length (fitting (length rows) l)) (sym z)) ∙ sym one, o ∙ pour-all zs rows ∙ rw z)
+    (ap (λ (x : ℕ). Ok (Some x)) (c ∙ count-all zs rows ∙ ap (λ (l : List Remain). length (fitting (length rows) l)) (sym z)) ∙ sym one, o ∙ pour-all zs rows ∙ rw z)
   where
-    one : filled_with (length rows) xs ≡ filled.With (length (fitting (length rows) xs))
+    one : filled_with (length rows) xs ≡ Ok (Some (length (fitting (length rows) xs)))
     one = rw (e, le-leb 4 (length rows) p)

@@ -5,14 +5,13 @@ use mathlib.Core.Path.{◌≡◌, refl, sym, ap, ◌∙◌, subst}
 use mathlib.Core.List.{List, [], ◌∷◌, ◌++◌}
 use lib.ListN.{length, take, drop, length-append}
 use borrow.Author.Tests.{le-leb}
-use Rattle.fields.specs.declared.Verdict.TheVariants.{Sound}
 use Rattle.base.specs.Block.{bins_data}
 use Rattle.remnants.specs.declared.Remain.{Remain}
-use Rattle.remnants.specs.declared.Filled.TheVariants as filled
 use Rattle.remnants.specs.Remnants.{remnants_of, not_below, tiles_fault, first_of, remnant_answer, fitting, filled_with, rows_answer, rows_of, poured, rows_out}
 use Rattle.remnants.specs.Found.{Steps, step-done, step-on, Runs, run-done, run_on}
 use Rattle.remnants.proofs.Stores.{poured-none}
 use Rattle.remnants.proofs.Rising.{remnants-rise, all_of, rest_of, rest-behind}
+use Rattle.std.specs.Prelude.{Ok, Some}
 
 -- the first rows of a list that is not empty: the last of them, and what comes behind
 record Cut (xs ys : List Remain) : Type 0 where
@@ -39,7 +38,7 @@ cut_at : (n : ℕ) → 0 < n → (x : Remain) (xs : List Remain) → Cut (x ∷ 
 cut_at zero p x xs = absurd (omega arith)
 cut_at (suc n) p x xs = cut n x xs
 
-module _ (h : List ℕ) (e : tiles_fault h ≡ Sound) where
+module _ (h : List ℕ) (e : tiles_fault h ≡ Ok tt) where
   step_is : (from : ℕ) → remnant_answer h from ≡ first_of (not_below from (remnants_of (bins_data h)))
   unfolding remnant_answer
   step_is from = rw e
@@ -71,8 +70,8 @@ module _ (h : List ℕ) (e : tiles_fault h ≡ Sound) where
     poured-is xs ys rows p = rw p
 
     with-is : (x : Remain) (xs ys : List Remain) (room : ℕ) → 4 ≤ room → fitting room (x ∷ xs) ≡ ys
-        → filled_with room (x ∷ xs) ≡ filled.With (length ys)
-    with-is x xs ys room q p = rw (le-leb 4 room q) (ap (λ (l : List Remain). filled.With (length l)) p)
+        → filled_with room (x ∷ xs) ≡ Ok (Some (length ys))
+    with-is x xs ys room q p = rw (le-leb 4 room q) (ap (λ (l : List Remain). Ok (Some (length l))) p)
 
     rows-turn : (call from : ℕ) (xs : List Remain)
         → ((c f : ℕ) (ys : List Remain) → length ys < length xs → not_below f (remnants_of (bins_data h)) ≡ ys → Runs h lent c f ys)

@@ -1,20 +1,13 @@
 -- What the code asks of its callers and its loops keep. d is the bins data.
-use Rattle.std.specs.Prelude.{ℕ, ◌+◌, ◌*◌, ◌%◌, ◌≤◌, ◌<◌, ◌≡◌, Bool, true, false, cond, ◌⊎◌, List, [], ◌∷◌, ◌++◌, leb, length}
+use Rattle.std.specs.Prelude.{ℕ, ◌+◌, ◌*◌, ◌%◌, ◌≤◌, ◌<◌, ◌≡◌, cond, ◌⊎◌, List, [], ◌∷◌, ◌++◌, leb, length, None, Some}
 use Rattle.std.proofs.lemmas.List.Edits.{sets}
 use Rattle.cells.specs.Terms.{Stands, free_from}
 use Rattle.base.specs.Block.{bins_limit}
 use Rattle.remnants.specs.declared.Kind.{Kind}
-use Rattle.remnants.specs.declared.Kind.TheVariants as kind
 use Rattle.remnants.specs.declared.Hit.{Hit}
 use Rattle.remnants.specs.declared.Cursor.{Cursor}
 use Rattle.remnants.specs.declared.Remain.{Remain}
 use Rattle.remnants.specs.Remnants.{kind_at, spots_in, spots_of, not_below, words_of}
-
--- whether it is one
-abbrev pub is_some : Kind → Bool
-is_some kind.Key = true
-is_some kind.Value = true
-is_some kind.Neither = false
 
 -- an offset and the end of its free cell, in the bins data
 pub record Free (d : List ℕ) (at end : ℕ) : Type 0 where
@@ -28,14 +21,13 @@ pub record Free (d : List ℕ) (at end : ℕ) : Type 0 where
 pub record Spotted (d : List ℕ) (at end : ℕ) (k : Kind) : Type 0 where
   pub free : Free d at end
   pub before : at < end
-  pub is : k ≡ kind_at d at end
+  pub is : Some k ≡ kind_at d at end
 
 -- what a position is that holds a record
 pub record There (d : List ℕ) (at end from : ℕ) (k : Kind) : Type 0 where
   pub before : at < end
   pub past : from ≤ at
-  pub is : k ≡ kind_at d at end
-  pub some : is_some k ≡ true
+  pub is : Some k ≡ kind_at d at end
 
 -- the first multiple of 8 at or past `from`, from one on, up to an end
 pub record Skipped (at end from r : ℕ) : Type 0 where
@@ -57,8 +49,8 @@ pub record Hits (d : List ℕ) (at end from : ℕ) (r : Hit) : Type 0 where
   pub low : at ≤ r.at
   pub free : Free d r.at end
   pub same : not_below from (spots_in d at end) ≡ not_below from (spots_in d r.at end)
-  pub found : is_some r.kind ≡ true → There d r.at end from r.kind
-  pub lost : is_some r.kind ≡ false → r.at ≡ end
+  pub found : (k : Kind) → r.kind ≡ Some k → There d r.at end from k
+  pub lost : r.kind ≡ None → r.at ≡ end
 
 -- what is left past a cell of a bin, and past a position in a free cell
 abbrev pub left : List ℕ → ℕ → ℕ → List Remain
@@ -69,7 +61,7 @@ left_at d at cell bin = spots_in d at cell ++ left d cell bin
 
 -- a position of a survey
 abbrev pub cursor : ℕ → ℕ → ℕ → Cursor
-cursor at cell bin = record { at = at; cell = cell; bin = bin; kind = kind.Neither }
+cursor at cell bin = record { at = at; cell = cell; bin = bin; kind = None }
 
 pub record At (d : List ℕ) (c : Cursor) : Type 0 where
   pub order : c.at ≤ c.cell
@@ -79,8 +71,8 @@ pub record At (d : List ℕ) (c : Cursor) : Type 0 where
 -- a position that holds the first record at or past `from`; or none is left
 pub record Sought (d : List ℕ) (from : ℕ) (r : Cursor) : Type 0 where
   pub at : At d r
-  pub found : is_some r.kind ≡ true → There d r.at r.cell from r.kind
-  pub lost : is_some r.kind ≡ false → not_below from (left_at d r.at r.cell r.bin) ≡ []
+  pub found : (k : Kind) → r.kind ≡ Some k → There d r.at r.cell from k
+  pub lost : r.kind ≡ None → not_below from (left_at d r.at r.cell r.bin) ≡ []
 
 pub record Sees (d : List ℕ) (c : Cursor) (from : ℕ) (r : Cursor) : Type 0 where
   pub sought : Sought d from r

@@ -1,22 +1,20 @@
 // What deletion left behind: the key and value records that still lie in the free cells of a hive. The tree is not walked and there is no work map.
 #![tactic(auto)]
 
-ghost use Rattle.std.specs.Prelude.{◌≡◌, cond, ◌+◌, ◌%◌, ◌≤◌, length};
+ghost use Rattle.std.specs.Prelude.{◌≡◌, ◌+◌, ◌%◌, ◌≤◌, length};
 ghost use Rattle.std.proofs.lemmas.List.Edits.{sets};
 ghost use Rattle.base.specs.Block.{bins_limit};
 ghost use Rattle.cells.specs.Terms.{Stands};
 ghost use Rattle.remnants.specs.Remnants.{kind_of, kind_at, remain_of, remain_at, remnants_of, not_below, first_of, tiles_fault, remnant_answer, kind_word, words_of, filled_with, rows_answer, poured, rows_out};
-ghost use Rattle.remnants.specs.Terms.{is_some, Spotted, Free, Skipped, Hits, At, cursor, Sought, Sees, sought_left, count_from, pour_from};
+ghost use Rattle.remnants.specs.Terms.{Spotted, Free, Skipped, Hits, At, cursor, Sought, Sees, sought_left, count_from, pour_from};
 
-use cells::Surveyed;
-use fields::{Fault, Flaw, Offset, Place, Refusal, Verdict};
+use fields::{Fault, Flaw, Offset, Place, Refusal};
 
-// What a position of a free cell holds.
+// Which record was left: that of a key or that of a value.
 #[derive(Clone, Copy)]
 pub enum Kind {
     Key,
     Value,
-    Neither,
 }
 
 // A record that was left: the offset of its cell that was, its kind, and where its name stands in the file: `len` bytes from `name` on, one for each
@@ -30,35 +28,23 @@ pub struct Remain {
     pub narrow: bool,
 }
 
-#[derive(Clone, Copy)]
-pub enum Remnant {
-    At(Remain),
-    Done,
-    Refused(Refusal),
-}
-
-#[derive(Clone, Copy)]
-pub enum Filled {
-    With(usize),
-    Done,
-    Refused(Refusal),
-}
-
 // What bytes start with: a key record or a value record that ends inside them and has an admissible name. No count, offset or data size is judged.
-fn kind_of(r: &[u8]) -> Kind
+#[tactic(auto, unfolding(crate::specs::Remnants::kind_of))]
+fn kind_of(r: &[u8]) -> Option<Kind>
     ensures { result ≡ kind_of r.now }
 {
     if records::is_key(r) {
-        return Kind::Key;
+        Some(Kind::Key)
+    } else if values::is_old_value(r) {
+        Some(Kind::Value)
+    } else {
+        None
     }
-    if values::is_old_value(r) {
-        return Kind::Value;
-    }
-    Kind::Neither
 }
 
 // The record is that of a cell at an offset; the cell's size field is not read: inside a free cell it is an old one.
-fn kind_at(bins: &[u8], at: usize, end: usize) -> Kind
+#[tactic(auto, unfolding(crate::specs::Remnants::kind_at))]
+fn kind_at(bins: &[u8], at: usize, end: usize) -> Option<Kind>
     requires at_bound { at + 4 ≤ end }
     requires end_in_bounds { end ≤ length bins.now }
     ensures { result ≡ kind_at bins.now at end }
@@ -66,17 +52,8 @@ fn kind_at(bins: &[u8], at: usize, end: usize) -> Kind
     kind_of(cells::data_to(bins, at, end))
 }
 
-fn is_some(kind: Kind) -> bool
-    ensures { result ≡ is_some kind }
-{
-    match kind {
-        Kind::Key => true,
-        Kind::Value => true,
-        Kind::Neither => false,
-    }
-}
-
 // The record r of a key whose cell stood at an offset.
+#[tactic(auto, unfolding(crate::specs::Remnants::remain_of))]
 fn key_remain(r: &[u8], at: usize) -> Remain
     requires in_bounds { 76 ≤ length r.now }
     requires at_le_bins_limit { at ≤ bins_limit }
@@ -95,6 +72,7 @@ fn key_remain(r: &[u8], at: usize) -> Remain
 }
 
 // The record r of a value whose cell stood at an offset.
+#[tactic(auto, unfolding(crate::specs::Remnants::remain_of))]
 fn value_remain(r: &[u8], at: usize) -> Remain
     requires in_bounds { 20 ≤ length r.now }
     requires at_le_bins_limit { at ≤ bins_limit }
@@ -113,22 +91,16 @@ fn value_remain(r: &[u8], at: usize) -> Remain
 }
 
 // The record at a position whose kind is known.
+#[tactic(auto, unfolding(crate::specs::Remnants::remain_at, crate::specs::Remnants::kind_at), using(crate::proofs::Held::long_ways))]
 fn remain_at(bins: &[u8], at: usize, end: usize, kind: Kind) -> Remain
     requires { Spotted bins.now at end kind }
-    ensures value { result ≡ remain_at bins.now at end }
+    ensures value { result ≡ remain_at bins.now at end kind }
     ensures len_bound { result.len ≤ 65535 }
 {
     let r = cells::data_to(bins, at, end);
     match kind {
         Kind::Key => key_remain(r, at),
         Kind::Value => value_remain(r, at),
-        Kind::Neither => Remain {
-            at: Offset(at as u32),
-            kind: Kind::Neither,
-            name: Place(0),
-            len: 0,
-            narrow: false,
-        },
     }
 }
 
@@ -136,7 +108,7 @@ fn remain_at(bins: &[u8], at: usize, end: usize, kind: Kind) -> Remain
 #[derive(Clone, Copy)]
 struct Hit {
     at: usize,
-    kind: Kind,
+    kind: Option<Kind>,
 }
 
 // The first multiple of 8 at or past `from`, from one on, up to an end.
@@ -147,12 +119,12 @@ fn skip(at: usize, end: usize, from: usize) -> usize
     ensures { Skipped at end from result }
 {
     if from <= at {
-        return at;
+        at
+    } else if end <= from {
+        end
+    } else {
+        from.next_multiple_of(8)
     }
-    if end <= from {
-        return end;
-    }
-    at + (from - at + 7) / 8 * 8
 }
 
 // The second byte of both signatures, "nk" and "vk": a position without it holds no record.
@@ -166,14 +138,14 @@ fn find(bins: &[u8], at: usize, end: usize, from: usize) -> Hit
     let mut o = cells::next_with(bins, skip(at, end, from), end, 1, SECOND);
     while o < end {
         let kind = kind_at(bins, o, end);
-        if is_some(kind) {
+        if kind.is_some() {
             return Hit { at: o, kind };
         }
         o = cells::next_with(bins, o + 8, end, 1, SECOND);
     }
     Hit {
         at: end,
-        kind: Kind::Neither,
+        kind: None,
     }
 }
 
@@ -183,7 +155,7 @@ struct Cursor {
     at: usize,
     cell: usize,
     bin: usize,
-    kind: Kind,
+    kind: Option<Kind>,
 }
 
 // The first record at or past `from`, from a position on; or the end.
@@ -196,13 +168,12 @@ fn seek(bins: &[u8], c: Cursor, from: usize) -> Cursor
     let mut bin = c.bin;
     while at < bins.len() {
         let hit = find(bins, at, cell, from);
-        let kind = hit.kind;
-        if is_some(kind) {
+        if hit.kind.is_some() {
             return Cursor {
                 at: hit.at,
                 cell,
                 bin,
-                kind,
+                kind: hit.kind,
             };
         }
         let next = cells::next_free(bins, cell, bin);
@@ -214,7 +185,7 @@ fn seek(bins: &[u8], c: Cursor, from: usize) -> Cursor
         at,
         cell,
         bin,
-        kind: Kind::Neither,
+        kind: None,
     }
 }
 
@@ -229,63 +200,51 @@ fn first(bins: &[u8], from: usize) -> Cursor
             at: 0,
             cell: 0,
             bin: 0,
-            kind: Kind::Neither,
+            kind: None,
         },
         from,
     )
 }
 
 // The tests 1 to 7, 9 and 10.
-fn tiles_flaw(hive: &[u8]) -> Verdict
+#[tactic(auto, using(crate::proofs::Tests::tiles_ways))]
+fn tiles_flaw(hive: &[u8]) -> Result<(), Flaw>
     ensures { result ≡ tiles_fault hive.now }
 {
-    match base::base_flaw(hive) {
-        Verdict::Flawed(f) => Verdict::Flawed(f),
-        Verdict::Sound => match cells::count_tiles(base::bins_of(hive)) {
-            Surveyed::Tiled(_) => Verdict::Sound,
-            Surveyed::Flawed(f) => Verdict::Flawed(f),
-        },
-    }
+    base::base_flaw(hive)?;
+    cells::count_tiles(base::bins_of(hive))?;
+    Ok(())
 }
 
 // A step of the survey, in bins and cells that were tested.
-fn next_in(bins: &[u8], from: usize) -> Remnant
+fn next_in(bins: &[u8], from: usize) -> Result<Option<Remain>, Refusal>
     requires { Stands bins.now 0 0 }
     ensures { result ≡ first_of (not_below from (remnants_of bins.now)) }
 {
     let c = first(bins, from);
-    let kind = c.kind;
-    if !is_some(kind) {
-        return Remnant::Done;
-    }
-    Remnant::At(remain_at(bins, c.at, c.cell, kind))
+    let Some(kind) = c.kind else {
+        return Ok(None);
+    };
+    Ok(Some(remain_at(bins, c.at, c.cell, kind)))
 }
 
-// The first record at or past an offset. Start with 0, and go on with the offset found + 1 until Done. Every call makes all tests.
-pub fn next(hive: &[u8], from: usize) -> Remnant
+// The first record at or past an offset. Start with 0, and go on with the offset found + 1 until None. Every call makes all tests.
+#[tactic(auto, unfolding(crate::specs::Remnants::remnant_answer), using(crate::proofs::Tests::sound_ways))]
+pub fn next(hive: &[u8], from: usize) -> Result<Option<Remain>, Refusal>
     ensures { result ≡ remnant_answer hive.now from }
 {
-    match tiles_flaw(hive) {
-        Verdict::Flawed(f) => Remnant::Refused(fields::refused(Offset(fields::NO_KEY), f)),
-        Verdict::Sound => next_in(base::bins_of(hive), from),
-    }
+    tiles_flaw(hive)?;
+    next_in(base::bins_of(hive), from)
 }
 
-// The words of a kind, and of a name of one byte per character.
+// The word of a kind.
 fn kind_word(kind: Kind) -> u32
     ensures { result ≡ kind_word kind }
 {
     match kind {
         Kind::Key => 1,
         Kind::Value => 2,
-        Kind::Neither => 0,
     }
-}
-
-fn narrow_word(narrow: bool) -> u32
-    ensures { result ≡ cond narrow 1 0 }
-{
-    if narrow { 1 } else { 0 }
 }
 
 // Stores four words of a record from an index on.
@@ -294,11 +253,10 @@ fn store(rows: &mut [u32], i: usize, x: Remain)
     requires len_bound { x.len ≤ 65535 }
     ensures { rows.new ≡ sets rows.old i (words_of x) }
 {
-    let kind = x.kind;
     rows[i] = x.at.0;
-    rows[i + 1] = kind_word(kind);
+    rows[i + 1] = kind_word(x.kind);
     rows[i + 2] = x.len as u32;
-    rows[i + 3] = narrow_word(x.narrow);
+    rows[i + 3] = u32::from(x.narrow);
 }
 
 // Stores the records from a position on, row after row, as many as there is room for.
@@ -309,18 +267,17 @@ fn fill(bins: &[u8], start: Cursor, from: usize, rows: &mut [u32]) -> usize
 {
     let mut c = start;
     let mut n: usize = 0;
+    // A cursor moves here with the rows, so that no `for` over them is plainer.
     while 4 <= rows.len() - 4 * n {
-        let kind = c.kind;
-        if !is_some(kind) {
+        let Some(kind) = c.kind else {
             return n;
-        }
-        let x = remain_at(bins, c.at, c.cell, kind);
-        store(rows, 4 * n, x);
+        };
+        store(rows, 4 * n, remain_at(bins, c.at, c.cell, kind));
         let past = Cursor {
             at: c.at + 8,
             cell: c.cell,
             bin: c.bin,
-            kind: Kind::Neither,
+            kind: None,
         };
         c = seek(bins, past, from);
         n += 1;
@@ -329,36 +286,31 @@ fn fill(bins: &[u8], start: Cursor, from: usize, rows: &mut [u32]) -> usize
 }
 
 // The rows in bins and cells that were tested.
-fn rows_in(bins: &[u8], from: usize, rows: &mut [u32]) -> Filled
+fn rows_in(bins: &[u8], from: usize, rows: &mut [u32]) -> Result<Option<usize>, Refusal>
     requires { Stands bins.now 0 0 }
     ensures value { result ≡ filled_with (length rows.old) (not_below from (remnants_of bins.now)) }
     ensures rows_after { rows.new ≡ poured (not_below from (remnants_of bins.now)) rows.old }
 {
     let c = first(bins, from);
-    let kind = c.kind;
-    if !is_some(kind) {
-        return Filled::Done;
+    if c.kind.is_none() {
+        return Ok(None);
     }
     if rows.len() < 4 {
-        return Filled::Refused(fields::refused(
-            Offset(fields::NO_KEY),
-            Flaw {
-                fault: Fault::OutputShort,
-                place: Offset(0),
-            },
-        ));
+        return Err(Refusal::from(Flaw {
+            fault: Fault::OutputShort,
+            place: Offset(0),
+        }));
     }
-    Filled::With(fill(bins, c, from, rows))
+    Ok(Some(fill(bins, c, from, rows)))
 }
 
 // All records at or past an offset in one pass, four words for each: its offset, 1 for a key or 2 for a value, its name's length in bytes, and 1 where
 // that has one byte per character. Whole rows only, as many as there is room for: the words behind the last one stay.
-pub fn rows(hive: &[u8], from: usize, rows: &mut [u32]) -> Filled
+#[tactic(auto, unfolding(crate::specs::Remnants::rows_answer, crate::specs::Remnants::rows_out), using(crate::proofs::Tests::sound_ways))]
+pub fn rows(hive: &[u8], from: usize, rows: &mut [u32]) -> Result<Option<usize>, Refusal>
     ensures value { result ≡ rows_answer hive.now from (length rows.old) }
     ensures rows_after { rows.new ≡ rows_out hive.now from rows.old }
 {
-    match tiles_flaw(hive) {
-        Verdict::Flawed(f) => Filled::Refused(fields::refused(Offset(fields::NO_KEY), f)),
-        Verdict::Sound => rows_in(base::bins_of(hive), from, rows),
-    }
+    tiles_flaw(hive)?;
+    rows_in(base::bins_of(hive), from, rows)
 }

@@ -28,102 +28,38 @@ use std::io;
 use std::io::{Read, Write};
 use test_lines::read_full;
 
-// How long hive and log are.
-#[derive(Clone, Copy)]
-struct Lengths {
-    hive: usize,
-    log: usize,
+// What an order works on: a hive in memory and on the disk and a log, as long as they are said to be, and room for the bytes of an order.
+#[derive(Drop)]
+struct Bench {
+    mem: [u8; 1052672],
+    disk: [u8; 1052672],
+    log: [u8; 524288],
+    room: [u8; 65536],
+    hive_len: usize,
+    log_len: usize,
 }
 
-fn order_number(head: &[u8; 5]) -> usize {
-    fields::u32_at(head, 1) as usize
-}
-
-fn clear(buf: &mut [u8]) {
-    let mut i: usize = 0;
-    while i < buf.len() {
-        buf[i] = 0;
-        i += 1;
-    }
-}
-
-// The bytes that follow an order.
-fn follow<R: Read>(from: &mut R, buf: &mut [u8], n: usize) -> io::Result<usize> {
-    if buf.len() < n {
-        return Ok(0);
-    }
-    read_full(from, &mut buf[0..n])?;
-    Ok(n)
+// The bytes that follow an order; none where there is no room for so many.
+fn follow<'a, R: Read>(from: &mut R, room: &'a mut [u8], n: usize) -> io::Result<&'a mut [u8]> {
+    let n = if n <= room.len() { n } else { 0 };
+    let part = &mut room[..n];
+    read_full(from, part)?;
+    Ok(part)
 }
 
 fn land(disk: &mut [u8], mem: &[u8], at: usize) {
-    if mem.len() < 512 {
+    let Some(end) = at.checked_add(512) else {
         return;
+    };
+    if let Some(sector) = mem.get(at..end) {
+        test_lines::put_part(disk, sector, at);
     }
-    if mem.len() - 512 < at {
-        return;
-    }
-    test_lines::put_part(disk, &mem[at..at + 512], at);
 }
 
 fn land_page(disk: &mut [u8], mem: &[u8], n: usize) {
     if n < 8388608 {
         land(disk, mem, 4096 + 512 * n);
     }
-}
-
-// The orders that bytes follow.
-fn take_in<W: Write>(
-    to: &mut W,
-    mem: &mut [u8],
-    disk: &mut [u8],
-    log: &mut [u8],
-    part: &[u8],
-    kind: u8,
-) -> io::Result<()> {
-    match kind {
-        0 => to.write_all(part)?,
-        3 => {
-            test_lines::put(mem, part);
-            test_lines::put(disk, part);
-        }
-        _ => test_lines::put(log, part),
-    };
-    Ok(())
-}
-
-// The orders that set up a case.
-fn set_up<R: Read, W: Write>(
-    from: &mut R,
-    to: &mut W,
-    mem: &mut [u8],
-    disk: &mut [u8],
-    log: &mut [u8],
-    buf: &mut [u8],
-    l: Lengths,
-    kind: u8,
-    n: usize,
-) -> io::Result<Lengths> {
-    if kind == 1 {
-        clear(mem);
-        clear(disk);
-        return Ok(Lengths {
-            hive: n,
-            log: l.log,
-        });
-    }
-    if kind == 2 {
-        clear(log);
-        return Ok(Lengths {
-            hive: l.hive,
-            log: n,
-        });
-    }
-    let got = follow(from, buf, n)?;
-    if got <= buf.len() {
-        take_in(to, mem, disk, log, &buf[0..got], kind)?;
-    }
-    Ok(l)
 }
 
 // The orders of a repair, on files of their own length.
@@ -155,128 +91,112 @@ fn repair<W: Write>(
         12 => say::disk(to, disk),
         13 => say::stepped(to, recovery::all_pages(mem, log)),
         14 => say::mark(to, recovery::next_mark(log, n)),
-        15 => say::mark(to, recovery::next_mark(log, 18446744073709551615 - n)),
+        15 => say::mark(to, recovery::next_mark(log, usize::MAX - n)),
         _ => say::before(to, log, n),
     }
 }
 
 // All marks at once, in a map that is given with the order.
-fn mark_all<R: Read, W: Write>(
-    from: &mut R,
-    to: &mut W,
-    log: &[u8],
-    buf: &mut [u8],
-    n: usize,
-) -> io::Result<()> {
-    let got = follow(from, buf, n)?;
-    if got <= buf.len() {
-        say::all_marked(to, recovery::mark_pages(log, &mut buf[0..got]))?;
-        say::map(to, &buf[0..got])?;
-    }
-    Ok(())
+fn mark_all<W: Write>(to: &mut W, log: &[u8], map: &mut [u8]) -> io::Result<()> {
+    say::all_marked(to, recovery::mark_pages(log, map))?;
+    say::map(to, map)
 }
 
-fn obey<R: Read, W: Write>(
-    from: &mut R,
-    to: &mut W,
-    mem: &mut [u8],
-    disk: &mut [u8],
-    log: &mut [u8],
-    buf: &mut [u8],
-    l: Lengths,
-    kind: u8,
-    n: usize,
-) -> io::Result<Lengths> {
-    if kind < 5 {
-        return set_up(from, to, mem, disk, log, buf, l, kind, n);
-    }
-    if kind == 18 {
-        return Ok(Lengths {
-            hive: l.hive,
-            log: n,
-        });
-    }
-    let hive_end = l.hive;
-    let log_end = l.log;
-    if mem.len() < hive_end {
-        return Ok(l);
-    }
-    if disk.len() < hive_end {
-        return Ok(l);
-    }
-    if log.len() < log_end {
-        return Ok(l);
-    }
-    if kind == 17 {
-        mark_all(from, to, &log[0..log_end], buf, n)?;
-        return Ok(l);
-    }
-    repair(
-        to,
-        &mut mem[0..hive_end],
-        &mut disk[0..hive_end],
-        &log[0..log_end],
-        kind,
-        n,
-    )?;
-    Ok(l)
-}
-
-#[derive(Clone, Copy)]
-enum Went {
-    On(Lengths),
-    Ended,
-}
-
-fn turn<R: Read, W: Write>(
-    from: &mut R,
-    to: &mut W,
-    mem: &mut [u8; 1052672],
-    disk: &mut [u8; 1052672],
-    log: &mut [u8; 524288],
-    buf: &mut [u8; 65536],
-    l: Lengths,
-) -> io::Result<Went> {
-    let mut head = [0u8; 5];
-    let got = read_full(from, &mut head)?;
-    if got < 5 {
-        return Ok(Went::Ended);
-    }
-    let n = order_number(&head);
-    Ok(Went::On(obey(from, to, mem, disk, log, buf, l, head[0], n)?))
-}
-
-// Nothing says that the input ends, so the turns are counted down from a number that no run uses up.
-fn run<R: Read, W: Write>(
-    from: &mut R,
-    to: &mut W,
-    mem: &mut [u8; 1052672],
-    disk: &mut [u8; 1052672],
-    log: &mut [u8; 524288],
-    buf: &mut [u8; 65536],
-) -> io::Result<()> {
-    let mut l = Lengths { hive: 0, log: 0 };
-    let mut left = u64::MAX;
-    while 0 < left {
-        match turn(from, to, mem, disk, log, buf, l)? {
-            Went::Ended => {
-                return Ok(());
+impl Bench {
+    // The orders that bytes follow.
+    fn take_in<R: Read, W: Write>(
+        &mut self,
+        from: &mut R,
+        to: &mut W,
+        kind: u8,
+        n: usize,
+    ) -> io::Result<()> {
+        let part = follow(from, &mut self.room, n)?;
+        match kind {
+            0 => to.write_all(part)?,
+            3 => {
+                test_lines::put(&mut self.mem, part);
+                test_lines::put(&mut self.disk, part);
             }
-            Went::On(m) => {
-                l = m;
-            }
+            _ => test_lines::put(&mut self.log, part),
         }
-        left -= 1;
+        Ok(())
     }
-    Ok(())
+
+    // The orders of a repair, on files of their own length; none where a file is said to be longer than there is room for.
+    fn ask<R: Read, W: Write>(
+        &mut self,
+        from: &mut R,
+        to: &mut W,
+        kind: u8,
+        n: usize,
+    ) -> io::Result<()> {
+        let Some(mem) = self.mem.get_mut(..self.hive_len) else {
+            return Ok(());
+        };
+        let Some(disk) = self.disk.get_mut(..self.hive_len) else {
+            return Ok(());
+        };
+        let Some(log) = self.log.get(..self.log_len) else {
+            return Ok(());
+        };
+        if kind == 17 {
+            let map = follow(from, &mut self.room, n)?;
+            return mark_all(to, log, map);
+        }
+        repair(to, mem, disk, log, kind, n)
+    }
+
+    fn obey<R: Read, W: Write>(
+        &mut self,
+        from: &mut R,
+        to: &mut W,
+        kind: u8,
+        n: usize,
+    ) -> io::Result<()> {
+        match kind {
+            1 => {
+                self.mem.fill(0);
+                self.disk.fill(0);
+                self.hive_len = n;
+                Ok(())
+            }
+            2 => {
+                self.log.fill(0);
+                self.log_len = n;
+                Ok(())
+            }
+            0 | 3 | 4 => self.take_in(from, to, kind, n),
+            18 => {
+                self.log_len = n;
+                Ok(())
+            }
+            _ => self.ask(from, to, kind, n),
+        }
+    }
+
+    // Obeys until the input ends. Nothing says that it does, so the turns are counted down from a number that no run uses up.
+    fn run<R: Read, W: Write>(&mut self, from: &mut R, to: &mut W) -> io::Result<()> {
+        for _ in 0..u64::MAX {
+            let mut head = [0u8; 5];
+            if read_full(from, &mut head)? < 5 {
+                break;
+            }
+            let n = fields::u32_at(&head, 1) as usize;
+            self.obey(from, to, head[0], n)?;
+        }
+        Ok(())
+    }
 }
 
 fn main(rt: HostRuntime) -> io::Result<()> {
-    let mut mem = [0u8; 1052672];
-    let mut disk = [0u8; 1052672];
-    let mut log = [0u8; 524288];
-    let mut buf = [0u8; 65536];
-    let mut from = rt.reader();
-    let mut to = io::writer(&rt);
-    run(&mut from, &mut to, &mut mem, &mut disk, &mut log, &mut buf)
+    let mut bench = Bench {
+        mem: [0; 1052672],
+        disk: [0; 1052672],
+        log: [0; 524288],
+        room: [0; 65536],
+        hive_len: 0,
+        log_len: 0,
+    };
+    bench.run(&mut rt.reader(), &mut io::writer(&rt))
 }

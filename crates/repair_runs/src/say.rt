@@ -1,102 +1,69 @@
 // What is written of each answer.
-use recovery::{Marked, NextMark, NextPage, Started, Stepped};
+use fields::Refusal;
+use recovery::{LoggedMark, LoggedPage, Started, Stepped};
 use std::io;
 use std::io::Write;
-use test_lines::{end, number};
+use test_lines::refused;
 
-pub fn started<W: Write>(to: &mut W, a: Started) -> io::Result<()> {
+pub fn started<W: Write>(to: &mut W, a: Result<Started, Refusal>) -> io::Result<()> {
     match a {
-        Started::Clean => to.write_all(b"clean\n"),
-        Started::Pages(n) => {
-            number(to, b"pages ", n as u64)?;
-            end(to)
-        }
-        Started::Refused(r) => test_lines::refused(to, r),
+        Ok(Started::Clean) => writeln!(to, "clean"),
+        Ok(Started::Pages(n)) => writeln!(to, "pages {n}"),
+        Err(r) => refused(to, r),
     }
 }
 
-pub fn stepped<W: Write>(to: &mut W, a: Stepped) -> io::Result<()> {
+pub fn stepped<W: Write>(to: &mut W, a: Result<Stepped, Refusal>) -> io::Result<()> {
     match a {
-        Stepped::Clean => to.write_all(b"clean\n"),
-        Stepped::Done => to.write_all(b"done\n"),
-        Stepped::Refused(r) => test_lines::refused(to, r),
+        Ok(Stepped::Clean) => writeln!(to, "clean"),
+        Ok(Stepped::Done) => writeln!(to, "done"),
+        Err(r) => refused(to, r),
     }
 }
 
-pub fn next<W: Write>(to: &mut W, a: NextPage) -> io::Result<()> {
+pub fn next<W: Write>(to: &mut W, a: Result<Option<LoggedPage>, Refusal>) -> io::Result<()> {
     match a {
-        NextPage::NoMore => to.write_all(b"no more\n"),
-        NextPage::At {
-            page,
-            from,
-            to: goal,
-        } => {
-            number(to, b"page ", page as u64)?;
-            number(to, b" from ", from.0 as u64)?;
-            number(to, b" to ", goal.0 as u64)?;
-            end(to)
-        }
-        NextPage::Refused(r) => test_lines::refused(to, r),
+        Ok(None) => writeln!(to, "no more"),
+        Ok(Some(p)) => writeln!(to, "page {} from {} to {}", p.page, p.from.0, p.to.0),
+        Err(r) => refused(to, r),
     }
 }
 
-pub fn mark<W: Write>(to: &mut W, a: NextMark) -> io::Result<()> {
+pub fn mark<W: Write>(to: &mut W, a: Result<Option<LoggedMark>, Refusal>) -> io::Result<()> {
     match a {
-        NextMark::NoMore => to.write_all(b"no more\n"),
-        NextMark::At { page, to: goal } => {
-            number(to, b"page ", page as u64)?;
-            number(to, b" to ", goal.0 as u64)?;
-            end(to)
-        }
-        NextMark::Refused(r) => test_lines::refused(to, r),
+        Ok(None) => writeln!(to, "no more"),
+        Ok(Some(m)) => writeln!(to, "page {} to {}", m.page, m.to.0),
+        Err(r) => refused(to, r),
     }
 }
 
-pub fn all_marked<W: Write>(to: &mut W, a: Marked) -> io::Result<()> {
+pub fn all_marked<W: Write>(to: &mut W, a: Result<usize, Refusal>) -> io::Result<()> {
     match a {
-        Marked::Pages(n) => {
-            number(to, b"marked ", n as u64)?;
-            end(to)
-        }
-        Marked::Refused(r) => test_lines::refused(to, r),
+        Ok(n) => writeln!(to, "marked {n}"),
+        Err(r) => refused(to, r),
     }
-}
-
-fn next_number<W: Write>(to: &mut W, n: usize) -> io::Result<()> {
-    number(to, b" ", n as u64)
 }
 
 // A line of numbers: the set bits before each of the pages 0 to n - 1.
 pub fn before<W: Write>(to: &mut W, map: &[u8], n: usize) -> io::Result<()> {
-    let mut page: usize = 0;
-    while page < n {
-        next_number(to, bitmap::bits_before(map, page))?;
-        page += 1;
+    for page in 0..n {
+        write!(to, " {}", bitmap::bits_before(map, page))?;
     }
-    end(to)
-}
-
-fn mix(sum: u32, b: u8) -> u32 {
-    ((sum as u64 * 37 + b as u64) % 4294967296) as u32
+    writeln!(to)
 }
 
 // The bytes as one number: 37 times the number before, and the byte, wrapping at 32 bits.
 fn sum(s: &[u8]) -> u32 {
-    let mut sum: u32 = 0;
-    let mut i: usize = 0;
-    while i < s.len() {
-        sum = mix(sum, s[i]);
-        i += 1;
-    }
-    sum
+    s.iter().fold(
+        0u32,
+        |sum, b| sum.wrapping_mul(37).wrapping_add(u32::from(*b)),
+    )
 }
 
 pub fn map<W: Write>(to: &mut W, s: &[u8]) -> io::Result<()> {
-    number(to, b"map ", sum(s) as u64)?;
-    end(to)
+    writeln!(to, "map {}", sum(s))
 }
 
 pub fn disk<W: Write>(to: &mut W, s: &[u8]) -> io::Result<()> {
-    number(to, b"disk ", sum(s) as u64)?;
-    end(to)
+    writeln!(to, "disk {}", sum(s))
 }

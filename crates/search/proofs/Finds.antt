@@ -9,13 +9,10 @@ use lib.Dec.{eqb}
 use borrow.Author.Tests.{eqb-false}
 use Rattle.fields.specs.declared.Offset.{Offset}
 use Rattle.fields.specs.declared.Flaw.{Flaw}
-use Rattle.fields.specs.declared.Verdict.{Verdict}
-use Rattle.fields.specs.declared.Verdict.TheVariants.{Sound, Flawed}
 use Rattle.cells.specs.declared.Rule.TheVariants.{Header}
 use Rattle.cells.specs.Named.{data_at}
 use Rattle.cells.specs.Tiled.{BinsTile}
 use Rattle.cells.proofs.Mapped.{header-sound}
-use Rattle.names.specs.declared.Order.TheVariants.{Before, Same}
 use Rattle.names.specs.Comparison.{compare, same_name}
 use Rattle.names.proofs.LawsOrder.{name-same, same-name, same-right, same-symmetric}
 use Rattle.records.specs.declared.Child.{Child}
@@ -27,37 +24,38 @@ use Rattle.tree.specs.WellFormed.{ListStands, KeyStands, Ascends, more, TreeStan
 use Rattle.records.proofs.Facts.{signed-exactly, key-exactly}
 use Rattle.tree.proofs.Facts.{leaf-exactly, list-exactly}
 use Rattle.tree.proofs.Stands.{of-cell, of-leaf, of-key}
-use Rattle.search.specs.declared.Look.{Look}
-use Rattle.search.specs.declared.Look.TheVariants.{Found, Missing, Flawed as Faulty}
 use Rattle.search.specs.Search.{on_sound, or_else, first_of, key_named, search_keys, search_leaf, search_leaves, search_below}
+use Rattle.fields.specs.Faults.{Verdict}
+use Rattle.std.specs.Prelude.{Err, None, Ok, Option, Result, Some}
+use Rattle.std.specs.declared.cmp.Ordering.TheVariants.{Equal, Less}
 
 -- the ways of a search
 module _ (d x : List ℕ) where
-  pub named-bad : (c : Child) {f : Flaw} → key_fault Header d [] c.at ≡ Flawed f → key_named d x c ≡ Faulty f
+  pub named-bad : (c : Child) {f : Flaw} → key_fault Header d [] c.at ≡ Err f → key_named d x c ≡ Err f
   unfolding key_named
   named-bad c e = rw e
 
-  named-yes : (c : Child) → key_fault Header d [] c.at ≡ Sound → same_name (name_at d c.at) x ≡ true → key_named d x c ≡ Found c.at
+  named-yes : (c : Child) → key_fault Header d [] c.at ≡ Ok tt → same_name (name_at d c.at) x ≡ true → key_named d x c ≡ Ok (Some c.at)
   unfolding key_named
   named-yes c e p = rw (e, p)
 
-  named-no : (c : Child) → key_fault Header d [] c.at ≡ Sound → same_name (name_at d c.at) x ≡ false → key_named d x c ≡ Missing
+  named-no : (c : Child) → key_fault Header d [] c.at ≡ Ok tt → same_name (name_at d c.at) x ≡ false → key_named d x c ≡ Ok None
   unfolding key_named
   named-no c e p = rw (e, p)
 
-  or-missing : (a b : Look) → a ≡ Missing → or_else a b ≡ b
+  or-missing : (a b : Result (Option Offset) Flaw) → a ≡ Ok None → or_else a b ≡ b
   unfolding or_else
   or-missing a b e = rw e
 
-  or-found : (a b : Look) {o : Offset} → a ≡ Found o → or_else a b ≡ Found o
+  or-found : (a b : Result (Option Offset) Flaw) {o : Offset} → a ≡ Ok (Some o) → or_else a b ≡ Ok (Some o)
   unfolding or_else
   or-found a b e = rw e
 
-  or_assoc : (a b c : Look) → or_else (or_else a b) c ≡ or_else a (or_else b c)
+  or_assoc : (a b c : Result (Option Offset) Flaw) → or_else (or_else a b) c ≡ or_else a (or_else b c)
   unfolding or_else
-  or_assoc Missing b c = refl
-  or_assoc (Found o) b c = refl
-  or_assoc (Faulty f) b c = refl
+  or_assoc (Ok None) b c = refl
+  or_assoc (Ok (Some o)) b c = refl
+  or_assoc (Err f) b c = refl
 
   -- the search of two lists, one after the other
   search-append : (cs es : List Child) → or_else (search_keys d x cs) (search_keys d x es) ≡ search_keys d x (cs ++ es)
@@ -66,7 +64,7 @@ module _ (d x : List ℕ) where
   search-append (c ∷ cs) es = or_assoc (key_named d x c) (search_keys d x cs) (search_keys d x es) ∙ ap (or_else (key_named d x c)) (search-append cs es)
 
   -- leaves without fault are searched as one list
-  search-leaves : (ls : List Offset) → ((l : Offset) → Memᴰ l ls → leaf_fault Header d [] l ≡ Sound) → search_leaves d x ls ≡ search_keys d x (children_in d ls)
+  search-leaves : (ls : List Offset) → ((l : Offset) → Memᴰ l ls → leaf_fault Header d [] l ≡ Ok tt) → search_leaves d x ls ≡ search_keys d x (children_in d ls)
   unfolding first_of search_leaf children_in
   search-leaves [] f = refl
   search-leaves (l ∷ ls) f =
@@ -74,50 +72,50 @@ module _ (d x : List ℕ) where
       (search-append (leaf_children (data_at d l)) (children_in d ls))
 
   -- what is found is a key of the list, of that name
-  pub named_in : (c : Child) {o : Offset} → key_named d x c ≡ Found o → (o ≡ c.at) × (compare (name_at d c.at) x ≡ Same)
+  pub named_in : (c : Child) {o : Offset} → key_named d x c ≡ Ok (Some o) → (o ≡ c.at) × (compare (name_at d c.at) x ≡ Equal)
   unfolding key_named
   named_in c {o} e = by (key_fault Header d [] c.at) (same_name (name_at d c.at) x) refl e
     where
-      by : (v : Verdict) (t : Bool) → same_name (name_at d c.at) x ≡ t → on_sound v (cond t (Found c.at) Missing) ≡ Found o
-          → (o ≡ c.at) × (compare (name_at d c.at) x ≡ Same)
-      by Sound true p q = (let z : c.at ≡ o = cc in sym z, same-name _ _ p)
-      by Sound false p q = absurd (let z : ◌≡◌ {A = ℕ} 0 1 = cc in omega arith)
-      by (Flawed f) t p q = absurd (let z : ◌≡◌ {A = ℕ} 0 1 = cc in omega arith)
+      by : (v : Verdict) (t : Bool) → same_name (name_at d c.at) x ≡ t → on_sound v (cond t (Ok (Some c.at)) (Ok None)) ≡ Ok (Some o)
+          → (o ≡ c.at) × (compare (name_at d c.at) x ≡ Equal)
+      by (Ok tt) true p q = (let z : c.at ≡ o = cc in sym z, same-name _ _ p)
+      by (Ok tt) false p q = absurd (let z : ◌≡◌ {A = ℕ} 0 1 = cc in omega arith)
+      by (Err f) t p q = absurd (let z : ◌≡◌ {A = ℕ} 0 1 = cc in omega arith)
 
-  pub found_in : (cs : List Child) {o : Offset} → search_keys d x cs ≡ Found o → (c : Child) × Memᴰ c cs × (o ≡ c.at) × (compare (name_at d c.at) x ≡ Same)
+  pub found_in : (cs : List Child) {o : Offset} → search_keys d x cs ≡ Ok (Some o) → (c : Child) × Memᴰ c cs × (o ≡ c.at) × (compare (name_at d c.at) x ≡ Equal)
   unfolding first_of or_else
   found_in [] e = absurd (let z : ◌≡◌ {A = ℕ} 0 1 = cc in omega arith)
   found_in (c ∷ cs) {o} e = by (found_in cs) (key_named d x c) refl e
     where
-      by : (search_keys d x cs ≡ Found o → (b : Child) × Memᴰ b cs × (o ≡ b.at) × (compare (name_at d b.at) x ≡ Same))
-          → (w : Look) → key_named d x c ≡ w → or_else w (search_keys d x cs) ≡ Found o
-          → (b : Child) × Memᴰ b (c ∷ cs) × (o ≡ b.at) × (compare (name_at d b.at) x ≡ Same)
-      by rest (Found p) q e =
+      by : (search_keys d x cs ≡ Ok (Some o) → (b : Child) × Memᴰ b cs × (o ≡ b.at) × (compare (name_at d b.at) x ≡ Equal))
+          → (w : Result (Option Offset) Flaw) → key_named d x c ≡ w → or_else w (search_keys d x cs) ≡ Ok (Some o)
+          → (b : Child) × Memᴰ b (c ∷ cs) × (o ≡ b.at) × (compare (name_at d b.at) x ≡ Equal)
+      by rest (Ok (Some p)) q e =
           let s : p ≡ o = cc in
-          let t = named_in c (q ∙ ap Found s) in
+          let t = named_in c (q ∙ ap (λ (x : Offset). Ok (Some x)) s) in
           (c, mathlib.Core.List.Memᴰ.head refl, t.0, t.1)
-      by rest Missing q e = let t = rest e in (t.0, mathlib.Core.List.Memᴰ.tail t.1, t.2, t.3)
-      by rest (Faulty f) q e = absurd (let z : ◌≡◌ {A = ℕ} 0 1 = cc in omega arith)
+      by rest (Ok None) q e = let t = rest e in (t.0, mathlib.Core.List.Memᴰ.tail t.1, t.2, t.3)
+      by rest (Err f) q e = absurd (let z : ◌≡◌ {A = ℕ} 0 1 = cc in omega arith)
 
   -- where all records are good: no fault, and the key of the name is found
-  pub no-fault : (cs : List Child) → ((c : Child) → Memᴰ c cs → key_fault Header d [] c.at ≡ Sound) → {f : Flaw} → search_keys d x cs ≡ Faulty f → ⊥
+  pub no-fault : (cs : List Child) → ((c : Child) → Memᴰ c cs → key_fault Header d [] c.at ≡ Ok tt) → {f : Flaw} → search_keys d x cs ≡ Err f → ⊥
   unfolding first_of or_else key_named
   no-fault [] ok e = let z : ◌≡◌ {A = ℕ} 0 1 = cc in omega arith
   no-fault (c ∷ cs) ok {f} e =
       by (no-fault cs (λ b i. ok b (mathlib.Core.List.Memᴰ.tail i))) (same_name (name_at d c.at) x) (rw (ok c (mathlib.Core.List.Memᴰ.head refl)) at e)
     where
-      by : (search_keys d x cs ≡ Faulty f → ⊥) → (t : Bool) → or_else (cond t (Found c.at) Missing) (search_keys d x cs) ≡ Faulty f → ⊥
+      by : (search_keys d x cs ≡ Err f → ⊥) → (t : Bool) → or_else (cond t (Ok (Some c.at)) (Ok None)) (search_keys d x cs) ≡ Err f → ⊥
       by rest true e = let z : ◌≡◌ {A = ℕ} 0 1 = cc in omega arith
       by rest false e = rest e
 
-  pub find-there : (cs : List Child) → Ascends d cs → ((c : Child) → Memᴰ c cs → key_fault Header d [] c.at ≡ Sound)
-      → (c : Child) → Memᴰ c cs → compare (name_at d c.at) x ≡ Same → search_keys d x cs ≡ Found c.at
+  pub find-there : (cs : List Child) → Ascends d cs → ((c : Child) → Memᴰ c cs → key_fault Header d [] c.at ≡ Ok tt)
+      → (c : Child) → Memᴰ c cs → compare (name_at d c.at) x ≡ Equal → search_keys d x cs ≡ Ok (Some c.at)
   unfolding first_of
   find-there [] a ok c i e = absurd (mathlib.Core.List.Memᴰ.not-nil i)
   find-there (b ∷ cs) (more f a) ok c i e =
       ⊎_elim
-      (λ (s : c ≡ b). or-found _ _ (named-yes b (ok b (mathlib.Core.List.Memᴰ.head refl)) (name-same _ _ (subst (λ (o : Child). compare (name_at d o.at) x ≡ Same) s e)))
-      ∙ ap (λ (o : Child). Found o.at) (sym s))
+      (λ (s : c ≡ b). or-found _ _ (named-yes b (ok b (mathlib.Core.List.Memᴰ.head refl)) (name-same _ _ (subst (λ (o : Child). compare (name_at d o.at) x ≡ Equal) s e)))
+      ∙ ap (λ (o : Child). Ok (Some o.at)) (sym s))
       (λ j. or-missing _ _ (named-no b (ok b (mathlib.Core.List.Memᴰ.head refl)) (other j)) ∙ find-there cs a (λ p m. ok p (mathlib.Core.List.Memᴰ.tail m)) c j e)
       (mathlib.Core.List.Memᴰ.cases_cons i)
     where
@@ -128,29 +126,29 @@ module _ (d x : List ℕ) where
           by false p = p
           by true p =
               let q = same-right x (name_at d c.at) (name_at d b.at) (same-symmetric (name_at d c.at) x e) in
-              let r : Before ≡ Same = sym (f c j) ∙ sym q ∙ same-name (name_at d b.at) x p in
+              let r : Less ≡ Equal = sym (f c j) ∙ sym q ∙ same-name (name_at d b.at) x p in
               absurd (let z : ◌≡◌ {A = ℕ} 0 1 = cc in omega arith)
 
 module _ (d : List ℕ) (hive : Hive) (tiles : BinsTile d 0) where
-  pub key-good : (n : ℕ) (o : Offset) → TreeStands d hive n o → key_fault Header d [] o ≡ Sound
+  pub key-good : (n : ℕ) (o : Offset) → TreeStands d hive n o → key_fault Header d [] o ≡ Ok tt
   key-good Prim.Native.Nat.zero o x' = elim x' [ ]
   key-good (suc n) o (key s a ch tree) = of-key Header d [] (header-sound d tiles []) o s.in_use ((key-exactly (data_at d o)).1 s.record-good)
 
   -- a list that stands, leaf by leaf
-  pub list-head : (o : Offset) → ListStands d o → head_fault Header d [] o ≡ Sound
+  pub list-head : (o : Offset) → ListStands d o → head_fault Header d [] o ≡ Ok tt
   unfolding head_fault
   list-head o s = of-cell Header d [] (header-sound d tiles []) o (is_list (data_at d o)) _ s.in_use ((list-exactly (data_at d o)).1 s.record-good)
 
-  pub leaves-good : (o : Offset) → ListStands d o → (l : Offset) → Memᴰ l (leaves_of d o) → leaf_fault Header d [] l ≡ Sound
+  pub leaves-good : (o : Offset) → ListStands d o → (l : Offset) → Memᴰ l (leaves_of d o) → leaf_fault Header d [] l ≡ Ok tt
   unfolding leaves_of is_list
   leaves-good o s l i = by (is_ri (data_at d o)) refl
     where
-      by : (t : Bool) → is_ri (data_at d o) ≡ t → leaf_fault Header d [] l ≡ Sound
+      by : (t : Bool) → is_ri (data_at d o) ≡ t → leaf_fault Header d [] l ≡ Ok tt
       by true e = of-leaf Header d [] (header-sound d tiles []) l (s.leaves ((signed-exactly (data_at d o) 114 105).0 e) l i)
       by false e =
           let good : is_leaf (data_at d o) ≡ true = rw e at ((list-exactly (data_at d o)).1 s.record-good) in
           let j : Memᴰ l (o ∷ []) = rw e at i in
-          ⊎_elim (λ q. subst (λ (y : Offset). leaf_fault Header d [] y ≡ Sound) (sym q) (of-leaf Header d [] (header-sound d tiles []) o (record { in_use = s.in_use; record-good = (leaf-exactly (data_at d o)).0 good })))
+          ⊎_elim (λ q. subst (λ (y : Offset). leaf_fault Header d [] y ≡ Ok tt) (sym q) (of-leaf Header d [] (header-sound d tiles []) o (record { in_use = s.in_use; record-good = (leaf-exactly (data_at d o)).0 good })))
           (λ k. absurd (mathlib.Core.List.Memᴰ.not-nil k)) (mathlib.Core.List.Memᴰ.cases_cons j)
 
   -- below a key that stands, its children are searched as one list

@@ -1,9 +1,9 @@
 pub mod Found
 pub mod Finds
-pub mod Searches
 pub mod Turns
 pub mod Refusals
 pub mod Asks
 pub mod Halved
 pub mod Quick
 pub mod Quick_found
+pub mod Ways

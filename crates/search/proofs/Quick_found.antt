@@ -9,14 +9,10 @@ use lib.ListN.{length, get_or}
 use borrow.Author.Tests.{ltb-true, eqb-false}
 use Rattle.fields.specs.declared.Flaw.{Flaw}
 use Rattle.fields.specs.declared.Offset.{Offset}
-use Rattle.fields.specs.declared.Verdict.{Verdict}
-use Rattle.fields.specs.declared.Verdict.TheVariants.{Sound, Flawed}
-use Rattle.fields.specs.Faults.{nowhere}
+use Rattle.fields.specs.Faults.{nowhere, Verdict}
 use Rattle.cells.specs.declared.Rule.TheVariants.{Header}
 use Rattle.cells.specs.Named.{data_at}
 use Rattle.cells.proofs.Refusals.{by-header}
-use Rattle.names.specs.declared.Order.{Order}
-use Rattle.names.specs.declared.Order.TheVariants.{Before, Same, After}
 use Rattle.names.specs.Comparison.{compare}
 use Rattle.records.specs.declared.Child.{Child}
 use Rattle.records.specs.declared.Key.{Key}
@@ -30,19 +26,20 @@ use Rattle.tree.specs.Tree.{name_at, is_before}
 use Rattle.records.proofs.Elements.{at_in}
 use Rattle.search.specs.declared.How.{How}
 use Rattle.search.specs.declared.How.TheVariants.{InTurn, Halving}
-use Rattle.search.specs.declared.Look.{Look}
-use Rattle.search.specs.declared.Look.TheVariants.{Found, Missing, Flawed as Faulty}
 use Rattle.search.specs.declared.Turn.{Turn}
 use Rattle.search.specs.declared.Turn.TheVariants.{Left, Right, Stop}
 use Rattle.search.specs.Search.{on_sound}
 use Rattle.search.specs.Quick.{turned_by, middle, halve, halving, toward, on_sound_turn, ask_key, quick_keys, first_child, last_child, is_after, ask_keys, ask_leaf, quick_below, below_by}
 use Rattle.search.proofs.Found.{below-tested}
 use Rattle.search.proofs.Refusals.{Each, in-leaves, in-children, OfLists, below_each, below-found}
+use Rattle.std.specs.Prelude.{Err, None, Ok, Option, Result, Some}
+use Rattle.std.specs.declared.cmp.Ordering.{Ordering}
+use Rattle.std.specs.declared.cmp.Ordering.TheVariants.{Equal, Greater, Less}
 
 -- ---- what holds of all that a turn may stop with, and of Missing, holds of a halving
-module _ (P : Look → Type 0) where
+module _ (P : Result (Option Offset) Flaw → Type 0) where
   abbrev Stops : Turn → Type 0
-  Stops t = (a : Look) → t ≡ Stop a → P a
+  Stops t = (a : Result (Option Offset) Flaw) → t ≡ Stop a → P a
 
   stops-left : Stops Left
   stops-left a e = absurd (let z : ◌≡◌ {A = ℕ} 0 1 = cc in omega arith)
@@ -50,23 +47,23 @@ module _ (P : Look → Type 0) where
   stops-right : Stops Right
   stops-right a e = absurd (let z : ◌≡◌ {A = ℕ} 0 1 = cc in omega arith)
 
-  stops-with : (b : Look) → P b → Stops (Stop b)
+  stops-with : (b : Result (Option Offset) Flaw) → P b → Stops (Stop b)
   stops-with b p a e = let z : b ≡ a = cc in subst P z p
 
   stops-cond : (t : Bool) (l r : Turn) → Stops l → Stops r → Stops (cond t l r)
   stops-cond true l r p q = p
   stops-cond false l r p q = q
 
-  stops-sound : (v : Verdict) (t : Turn) → ((f : Flaw) → v ≡ Flawed f → P (Faulty f)) → (v ≡ Sound → Stops t) → Stops (on_sound_turn v t)
-  stops-sound Sound t p q = q refl
-  stops-sound (Flawed f) t p q = stops-with (Faulty f) (p f refl)
+  stops-sound : (v : Verdict) (t : Turn) → ((f : Flaw) → v ≡ Err f → P (Err f)) → (v ≡ Ok tt → Stops t) → Stops (on_sound_turn v t)
+  stops-sound (Ok tt) t p q = q refl
+  stops-sound (Err f) t p q = stops-with (Err f) (p f refl)
 
-  stops-toward : (r : Order) (o : Offset) → (r ≡ Same → P (Found o)) → Stops (toward r o)
-  stops-toward Before o p = stops-right
-  stops-toward Same o p = stops-with (Found o) (p refl)
-  stops-toward After o p = stops-left
+  stops-toward : (r : Ordering) (o : Offset) → (r ≡ Equal → P (Ok (Some o))) → Stops (toward r o)
+  stops-toward Less o p = stops-right
+  stops-toward Equal o p = stops-with (Ok (Some o)) (p refl)
+  stops-toward Greater o p = stops-left
 
-  module _ (missing : P Missing) where
+  module _ (missing : P (Ok None)) where
     halve-meets : (n : ℕ) (ask : ℕ → Turn) (lo hi : ℕ) → ((i : ℕ) → lo ≤ i → i < hi → Stops (ask i)) → P (halve n ask lo hi)
     unfolding halve
     halve-meets zero ask lo hi f = missing
@@ -76,7 +73,7 @@ module _ (P : Look → Type 0) where
         by : (((i : ℕ) → lo ≤ i → i < middle lo hi → Stops (ask i)) → P (halve n ask lo (middle lo hi)))
             → (((i : ℕ) → suc (middle lo hi) ≤ i → i < hi → Stops (ask i)) → P (halve n ask (suc (middle lo hi)) hi))
             → (t : Bool) → ltb lo hi ≡ t → (u : Turn) → ask (middle lo hi) ≡ u
-            → P (cond t (turned_by u (halve n ask lo (middle lo hi)) (halve n ask (suc (middle lo hi)) hi)) Missing)
+            → P (cond t (turned_by u (halve n ask lo (middle lo hi)) (halve n ask (suc (middle lo hi)) hi)) (Ok None))
         by left right false e u q = missing
         by left right true e Left q = let l = ltb-true lo hi e in left (λ i r s. f i r (omega arith))
         by left right true e Right q = right (λ i r s. f i (omega arith) s)
@@ -87,10 +84,10 @@ module _ (P : Look → Type 0) where
     halving-meets ask none xs f = halve-meets 16 (λ i. ask (get_or xs i none)) 0 (length xs) (λ i r s. f (get_or xs i none) (at_in xs i none s))
 
     -- of the leaves of a list: each leaf's and each key's fault, and a key of the name
-    module _ (d x : List ℕ) (ls : List Offset) (bad-leaf : (l : Offset) → Memᴰ l ls → (f : Flaw) → leaf_fault Header d [] l ≡ Flawed f → P (Faulty f))
-        (bad-key : (c : Child) → Memᴰ c (children_in d ls) → (f : Flaw) → key_fault Header d [] c.at ≡ Flawed f → P (Faulty f))
-        (named : (c : Child) → Memᴰ c (children_in d ls) → key_fault Header d [] c.at ≡ Sound → compare (name_at d c.at) x ≡ Same
-        → P (Found c.at)) where
+    module _ (d x : List ℕ) (ls : List Offset) (bad-leaf : (l : Offset) → Memᴰ l ls → (f : Flaw) → leaf_fault Header d [] l ≡ Err f → P (Err f))
+        (bad-key : (c : Child) → Memᴰ c (children_in d ls) → (f : Flaw) → key_fault Header d [] c.at ≡ Err f → P (Err f))
+        (named : (c : Child) → Memᴰ c (children_in d ls) → key_fault Header d [] c.at ≡ Ok tt → compare (name_at d c.at) x ≡ Equal
+        → P (Ok (Some c.at))) where
       module _ (l : Offset) (i : Memᴰ l ls) where
         key-stops : (c : Child) → Memᴰ c (leaf_children (data_at d l)) → Stops (ask_key d x c)
         unfolding ask_key
@@ -102,7 +99,7 @@ module _ (P : Look → Type 0) where
         unfolding ask_keys quick_keys
         keys-stop some =
             let cs = leaf_children (data_at d l) in
-            let tested : (n : ℕ) → n < length cs → (f : Flaw) → key_fault Header d [] (get_or cs n no_child).at ≡ Flawed f → P (Faulty f) =
+            let tested : (n : ℕ) → n < length cs → (f : Flaw) → key_fault Header d [] (get_or cs n no_child).at ≡ Err f → P (Err f) =
             λ n s. bad-key (get_or cs n no_child) (in-leaves d ls i (at_in cs n no_child s)) in
             stops-sound (key_fault Header d [] (first_child cs).at) _ (tested 0 some)
             (λ s. stops-cond (is_after (compare (name_at d (first_child cs).at) x)) Left _ stops-left
@@ -118,37 +115,37 @@ module _ (P : Look → Type 0) where
       leaves-meet = halving-meets (ask_leaf d x) nowhere ls leaf-stops
 
     -- and below a key
-    below-meets : (d x : List ℕ) (k : Key) → ((f : Flaw) → (k.subkeys ≡ 0 → ⊥) → head_fault Header d [] k.list ≡ Flawed f → P (Faulty f))
-        → (eqb k.subkeys 0 ≡ false → head_fault Header d [] k.list ≡ Sound → P (halving (ask_leaf d x) nowhere (leaves_of d k.list)))
+    below-meets : (d x : List ℕ) (k : Key) → ((f : Flaw) → (k.subkeys ≡ 0 → ⊥) → head_fault Header d [] k.list ≡ Err f → P (Err f))
+        → (eqb k.subkeys 0 ≡ false → head_fault Header d [] k.list ≡ Ok tt → P (halving (ask_leaf d x) nowhere (leaves_of d k.list)))
         → P (quick_below d x k)
     unfolding quick_below
     below-meets d x k bad meets = by (eqb k.subkeys 0) refl (head_fault Header d [] k.list) refl
       where
         by : (t : Bool) → eqb k.subkeys 0 ≡ t → (v : Verdict) → head_fault Header d [] k.list ≡ v
-            → P (cond t Missing (on_sound v (halving (ask_leaf d x) nowhere (leaves_of d k.list))))
+            → P (cond t (Ok None) (on_sound v (halving (ask_leaf d x) nowhere (leaves_of d k.list))))
         by true e v s = missing
-        by false e Sound s = meets e s
-        by false e (Flawed f) s = bad f (eqb-false _ _ e) s
+        by false e (Ok tt) s = meets e s
+        by false e (Err f) s = bad f (eqb-false _ _ e) s
 
 -- ---- what it finds
 
 -- where it finds a key, this holds of it
-abbrev IfFound : (Offset → Type 0) → Look → Type 0
-IfFound Q a = (o : Offset) → a ≡ Found o → Q o
+abbrev IfFound : (Offset → Type 0) → Result (Option Offset) Flaw → Type 0
+IfFound Q a = (o : Offset) → a ≡ Ok (Some o) → Q o
 
-if-missing : (Q : Offset → Type 0) → IfFound Q Missing
+if-missing : (Q : Offset → Type 0) → IfFound Q (Ok None)
 if-missing Q o e = absurd (let z : ◌≡◌ {A = ℕ} 0 1 = cc in omega arith)
 
-if-faulty : (Q : Offset → Type 0) (f : Flaw) → IfFound Q (Faulty f)
+if-faulty : (Q : Offset → Type 0) (f : Flaw) → IfFound Q (Err f)
 if-faulty Q f o e = absurd (let z : ◌≡◌ {A = ℕ} 0 1 = cc in omega arith)
 
-if-found : (Q : Offset → Type 0) (c : Offset) → Q c → IfFound Q (Found c)
+if-found : (Q : Offset → Type 0) (c : Offset) → Q c → IfFound Q (Ok (Some c))
 if-found Q c q o e = let z : c ≡ o = cc in subst Q z q
 
 module _ (d x : List ℕ) where
-  pub quick-tested : (k : Key) {o : Offset} → quick_below d x k ≡ Found o → key_fault Header d [] o ≡ Sound
+  pub quick-tested : (k : Key) {o : Offset} → quick_below d x k ≡ Ok (Some o) → key_fault Header d [] o ≡ Ok tt
   quick-tested k {o} =
-      let Q : Offset → Type 0 = λ y. key_fault Header d [] y ≡ Sound in
+      let Q : Offset → Type 0 = λ y. key_fault Header d [] y ≡ (Ok tt) in
       below-meets (IfFound Q) (if-missing Q) d x k (λ f n e. if-faulty Q f)
       (λ z s. leaves-meet (IfFound Q) (if-missing Q) d x (leaves_of d k.list) (λ l i f e. if-faulty Q f) (λ c i f e. if-faulty Q f)
       (λ c i g e. if-found Q c.at g)) o
@@ -156,10 +153,10 @@ module _ (d x : List ℕ) where
   module _ (k : Offset) where
     -- one of the key's children, of that name
     abbrev ChildNamed : Offset → Type 0
-    ChildNamed o = (c : Child) × Memᴰ c (children d k) × (o ≡ c.at) × (compare (name_at d c.at) x ≡ Same)
+    ChildNamed o = (c : Child) × Memᴰ c (children d k) × (o ≡ c.at) × (compare (name_at d c.at) x ≡ Equal)
 
-    pub quick-found : {o : Offset} → quick_below d x (key_of d k) ≡ Found o
-        → (c : Child) × Memᴰ c (children d k) × (o ≡ c.at) × (compare (name_at d c.at) x ≡ Same)
+    pub quick-found : {o : Offset} → quick_below d x (key_of d k) ≡ Ok (Some o)
+        → (c : Child) × Memᴰ c (children d k) × (o ≡ c.at) × (compare (name_at d c.at) x ≡ Equal)
     quick-found {o} =
         below-meets (IfFound ChildNamed) (if-missing ChildNamed) d x (key_of d k) (λ f n e. if-faulty ChildNamed f)
         (λ z s. leaves-meet (IfFound ChildNamed) (if-missing ChildNamed) d x (leaves_of d (key_of d k).list) (λ l i f e. if-faulty ChildNamed f)
@@ -168,16 +165,16 @@ module _ (d x : List ℕ) where
     -- ---- why it refuses
 
     -- where it meets a fault, that is one of the key's lists
-    abbrev IfFaulty : Look → Type 0
+    abbrev IfFaulty : Result (Option Offset) Flaw → Type 0
     IfFaulty a = Each (OfLists d x k) a
 
-    faulty-missing : IfFaulty Missing
+    faulty-missing : IfFaulty (Ok None)
     faulty-missing f e = absurd (let z : ◌≡◌ {A = ℕ} 0 1 = cc in omega arith)
 
-    faulty-found : (o : Offset) → IfFaulty (Found o)
+    faulty-found : (o : Offset) → IfFaulty (Ok (Some o))
     faulty-found o f e = absurd (let z : ◌≡◌ {A = ℕ} 0 1 = cc in omega arith)
 
-    faulty-for : (g : Flaw) → OfLists d x k g → IfFaulty (Faulty g)
+    faulty-for : (g : Flaw) → OfLists d x k g → IfFaulty (Err g)
     faulty-for g p f e = let z : g ≡ f = cc in subst (OfLists d x k) z p
 
     pub quick-each : Each (OfLists d x k) (quick_below d x (key_of d k))
@@ -192,13 +189,13 @@ module _ (d x : List ℕ) where
 
 -- ---- either search
 module _ (d x : List ℕ) where
-  pub by-tested : (how : How) (k : Key) {o : Offset} → below_by how d x k ≡ Found o → key_fault Header d [] o ≡ Sound
+  pub by-tested : (how : How) (k : Key) {o : Offset} → below_by how d x k ≡ Ok (Some o) → key_fault Header d [] o ≡ Ok tt
   unfolding below_by
   by-tested InTurn k e = below-tested d x k e
   by-tested Halving k e = quick-tested d x k e
 
-  pub by-found : (how : How) (k : Offset) {o : Offset} → below_by how d x (key_of d k) ≡ Found o
-      → (c : Child) × Memᴰ c (children d k) × (o ≡ c.at) × (compare (name_at d c.at) x ≡ Same)
+  pub by-found : (how : How) (k : Offset) {o : Offset} → below_by how d x (key_of d k) ≡ Ok (Some o)
+      → (c : Child) × Memᴰ c (children d k) × (o ≡ c.at) × (compare (name_at d c.at) x ≡ Equal)
   unfolding below_by
   by-found InTurn k e = below-found d x k e
   by-found Halving k e = quick-found d x k e

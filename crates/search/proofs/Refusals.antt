@@ -10,13 +10,10 @@ use lib.Dec.{eqb}
 use borrow.Author.Tests.{eqb-false}
 use Rattle.fields.specs.declared.Flaw.{Flaw}
 use Rattle.fields.specs.declared.Offset.{Offset}
-use Rattle.fields.specs.declared.Verdict.{Verdict}
-use Rattle.fields.specs.declared.Verdict.TheVariants.{Sound, Flawed}
 use Rattle.fields.proofs.Every.{Every}
 use Rattle.cells.specs.declared.Rule.TheVariants.{Header}
 use Rattle.cells.specs.Named.{data_at}
 use Rattle.cells.proofs.Refusals.{Ruled, by-header}
-use Rattle.names.specs.declared.Order.TheVariants.{Same}
 use Rattle.names.specs.Comparison.{compare, same_name}
 use Rattle.records.specs.declared.Child.{Child}
 use Rattle.records.specs.Keys.{key_fault, key_of}
@@ -24,40 +21,41 @@ use Rattle.records.specs.Lists.{leaf_fault, head_fault, leaf_children, leaves_of
 use Rattle.values.specs.Refused.{Among, Lists, one_of, its-list, its-leaf, its-child}
 use Rattle.values.proofs.Refusals.{key-unfit, list-fit, list-unfit, leaf-unfit}
 use Rattle.tree.specs.Tree.{name_at}
-use Rattle.search.specs.declared.Look.{Look}
-use Rattle.search.specs.declared.Look.TheVariants.{Found, Missing, Flawed as Faulty}
 use Rattle.search.specs.Search.{on_sound, or_else, first_of, key_named, search_leaf, search_leaves, search_below}
 use Rattle.search.proofs.Found.{first-at, sound-found}
 use Rattle.search.proofs.Finds.{named_in}
+use Rattle.fields.specs.Faults.{Verdict}
+use Rattle.std.specs.Prelude.{Err, None, Ok, Option, Result, Some}
+use Rattle.std.specs.declared.cmp.Ordering.TheVariants.{Equal}
 
 -- ---- all faults of a look
 module _ (P : Flaw → Type 0) where
-  abbrev pub Each : Look → Type 0
-  Each l = (f : Flaw) → l ≡ Faulty f → P f
+  abbrev pub Each : Result (Option Offset) Flaw → Type 0
+  Each l = (f : Flaw) → l ≡ Err f → P f
 
-  pub each-found : (o : Offset) → Each (Found o)
+  pub each-found : (o : Offset) → Each (Ok (Some o))
   each-found o f e = absurd (let z : ◌≡◌ {A = ℕ} 0 1 = cc in omega arith)
 
-  pub each-missing : Each Missing
+  pub each-missing : Each (Ok None)
   each-missing f e = absurd (let z : ◌≡◌ {A = ℕ} 0 1 = cc in omega arith)
 
-  pub each-cond : (t : Bool) (a b : Look) → (t ≡ true → Each a) → (t ≡ false → Each b) → Each (cond t a b)
+  pub each-cond : (t : Bool) (a b : Result (Option Offset) Flaw) → (t ≡ true → Each a) → (t ≡ false → Each b) → Each (cond t a b)
   each-cond true a b p q = p refl
   each-cond false a b p q = q refl
 
-  pub each-sound : (v : Verdict) (l : Look) → Every P v → (v ≡ Sound → Each l) → Each (on_sound v l)
-  each-sound Sound l p q = q refl
-  each-sound (Flawed g) l p q = λ f e. p f (let z : g ≡ f = cc in ap Flawed z)
+  pub each-sound : (v : Verdict) (l : Result (Option Offset) Flaw) → Every P v → (v ≡ Ok tt → Each l) → Each (on_sound v l)
+  each-sound (Ok tt) l p q = q refl
+  each-sound (Err g) l p q = λ f e. p f (let z : g ≡ f = cc in ap Err z)
 
-  pub each_first : {A : Type 0} (each : A → Look) (xs : List A) → ((x : A) → Memᴰ x xs → Each (each x)) → Each (first_of each xs)
+  pub each_first : {A : Type 0} (each : A → Result (Option Offset) Flaw) (xs : List A) → ((x : A) → Memᴰ x xs → Each (each x)) → Each (first_of each xs)
   unfolding first_of or_else
   each_first each [] p = each-missing
   each_first each (x ∷ xs) p = by (each x) refl (each_first each xs (λ y i. p y (Memᴰ.tail i)))
     where
-      by : (w : Look) → each x ≡ w → Each (first_of each xs) → Each (or_else w (first_of each xs))
-      by (Found o) q rest = each-found o
-      by Missing q rest = rest
-      by (Faulty g) q rest = λ f e. p x (Memᴰ.head refl) f (q ∙ e)
+      by : (w : Result (Option Offset) Flaw) → each x ≡ w → Each (first_of each xs) → Each (or_else w (first_of each xs))
+      by (Ok (Some o)) q rest = each-found o
+      by (Ok None) q rest = rest
+      by (Err g) q rest = λ f e. p x (Memᴰ.head refl) f (q ∙ e)
 
 -- ---- a leaf's keys are its key's
 module _ (d : List ℕ) where
@@ -89,7 +87,7 @@ module _ (d x : List ℕ) (k : Offset) where
   unfolding search_below search_leaf key_named
   below_each =
       let o = (key_of d k).list in
-      each-cond OfLists (eqb (key_of d k).subkeys 0) Missing _ (λ z. each-missing OfLists)
+      each-cond OfLists (eqb (key_of d k).subkeys 0) (Ok None) _ (λ z. each-missing OfLists)
       (λ z. each-sound OfLists (head_fault Header d [] o) _ (λ f e. one_of (its-list (eqb-false _ _ z)) (list-unfit Header d [] ruled o f e))
       (λ s. each_first OfLists (search_leaf d x) (leaves_of d o)
       (λ l i. each-sound OfLists (leaf_fault Header d [] l) _
@@ -97,17 +95,17 @@ module _ (d x : List ℕ) (k : Offset) where
       (λ t. each_first OfLists (key_named d x) (leaf_children (data_at d l))
       (λ c j. each-sound OfLists (key_fault Header d [] c.at) _
       (λ f e. one_of (its-child (in-children d k z (in-leaves d (leaves_of d o) i j))) (key-unfit Header d [] ruled c.at f e))
-      (λ u. each-cond OfLists (same_name (name_at d c.at) x) (Found c.at) Missing (λ y. each-found OfLists c.at) (λ y. each-missing OfLists)))))))
+      (λ u. each-cond OfLists (same_name (name_at d c.at) x) (Ok (Some c.at)) (Ok None) (λ y. each-found OfLists c.at) (λ y. each-missing OfLists)))))))
 
   -- what is found below a key is one of its children, of that name
-  pub below-found : {o : Offset} → search_below d x (key_of d k) ≡ Found o
-      → (c : Child) × Memᴰ c (children d k) × (o ≡ c.at) × (compare (name_at d c.at) x ≡ Same)
+  pub below-found : {o : Offset} → search_below d x (key_of d k) ≡ Ok (Some o)
+      → (c : Child) × Memᴰ c (children d k) × (o ≡ c.at) × (compare (name_at d c.at) x ≡ Equal)
   unfolding search_below search_leaf
   below-found {o} e = by (eqb (key_of d k).subkeys 0) refl e
     where
       by : (t : Bool) → eqb (key_of d k).subkeys 0 ≡ t
-          → cond t Missing (on_sound (head_fault Header d [] (key_of d k).list) (search_leaves d x (leaves_of d (key_of d k).list))) ≡ Found o
-          → (c : Child) × Memᴰ c (children d k) × (o ≡ c.at) × (compare (name_at d c.at) x ≡ Same)
+          → cond t (Ok None) (on_sound (head_fault Header d [] (key_of d k).list) (search_leaves d x (leaves_of d (key_of d k).list))) ≡ Ok (Some o)
+          → (c : Child) × Memᴰ c (children d k) × (o ≡ c.at) × (compare (name_at d c.at) x ≡ Equal)
       by true z q = absurd (let y : ◌≡◌ {A = ℕ} 0 1 = cc in omega arith)
       by false z q =
           let ls = leaves_of d (key_of d k).list in

@@ -1,109 +1,74 @@
 // The child of a key by its name. There is no work map: an offset names a cell by the cell's own header.
 #![tactic(auto)]
 
-ghost use Rattle.std.specs.Prelude.{◌≡◌, ◌<◌};
+ghost use Rattle.std.specs.Prelude.{◌≡◌, ℕ, ◌<◌};
 ghost use Rattle.fields.specs.Faults.{nowhere};
 ghost use Rattle.records.specs.Terms.{ElementsLie, elements_of, LeavesLie, leaves_named};
 ghost use Rattle.search.specs.Search.{key_named, search_keys, search_leaf, search_leaves, search_below};
-ghost use Rattle.search.specs.Quick.{halving, ask_key, quick_keys, ask_keys, ask_leaf, quick_below, below_by};
+ghost use Rattle.search.specs.declared.Turn.{Turn};
+ghost use Rattle.search.specs.Quick.{halve, halving, ask_key, quick_keys, ask_keys, ask_leaf, quick_below, below_by};
 ghost use Rattle.search.specs.Terms.{by_offset, asked_last};
 
 use cells::Rule;
 use fields::{Flaw, Offset};
-use names::Order;
-use records::{Called, Headed, Key, Leaf, Leafed, Leaves};
-
-// What a search for a key or a value by its name meets.
-#[derive(Clone, Copy)]
-pub enum Look {
-    Found(Offset),
-    Missing,
-    Flawed(Flaw),
-}
+use records::{Key, Leaf, Leaves};
+use std::cmp::Ordering;
 
 // One key, against a name, which is compared in place.
-fn key_named(bins: &[u8], name: &[u16], at: Offset) -> Look
+#[tactic(auto, unfolding(crate::specs::Search::key_named), using(crate::proofs::Ways::key_ways))]
+fn key_named(bins: &[u8], name: &[u16], at: Offset) -> Result<Option<Offset>, Flaw>
     ensures { result ≡ key_named bins.now name.now (by_offset at) }
 {
-    match records::name_at(bins, at) {
-        Called::Flawed(f) => Look::Flawed(f),
-        Called::Whole(stored) => {
-            if records::is_called(bins, stored, name) {
-                Look::Found(at)
-            } else {
-                Look::Missing
-            }
-        }
-    }
+    let stored = records::name_at(bins, at)?;
+    Ok(records::is_called(bins, stored, name).then_some(at))
 }
 
 // The keys of a leaf, in order, up to the first match.
-fn search_keys(bins: &[u8], name: &[u16], leaf: Leaf) -> Look
+fn search_keys(bins: &[u8], name: &[u16], leaf: Leaf) -> Result<Option<Offset>, Flaw>
     requires { ElementsLie bins.now leaf }
     ensures { result ≡ search_keys bins.now name.now (elements_of bins.now leaf) }
 {
-    let count = leaf.count;
-    let mut i: usize = 0;
-    while i < count {
+    for i in 0..leaf.count {
         let at = records::child_offset(bins, leaf, i);
-        match key_named(bins, name, at) {
-            Look::Missing => {}
-            Look::Found(o) => {
-                return Look::Found(o);
-            }
-            Look::Flawed(f) => {
-                return Look::Flawed(f);
-            }
+        if let Some(o) = key_named(bins, name, at)? {
+            return Ok(Some(o));
         }
-        i += 1;
     }
-    Look::Missing
+    Ok(None)
 }
 
-fn search_leaf(bins: &[u8], name: &[u16], o: Offset) -> Look
+#[tactic(auto, unfolding(crate::specs::Search::search_leaf), using(crate::proofs::Ways::leaf_ways))]
+fn search_leaf(bins: &[u8], name: &[u16], o: Offset) -> Result<Option<Offset>, Flaw>
     ensures { result ≡ search_leaf bins.now name.now o }
 {
-    match records::leaf_at(bins, b"", Rule::Header, o) {
-        Leafed::Flawed(f) => Look::Flawed(f),
-        Leafed::Whole(leaf) => search_keys(bins, name, leaf),
-    }
+    let leaf = records::leaf_at(bins, b"", Rule::Header, o)?;
+    search_keys(bins, name, leaf)
 }
 
 // One leaf at a time: leaf 1, its keys, leaf 2, its keys.
-fn search_leaves(bins: &[u8], name: &[u16], ls: Leaves) -> Look
+fn search_leaves(bins: &[u8], name: &[u16], ls: Leaves) -> Result<Option<Offset>, Flaw>
     requires { LeavesLie bins.now ls }
     ensures { result ≡ search_leaves bins.now name.now (leaves_named bins.now ls) }
 {
-    let count = ls.count;
-    let mut j: usize = 0;
-    while j < count {
-        let o = records::leaf_offset(bins, ls, j);
-        match search_leaf(bins, name, o) {
-            Look::Missing => {}
-            Look::Found(o) => {
-                return Look::Found(o);
-            }
-            Look::Flawed(f) => {
-                return Look::Flawed(f);
-            }
+    for j in 0..ls.count {
+        let l = records::leaf_offset(bins, ls, j);
+        if let Some(o) = search_leaf(bins, name, l)? {
+            return Ok(Some(o));
         }
-        j += 1;
     }
-    Look::Missing
+    Ok(None)
 }
 
 // The child of a key by its name. The subkey count is only asked whether it is 0; all elements of the lists are searched.
-fn search_below(bins: &[u8], name: &[u16], k: Key) -> Look
+#[tactic(auto, unfolding(crate::specs::Search::search_below), using(crate::proofs::Ways::list_ways))]
+fn search_below(bins: &[u8], name: &[u16], k: Key) -> Result<Option<Offset>, Flaw>
     ensures { result ≡ search_below bins.now name.now k }
 {
     if k.subkeys == 0 {
-        return Look::Missing;
+        return Ok(None);
     }
-    let list = k.list;
-    match records::head_at(bins, b"", Rule::Header, list) {
-        Headed::Flawed(f) => Look::Flawed(f),
-        Headed::Whole(ls) => search_leaves(bins, name, ls),
-    }
+    let ls = records::head_at(bins, b"", Rule::Header, k.list)?;
+    search_leaves(bins, name, ls)
 }
 
 // Counts are below 2^16, so 16 turns are enough.
@@ -114,51 +79,56 @@ const TURNS: usize = 16;
 pub enum Turn {
     Left,
     Right,
-    Stop(Look),
+    Stop(Result<Option<Offset>, Flaw>),
+}
+
+// Of so many things, which `ask` asks by their index, the one that answers: by halves.
+fn by_halves<F: Fn(usize) -> Turn>(count: usize, ask: F) -> Result<Option<Offset>, Flaw>
+    requires { (i : ℕ) → i < count → F.pre ask i }
+    ensures { (says : ℕ → Turn) → ((i : ℕ) (t : Turn) → i < count → F.post ask i t → t ≡ says i)
+        → result ≡ halve TURNS says 0 count }
+{
+    let mut lo: usize = 0;
+    let mut hi = count;
+    for turn in 0..TURNS {
+        if hi <= lo {
+            return Ok(None);
+        }
+        let mid = lo + (hi - lo) / 2;
+        match ask(mid) {
+            Turn::Left => hi = mid,
+            Turn::Right => lo = mid + 1,
+            Turn::Stop(a) => return a,
+        }
+    }
+    Ok(None)
 }
 
 // One key, which may stand before or behind the name.
+#[tactic(auto, unfolding(crate::specs::Quick::ask_key), using(crate::proofs::Ways::key_ways))]
 fn ask_key(bins: &[u8], name: &[u16], at: Offset) -> Turn
     ensures { result ≡ ask_key bins.now name.now (by_offset at) }
 {
+    // a `Turn` is no `Result`: no `?`, here and in `ask_leaf`
     match records::name_at(bins, at) {
-        Called::Flawed(f) => Turn::Stop(Look::Flawed(f)),
-        Called::Whole(stored) => match records::order_of(bins, stored, name) {
-            Order::Before => Turn::Right,
-            Order::Same => Turn::Stop(Look::Found(at)),
-            Order::After => Turn::Left,
+        Err(f) => Turn::Stop(Err(f)),
+        Ok(stored) => match records::order_of(bins, stored, name) {
+            Ordering::Less => Turn::Right,
+            Ordering::Equal => Turn::Stop(Ok(Some(at))),
+            Ordering::Greater => Turn::Left,
         },
     }
 }
 
 // The keys of a leaf, by halves.
-fn quick_keys(bins: &[u8], name: &[u16], leaf: Leaf) -> Look
+fn quick_keys(bins: &[u8], name: &[u16], leaf: Leaf) -> Result<Option<Offset>, Flaw>
     requires { ElementsLie bins.now leaf }
     ensures { result ≡ quick_keys bins.now name.now (elements_of bins.now leaf) }
 {
-    let mut lo: usize = 0;
-    let mut hi = leaf.count;
-    let mut turns = TURNS;
-    while 0 < turns {
-        if hi <= lo {
-            return Look::Missing;
-        }
-        let mid = lo + (hi - lo) / 2;
-        let at = records::child_offset(bins, leaf, mid);
-        match ask_key(bins, name, at) {
-            Turn::Left => {
-                hi = mid;
-            }
-            Turn::Right => {
-                lo = mid + 1;
-            }
-            Turn::Stop(a) => {
-                return a;
-            }
-        }
-        turns -= 1;
-    }
-    Look::Missing
+    by_halves(
+        leaf.count,
+        |i| ask_key(bins, name, records::child_offset(bins, leaf, i)),
+    )
 }
 
 // A leaf whose first key does not stand behind the name: by its last key, then by its keys.
@@ -169,19 +139,12 @@ fn ask_last(bins: &[u8], name: &[u16], leaf: Leaf) -> Turn
 {
     let last = records::child_offset(bins, leaf, leaf.count - 1);
     match ask_key(bins, name, last) {
-        Turn::Right => {
-            return Turn::Right;
-        }
-        Turn::Left => {}
-        Turn::Stop(a) => match a {
-            Look::Flawed(f) => {
-                return Turn::Stop(Look::Flawed(f));
-            }
-            Look::Found(_) => {}
-            Look::Missing => {}
-        },
+        Turn::Right => Turn::Right,
+        Turn::Stop(Err(f)) => Turn::Stop(Err(f)),
+        // two arms: one of both leaves the proof no name for what was answered
+        Turn::Left => Turn::Stop(quick_keys(bins, name, leaf)),
+        Turn::Stop(Ok(_)) => Turn::Stop(quick_keys(bins, name, leaf)),
     }
-    Turn::Stop(quick_keys(bins, name, leaf))
 }
 
 // A leaf is asked by its first and its last key, so that leaves and keys obey one law.
@@ -192,73 +155,45 @@ fn ask_keys(bins: &[u8], name: &[u16], leaf: Leaf) -> Turn
 {
     let first = records::child_offset(bins, leaf, 0);
     match ask_key(bins, name, first) {
-        Turn::Left => {
-            return Turn::Left;
-        }
-        Turn::Right => {}
-        Turn::Stop(a) => match a {
-            Look::Flawed(f) => {
-                return Turn::Stop(Look::Flawed(f));
-            }
-            Look::Found(_) => {}
-            Look::Missing => {}
-        },
+        Turn::Left => Turn::Left,
+        Turn::Stop(Err(f)) => Turn::Stop(Err(f)),
+        // two arms, as in `ask_last`
+        Turn::Right => ask_last(bins, name, leaf),
+        Turn::Stop(Ok(_)) => ask_last(bins, name, leaf),
     }
-    ask_last(bins, name, leaf)
 }
 
+#[tactic(auto, unfolding(crate::specs::Quick::ask_leaf), using(crate::proofs::Ways::leaf_ways))]
 fn ask_leaf(bins: &[u8], name: &[u16], o: Offset) -> Turn
     ensures { result ≡ ask_leaf bins.now name.now o }
 {
     match records::leaf_at(bins, b"", Rule::Header, o) {
-        Leafed::Flawed(f) => Turn::Stop(Look::Flawed(f)),
-        Leafed::Whole(leaf) => ask_keys(bins, name, leaf),
+        Err(f) => Turn::Stop(Err(f)),
+        Ok(leaf) => ask_keys(bins, name, leaf),
     }
 }
 
 // The leaves of a list, by halves.
-fn quick_leaves(bins: &[u8], name: &[u16], ls: Leaves) -> Look
+fn quick_leaves(bins: &[u8], name: &[u16], ls: Leaves) -> Result<Option<Offset>, Flaw>
     requires { LeavesLie bins.now ls }
     ensures { result ≡ halving (ask_leaf bins.now name.now) nowhere (leaves_named bins.now ls) }
 {
-    let mut lo: usize = 0;
-    let mut hi = ls.count;
-    let mut turns = TURNS;
-    while 0 < turns {
-        if hi <= lo {
-            return Look::Missing;
-        }
-        let mid = lo + (hi - lo) / 2;
-        let o = records::leaf_offset(bins, ls, mid);
-        match ask_leaf(bins, name, o) {
-            Turn::Left => {
-                hi = mid;
-            }
-            Turn::Right => {
-                lo = mid + 1;
-            }
-            Turn::Stop(a) => {
-                return a;
-            }
-        }
-        turns -= 1;
-    }
-    Look::Missing
+    by_halves(
+        ls.count,
+        |j| ask_leaf(bins, name, records::leaf_offset(bins, ls, j)),
+    )
 }
 
 // The child of a key by its name, by halves: at most 16 leaves and 16 keys are asked, whatever the lists.
-fn quick_below(bins: &[u8], name: &[u16], k: Key) -> Look
+#[tactic(auto, unfolding(crate::specs::Quick::quick_below), using(crate::proofs::Ways::list_ways))]
+fn quick_below(bins: &[u8], name: &[u16], k: Key) -> Result<Option<Offset>, Flaw>
     ensures { result ≡ quick_below bins.now name.now k }
 {
-    let subkeys = k.subkeys;
-    if subkeys == 0 {
-        return Look::Missing;
+    if k.subkeys == 0 {
+        return Ok(None);
     }
-    let list = k.list;
-    match records::head_at(bins, b"", Rule::Header, list) {
-        Headed::Flawed(f) => Look::Flawed(f),
-        Headed::Whole(ls) => quick_leaves(bins, name, ls),
-    }
+    let ls = records::head_at(bins, b"", Rule::Header, k.list)?;
+    quick_leaves(bins, name, ls)
 }
 
 // How a child is searched: all in turn, by the definition that holds for every hive, or by halves, which is right where the names ascend.
@@ -268,7 +203,8 @@ pub enum How {
     Halving,
 }
 
-pub fn below(bins: &[u8], name: &[u16], k: Key, how: How) -> Look
+#[tactic(auto, unfolding(crate::specs::Quick::below_by))]
+pub fn below(bins: &[u8], name: &[u16], k: Key, how: How) -> Result<Option<Offset>, Flaw>
     ensures { result ≡ below_by how bins.now name.now k }
 {
     match how {

@@ -16,18 +16,17 @@ pub fn page_place(page: usize) -> Place
     fields::to_place(Offset((512 * page) as u32))
 }
 
-// "writes its 512 bytes and no others": of the hive, only the part that is lent to the leaf can change.
+// "writes its 512 bytes and no others": of the hive, only the part that is lent to the copy can change.
 pub fn store(hive: &mut [u8], to: Place, log: &[u8], from: Place)
     requires to_in_bounds { to.0 + 512 ≤ length hive.old }
     requires from_in_bounds { from.0 + 512 ≤ length log.now }
     ensures { hive.new ≡ stored hive.old to.0 (sector_at log.now from.0) }
 {
-    let a = to.0;
-    let b = from.0;
-    fields::copy_all(&log[b..b + 512], &mut hive[a..a + 512]);
+    hive[to.0..to.0 + 512].copy_from_slice(&log[from.0..from.0 + 512]);
 }
 
 // Makes a log's first sector the closing one, a hive's: type 0, then the checksum over what then stands there.
+#[tactic(auto, unfolding(crate::specs::Closing::closing_sector))]
 pub fn make_closing(dst: &mut [u8])
     requires { 512 ≤ length dst.old }
     ensures { dst.new ≡ closing_sector dst.old }
@@ -48,6 +47,7 @@ pub fn store_closing(hive: &mut [u8], log: &[u8])
 }
 
 // Makes the sequence numbers of a hive's first sector equal: the second becomes the first, then the checksum over what then stands there.
+#[tactic(auto, unfolding(crate::specs::Settling::settled_sector))]
 pub fn even(dst: &mut [u8])
     requires { 512 ≤ length dst.old }
     ensures { dst.new ≡ settled_sector dst.old }

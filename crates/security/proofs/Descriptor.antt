@@ -11,10 +11,8 @@ use borrow.Author.Tests.{le-leb, leb-true}
 use Rattle.fields.specs.declared.Fault.TheVariants.{Record}
 use Rattle.fields.specs.declared.Flaw.{Flaw}
 use Rattle.fields.specs.declared.Offset.{Offset}
-use Rattle.fields.specs.declared.Verdict.{Verdict}
-use Rattle.fields.specs.declared.Verdict.TheVariants.{Sound, Flawed}
 use Rattle.fields.specs.Number.{u32_at}
-use Rattle.fields.specs.Faults.{flaw}
+use Rattle.fields.specs.Faults.{flaw, Verdict}
 use Rattle.fields.proofs.Bools.{and-inv, and_both, never}
 use Rattle.fields.proofs.Every.{Every, every-next, every-unless}
 use Rattle.cells.specs.declared.Rule.{Rule}
@@ -23,12 +21,12 @@ use Rattle.cells.proofs.Naming.{cell-fault-is}
 use Rattle.cells.proofs.Refusals.{Ruled}
 use Rattle.records.proofs.Facts.{signed-exactly}
 use Rattle.records.proofs.LawsRecord.{record-tested}
-use Rattle.security.specs.declared.Described.TheVariants as answer
 use Rattle.security.specs.declared.Item.{Item}
 use Rattle.security.specs.Items.{is_sk, item_in, item_of}
 use Rattle.security.specs.Descriptor.{is_described, descriptor_fault, described}
 use Rattle.security.specs.Refused.{HasDescriptor, OfDescriptor, no_cell, no-descriptor}
 use Rattle.security.proofs.Items.{sk-long}
+use Rattle.std.specs.Prelude.{Err, Ok}
 
 -- the tests of an item and its descriptor, a law for each way out
 module _ (r : List ℕ) where
@@ -44,14 +42,17 @@ module _ (r : List ℕ) where
   unfolding is_described
   described-long e = sk-long r (and-inv (is_sk r) _ e).0
 
--- what an answer says of the verdict behind it
-pub described-whole : (v : Verdict) (i : Item) {j : Item} → described v i ≡ answer.Whole j → (v ≡ Sound) × (j ≡ i)
-described-whole Sound i {j} e = (refl, let q : i ≡ j = cc in sym q)
-described-whole (Flawed f) i e = absurd (let z : ◌≡◌ {A = ℕ} 0 1 = cc in omega arith)
+pub described_room : (r : List ℕ) → is_described r ≡ true → 20 ≤ length r
+described_room r e = described-long r e
 
-pub described-flawed : (v : Verdict) (i : Item) {f : Flaw} → described v i ≡ answer.Flawed f → v ≡ Flawed f
-described-flawed Sound i e = absurd (let z : ◌≡◌ {A = ℕ} 0 1 = cc in omega arith)
-described-flawed (Flawed g) i e = cc
+-- what an answer says of the verdict behind it
+pub described-whole : (v : Verdict) (i : Item) {j : Item} → described v i ≡ Ok j → (v ≡ Ok tt) × (j ≡ i)
+described-whole (Ok tt) i {j} e = (refl, let q : i ≡ j = cc in sym q)
+described-whole (Err f) i e = absurd (let z : ◌≡◌ {A = ℕ} 0 1 = cc in omega arith)
+
+pub described-flawed : (v : Verdict) (i : Item) {f : Flaw} → described v i ≡ Err f → v ≡ Err f
+described-flawed (Ok tt) i e = absurd (let z : ◌≡◌ {A = ℕ} 0 1 = cc in omega arith)
+described-flawed (Err g) i e = cc
 
 -- the test, and the plain facts
 module _ (d : List ℕ) (o : Offset) where
@@ -71,7 +72,7 @@ module _ (d : List ℕ) (o : Offset) where
 
 module _ (rule : Rule) (d m : List ℕ) (o : Offset) where
   -- an item that passes has its descriptor
-  pub descriptor-stands : descriptor_fault rule d m o ≡ Sound → HasDescriptor d o
+  pub descriptor-stands : descriptor_fault rule d m o ≡ Ok tt → HasDescriptor d o
   unfolding descriptor_fault
   descriptor-stands e = to d o (record-tested is_described rule d m o e)
 
@@ -81,6 +82,6 @@ module _ (rule : Rule) (d m : List ℕ) (o : Offset) where
   descriptor-refuses ruled =
       every-next (OfDescriptor rule d o) (cell_fault rule d m o) _
       (λ f e. rw (cell-fault-is rule d m o e)
-      (no_cell (λ u. let z : Sound ≡ Flawed f = sym (ruled.used_sound o u) ∙ e in absurd (let y : ◌≡◌ {A = ℕ} 0 1 = cc in omega arith))))
+      (no_cell (λ u. let z : (Ok tt) ≡ Err f = sym (ruled.used_sound o u) ∙ e in absurd (let y : ◌≡◌ {A = ℕ} 0 1 = cc in omega arith))))
       (λ s. every-unless (OfDescriptor rule d o) (is_described (data_at d o)) (flaw Record o)
       (λ e. no-descriptor (ruled.sound-used o s) (λ h. never _ (of d o h) e)))

@@ -11,7 +11,6 @@ use lib.ListN.{length}
 use borrow.Author.Tests.{eqb-true, eqb-false, eq-eqb, ne_eqb}
 use Rattle.fields.specs.declared.Fault.TheVariants.{Security}
 use Rattle.fields.specs.declared.Offset.{Offset}
-use Rattle.fields.specs.declared.Verdict.TheVariants.{Sound}
 use Rattle.fields.specs.Faults.{flaw, unless, ◌next◌}
 use Rattle.fields.specs.Charges.{Free, charge_of}
 use Rattle.fields.proofs.Bools.{never}
@@ -25,6 +24,7 @@ use Rattle.security.specs.Items.{is_item, item_of, is_joined, named_by, link_fau
 use Rattle.security.specs.Stands.{ItemStands, Link, Ring, closes, goes_on, SecurityStands}
 use Rattle.security.proofs.Items.{item-exactly, item-below, room-facts, facts-room, facts-link, joined-facts, facts-joined}
 use Rattle.security.proofs.Ring.{whole-ring}
+use Rattle.std.specs.Prelude.{Ok}
 
 -- an offset is one of some items
 pub among_in : (o : Offset) (is : List Offset) → is_among o is ≡ true → Memᴰ o is
@@ -70,7 +70,7 @@ module _ (d : List ℕ) (items : List Offset) where
 
 module _ (d m : List ℕ) (b : BinsTile d 0) (mapped : Mapped d m) (ks : List Offset) where
   -- an item that passes its tests has room and the right count
-  item-stands : (o : Offset) → is_item d m o ≡ true → item_fault d m ks o ≡ Sound → ItemStands d ks o
+  item-stands : (o : Offset) → is_item d m o ≡ true → item_fault d m ks o ≡ Ok tt → ItemStands d ks o
   unfolding item_fault link_fault count_fault
   item-stands o i e =
       let v = both (link_fault d m o) _ e in
@@ -82,7 +82,7 @@ module _ (d m : List ℕ) (b : BinsTile d 0) (mapped : Mapped d m) (ks : List Of
       }
 
   -- and an item that stands, linked to another, passes them
-  stands-item : {o p : Offset} → ItemStands d ks o → ItemStands d ks p → Link d o p → item_fault d m ks o ≡ Sound
+  stands-item : {o p : Offset} → ItemStands d ks o → ItemStands d ks p → Link d o p → item_fault d m ks o ≡ Ok tt
   unfolding item_fault link_fault count_fault
   stands-item {o} {p} s t l =
       let i : is_item d m (item_of d o).forward ≡ true = rw l.forward ((item-exactly d m p b mapped).1 t.item) in
@@ -102,7 +102,7 @@ module _ (d m : List ℕ) (b : BinsTile d 0) (mapped : Mapped d m) (ks : List Of
     -- a ring is walked to its end: its items, and no fault
     walked : (n : ℕ) (o : Offset) (os : List Offset) → length (o ∷ os) ≤ n → Ring d first (o ∷ os) → (Memᴰ first os → ⊥)
         → ItemStands d ks first → ((x : Offset) → Memᴰ x (o ∷ os) → ItemStands d ks x)
-        → (ring_of d first n o ≡ o ∷ os) × (ring_fault d m ks first n o ≡ Sound)
+        → (ring_of d first n o ≡ o ∷ os) × (ring_fault d m ks first n o ≡ Ok tt)
     unfolding ring_of ring_fault ◌next◌
     walked zero o os h r f s each = absurd (omega arith)
     walked (suc n) o [] h (closes l) f s each =

@@ -2,7 +2,7 @@
 use Prim.Native.Nat.{ℕ, ◌+◌, ◌<◌, ◌≤◌}
 use native.Mathlib.Nat.{zero-add}
 use native.Mathlib.Omega.{arith}
-use mathlib.Core.Path.{◌≡◌, ap, ◌∙◌}
+use mathlib.Core.Path.{◌≡◌, sym, ap, ◌∙◌}
 use mathlib.Core.Bool.{true, false}
 use mathlib.Core.Logic.{◌↔◌}
 use mathlib.Core.List.{List, [], ◌∷◌}
@@ -11,24 +11,24 @@ use lib.ListN.{length}
 use borrow.Author.Tests.{le-leb, leb-true, eqb-true, eq-eqb}
 use Rattle.fields.specs.declared.Flaw.{Flaw}
 use Rattle.fields.specs.declared.Offset.{Offset}
-use Rattle.fields.specs.declared.Verdict.TheVariants.{Sound}
 use Rattle.fields.specs.Number.{u32_at}
 use Rattle.fields.specs.Bytes.{stands_at}
 use Rattle.fields.specs.Faults.{is_sound}
 use Rattle.fields.proofs.Bools.{and-inv, and_both}
 use Rattle.fields.proofs.Firsts.{is-sound}
 use Rattle.cells.specs.declared.Cell.{Cell}
-use Rattle.cells.specs.declared.Found.TheVariants.{Named, Flawed}
 use Rattle.cells.specs.declared.Rule.TheVariants.{Map}
 use Rattle.cells.specs.Named.{cell_of, cell_fault, data_of, data_at, part_in}
 use Rattle.cells.specs.Tiled.{BinsTile, Mapped}
-use Rattle.cells.proofs.Naming.{cell-sound, cell-flawed, cell-data-at, sound-names}
+use Rattle.cells.proofs.Naming.{cell-sound, cell-flawed, cell-data-at, data-length, sound-names}
+pub use Rattle.cells.proofs.Naming.{inside}
 use Rattle.cells.proofs.Mapped.{sound-in-use, in-use-sound}
 use Rattle.cells.proofs.Parts.{u32-part}
 use Rattle.records.proofs.Facts.{signed-exactly}
 use Rattle.records.proofs.Listed.{same-offset}
 use Rattle.security.specs.Items.{is_sk, is_item, item_in, item_of, has_room, is_linked, is_joined}
 use Rattle.security.specs.Stands.{IsItem, Roomy}
+use Rattle.std.specs.Prelude.{Err, Ok}
 
 -- the fields stand in the first 20 bytes of the cell's data
 module _ (d : List ℕ) (o : Offset) where
@@ -45,19 +45,22 @@ sk-long r e = leb-true 20 _ (and-inv (leb 20 (length r)) _ e).0
 
 -- an item that passes
 pub record Passes (d m : List ℕ) (o : Offset) : Type 0 where
-  pub cell : cell_fault Map d m o ≡ Sound
+  pub cell : cell_fault Map d m o ≡ Ok tt
   pub fits : 20 ≤ length (data_at d o)
   pub signature : stands_at (data_at d o) 0 (115 ∷ 107 ∷ []) ≡ true
 
 module _ (d m : List ℕ) (o : Offset) where
-  pub item-missing : {f : Flaw} → cell_of Map d m o ≡ Flawed f → is_item d m o ≡ false
+  pub item-missing : {f : Flaw} → cell_of Map d m o ≡ Err f → is_item d m o ≡ false
   unfolding is_item
   item-missing e = rw (cell-flawed Map d m o e)
 
-  module _ {c : Cell} (e : cell_of Map d m o ≡ Named c) where
+  module _ {c : Cell} (e : cell_of Map d m o ≡ Ok c) where
     pub item_by : is_item d m o ≡ is_sk (data_of d c)
     unfolding is_item
     item_by = rw (cell-sound Map d m o e, cell-data-at Map d m o e)
+
+    pub found-length : length (data_at d o) ≡ c.len
+    found-length = sym (ap length (cell-data-at Map d m o e)) ∙ data-length d c (inside d o Map m e)
 
   pub item-facts : is_item d m o ≡ true → Passes d m o
   unfolding is_item
@@ -137,3 +140,12 @@ module _ (d m : List ℕ) (o : Offset) where
 
   pub next-back : is_joined d m o ≡ true → (item_of d (item_of d o).forward).backward ≡ o
   next-back e = (link-facts (joined-facts e).1).1
+
+pub item_room : (d m : List ℕ) (o : Offset) → is_item d m o ≡ true → 20 ≤ length (data_at d o)
+item_room d m o e = (item-facts d m o e).fits
+
+-- a cell that is found, and its data
+pub ruleset found = (item-missing, item_by, inside, found-length)
+
+-- what `is_described` needs
+pub ruleset longs = (sk-long)

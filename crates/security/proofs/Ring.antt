@@ -11,15 +11,14 @@ use lib.ListN.{length}
 use borrow.Author.Tests.{eqb-true, eqb-false}
 use Rattle.fields.specs.declared.Flaw.{Flaw}
 use Rattle.fields.specs.declared.Offset.{Offset}
-use Rattle.fields.specs.declared.Verdict.{Verdict}
-use Rattle.fields.specs.declared.Verdict.TheVariants.{Sound, Flawed}
-use Rattle.fields.specs.Faults.{◌next◌}
+use Rattle.fields.specs.Faults.{◌next◌, Verdict}
 use Rattle.fields.proofs.Firsts.{both, held}
 use Rattle.records.specs.Listed.{Once, nil, cons}
 use Rattle.records.proofs.Listed.{same-offset, pigeonhole}
 use Rattle.security.specs.Items.{is_item, item_of, is_joined, link_fault, item_fault, closes_at, ring_fault, ring_of, ring_steps}
 use Rattle.security.specs.Stands.{Link, Ring, closes, goes_on}
 use Rattle.security.proofs.Items.{item-below, next-item, next-back}
+use Rattle.std.specs.Prelude.{Err, Ok}
 
 -- the forward link that comes back to the first item
 pub closes-is : (d : List ℕ) (first o : Offset) → closes_at d first o ≡ true → (item_of d o).forward ≡ first
@@ -76,21 +75,21 @@ module _ (d m : List ℕ) (first : Offset) where
 
   module _ (ks : List Offset) where
     -- an item that passes its tests
-    pub sound-joined : (o : Offset) → item_fault d m ks o ≡ Sound → is_joined d m o ≡ true
+    pub sound-joined : (o : Offset) → item_fault d m ks o ≡ Ok tt → is_joined d m o ≡ true
     unfolding item_fault link_fault
     sound-joined o e = held (is_joined d m o) _ (both (link_fault d m o) _ e).0
 
     -- one step of the walk
-    stepped : (n : ℕ) (o : Offset) → item_fault d m ks o ≡ Sound → closes_at d first o ≡ false
+    stepped : (n : ℕ) (o : Offset) → item_fault d m ks o ≡ Ok tt → closes_at d first o ≡ false
         → ring_fault d m ks first (suc n) o ≡ ring_fault d m ks first n (item_of d o).forward
     unfolding ring_fault ◌next◌
     stepped n o s e = rw (s, e)
 
-    ended : (n : ℕ) (o : Offset) → item_fault d m ks o ≡ Sound → closes_at d first o ≡ true → ring_fault d m ks first (suc n) o ≡ Sound
+    ended : (n : ℕ) (o : Offset) → item_fault d m ks o ≡ Ok tt → closes_at d first o ≡ true → ring_fault d m ks first (suc n) o ≡ Ok tt
     unfolding ring_fault ◌next◌
     ended n o s e = rw (s, e)
 
-    stopped : (n : ℕ) (o : Offset) {f : Flaw} → item_fault d m ks o ≡ Flawed f → ring_fault d m ks first (suc n) o ≡ Flawed f
+    stopped : (n : ℕ) (o : Offset) {f : Flaw} → item_fault d m ks o ≡ Err f → ring_fault d m ks first (suc n) o ≡ Err f
     unfolding ring_fault ◌next◌
     stopped n o e = rw e
 
@@ -106,16 +105,16 @@ module _ (d m : List ℕ) (first : Offset) where
             → (Trail (item_of d o).forward (o ∷ os)
             → ring_fault d m ks first (n + k) (item_of d o).forward ≡ ring_fault d m ks first n (item_of d o).forward)
             → ring_fault d m ks first (suc (n + k)) o ≡ ring_fault d m ks first (suc n) o
-        by (Flawed f) e b q r = stopped (n + k) o e ∙ sym (stopped n o e)
-        by Sound e true q r = ended (n + k) o e q ∙ sym (ended n o e q)
-        by Sound e false q r = stepped (n + k) o e q ∙ r (step t (sound-joined o e) q) ∙ sym (stepped n o e q)
+        by (Err f) e b q r = stopped (n + k) o e ∙ sym (stopped n o e)
+        by (Ok tt) e true q r = ended (n + k) o e q ∙ sym (ended n o e q)
+        by (Ok tt) e false q r = stepped (n + k) o e q ∙ r (step t (sound-joined o e) q) ∙ sym (stepped n o e q)
 
     -- a walk with no fault: the ring closes, no item is met twice, and each passes its tests
     pub record Closes (os xs : List Offset) : Type 0 where
       pub ring : Ring d first xs
       pub once : Once xs
       pub apart : (x : Offset) → Memᴰ x xs → Memᴰ x os → ⊥
-      pub each : (x : Offset) → Memᴰ x xs → (is_item d m x ≡ true) × (item_fault d m ks x ≡ Sound)
+      pub each : (x : Offset) → Memᴰ x xs → (is_item d m x ≡ true) × (item_fault d m ks x ≡ Ok tt)
 
     link : (o : Offset) → is_joined d m o ≡ true → Link d o (item_of d o).forward
     link o j = record { forward = refl; backward = next-back d m o j }
@@ -131,7 +130,7 @@ module _ (d m : List ℕ) (first : Offset) where
     unfolding ring_of
     ring-next n o e = rw e
 
-    last-closes : {o : Offset} {os : List Offset} → Trail o os → item_fault d m ks o ≡ Sound → closes_at d first o ≡ true → Closes os (o ∷ [])
+    last-closes : {o : Offset} {os : List Offset} → Trail o os → item_fault d m ks o ≡ Ok tt → closes_at d first o ≡ true → Closes os (o ∷ [])
     last-closes {o} {os} t s e =
         let j = sound-joined o s in
         record {
@@ -152,7 +151,7 @@ module _ (d m : List ℕ) (first : Offset) where
     ring-on zero l r = absurd (no-ring r refl)
     ring-on (suc n) l r = goes_on l r
 
-    more-closes : (n : ℕ) {o : Offset} {os : List Offset} → Trail o os → item_fault d m ks o ≡ Sound
+    more-closes : (n : ℕ) {o : Offset} {os : List Offset} → Trail o os → item_fault d m ks o ≡ Ok tt
         → Closes (o ∷ os) (ring_of d first n (item_of d o).forward) → Closes os (o ∷ ring_of d first n (item_of d o).forward)
     more-closes n {o} {os} t s c =
         record {
@@ -164,7 +163,7 @@ module _ (d m : List ℕ) (first : Offset) where
           each = λ x k. ⊎_elim (λ (q : x ≡ o). rw q (trail-item t, s)) (λ i. c.each x i) (Memᴰ.cases_cons k);
         }
 
-    pub ring-closes : (n : ℕ) {o : Offset} {os : List Offset} → Trail o os → length d ≤ n + length os → ring_fault d m ks first n o ≡ Sound
+    pub ring-closes : (n : ℕ) {o : Offset} {os : List Offset} → Trail o os → length d ≤ n + length os → ring_fault d m ks first n o ≡ Ok tt
         → Closes os (ring_of d first n o)
     unfolding ring_fault
     ring-closes zero t h e = let f = trail-few t in absurd (omega arith)
@@ -172,14 +171,14 @@ module _ (d m : List ℕ) (first : Offset) where
         let b = both (item_fault d m ks o) _ e in
         by b.0 (closes_at d first o) refl b.1 (λ t' r. ring-closes n t' (omega arith) r)
       where
-        by : item_fault d m ks o ≡ Sound → (b : Bool) → closes_at d first o ≡ b
-            → cond b Sound (ring_fault d m ks first n (item_of d o).forward) ≡ Sound
-            → (Trail (item_of d o).forward (o ∷ os) → ring_fault d m ks first n (item_of d o).forward ≡ Sound
+        by : item_fault d m ks o ≡ Ok tt → (b : Bool) → closes_at d first o ≡ b
+            → cond b (Ok tt) (ring_fault d m ks first n (item_of d o).forward) ≡ Ok tt
+            → (Trail (item_of d o).forward (o ∷ os) → ring_fault d m ks first n (item_of d o).forward ≡ Ok tt
             → Closes (o ∷ os) (ring_of d first n (item_of d o).forward))
             → Closes os (ring_of d first (suc n) o)
         by s true q r rest = rw (ring-last n o q) (last-closes t s q)
         by s false q r rest = rw (ring-next n o q) (more-closes n t s (rest (step t (sound-joined o s) q) r))
 
     -- from the first item on
-    pub whole-ring : is_item d m first ≡ true → ring_fault d m ks first (ring_steps d) first ≡ Sound → Closes [] (ring_of d first (ring_steps d) first)
+    pub whole-ring : is_item d m first ≡ true → ring_fault d m ks first (ring_steps d) first ≡ Ok tt → Closes [] (ring_of d first (ring_steps d) first)
     whole-ring i e = ring-closes (ring_steps d) (start i) (omega arith) e

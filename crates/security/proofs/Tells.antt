@@ -11,7 +11,6 @@ use borrow.Author.Tests.{eq-eqb}
 use Rattle.fields.specs.declared.Fault.TheVariants.{Security}
 use Rattle.fields.specs.declared.Flaw.{Flaw}
 use Rattle.fields.specs.declared.Offset.{Offset}
-use Rattle.fields.specs.declared.Verdict.TheVariants.{Sound}
 use Rattle.fields.specs.Faults.{flaw, unless}
 use Rattle.fields.specs.Charges.{charge_of}
 use Rattle.fields.proofs.Bools.{never}
@@ -26,6 +25,7 @@ use Rattle.security.specs.Refused.{LinkStands, OnRing, the-first, the-next, OfSe
 use Rattle.security.proofs.Items.{item-exactly, item-below, facts-room, facts-link, link-facts, joined-facts}
 use Rattle.security.proofs.Ring.{sound-joined, whole-ring}
 use Rattle.security.proofs.Exactly.{in-among, begun}
+use Rattle.std.specs.Prelude.{Ok}
 
 -- along a ring
 ring-forward : {d : List ℕ} {first : Offset} {xs : List Offset} → Ring d first xs → (x : Offset) → Memᴰ x xs
@@ -102,7 +102,7 @@ module _ (d m : List ℕ) (b : BinsTile d 0) (mapped : Mapped d m) (root : Offse
       after-charges Why (charge_of root (root_fault d m root ks)) _ (flaw-charges Why root _ root-tells)
       (λ e. off-tells (root_ring d root) (held_by (clear_of root _ e)) ks (λ k i. i))
     where
-      held_by : root_fault d m root ks ≡ Sound → (o : Offset) → OnRing d first o → Memᴰ o (root_ring d root)
+      held_by : root_fault d m root ks ≡ Ok tt → (o : Offset) → OnRing d first o → Memᴰ o (root_ring d root)
       held_by e o r =
           let v = both (unless (is_item d m first) (flaw Security root)) _ e in
           let i = held (is_item d m first) _ v.0 in

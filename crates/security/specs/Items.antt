@@ -1,13 +1,11 @@
 -- Security items: "Read `sk` records as source document 003 lays them out (004 swaps the two links; 003 decides): forward and backward offsets,
 -- reference count, descriptor size, descriptor." d is the bins data, m the work map and ks the keys of the tree in walk order.
-use Rattle.std.specs.Prelude.{ℕ, zero, suc, ◌+◌, Bool, true, false, cond, ◌&&◌, ◌||◌, List, [], ◌∷◌, eqb, leb, length}
+use Rattle.std.specs.Prelude.{ℕ, zero, suc, ◌+◌, Bool, true, false, cond, ◌&&◌, ◌||◌, List, [], ◌∷◌, eqb, leb, length, Ok}
 use Rattle.fields.specs.declared.Fault.TheVariants.{Security}
 use Rattle.fields.specs.declared.Offset.{Offset}
-use Rattle.fields.specs.declared.Verdict.{Verdict}
-use Rattle.fields.specs.declared.Verdict.TheVariants.{Sound}
 use Rattle.fields.specs.Number.{u32_at}
 use Rattle.fields.specs.Bytes.{stands_at}
-use Rattle.fields.specs.Faults.{flaw, unless, is_sound, ◌next◌}
+use Rattle.fields.specs.Faults.{flaw, unless, is_sound, ◌next◌, Verdict}
 use Rattle.fields.specs.Charges.{Charge, Free, charge_of, ◌after◌}
 use Rattle.cells.specs.declared.Rule.TheVariants.{Map}
 use Rattle.cells.specs.Named.{cell_fault, data_at}
@@ -70,10 +68,10 @@ closes_at d first o = eqb (item_of d o).forward.0 first.0
 
 -- "items in ring order": from one on, until a forward link comes back to the first, with so many steps left
 unfoldable pub ring_fault : List ℕ → List ℕ → List Offset → Offset → ℕ → Offset → Verdict
-ring_fault d m ks first zero o = Sound
+ring_fault d m ks first zero o = Ok tt
 ring_fault d m ks first (suc n) o =
     item_fault d m ks o
-    next cond (closes_at d first o) Sound (ring_fault d m ks first n (item_of d o).forward)
+    next cond (closes_at d first o) (Ok tt) (ring_fault d m ks first n (item_of d o).forward)
 
 -- these items
 unfoldable pub ring_of : List ℕ → Offset → ℕ → Offset → List Offset

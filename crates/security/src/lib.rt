@@ -8,7 +8,7 @@ ghost use Rattle.security.specs.Items.{is_sk, is_item, item_in, item_of, has_roo
 ghost use Rattle.security.specs.Descriptor.{is_described, descriptor_fault, described, descriptor_place};
 ghost use Rattle.security.specs.Terms.{gathered, taken, HoldsFrom, Empty};
 
-use cells::{Found, Rule};
+use cells::Rule;
 use fields::{Fault, Flaw, Offset, Place};
 
 // "forward and backward offsets, reference count, descriptor size": the fields of an item.
@@ -24,23 +24,19 @@ pub struct Item {
 fn is_sk(r: &[u8]) -> bool
     ensures { result ≡ is_sk r.now }
 {
-    if r.len() < 20 {
-        return false;
-    }
-    fields::stands_at(r, 0, b"sk")
+    20 <= r.len() && fields::stands_at(r, 0, b"sk")
 }
 
 // Whether an offset names an item: "a cell in use with "sk" and all 20 bytes before the descriptor".
+#[tactic(auto, using(crate::proofs::Items::found))]
 pub fn is_item(bins: &[u8], map: &[u8], o: Offset) -> bool
     ensures { result ≡ is_item bins.now map.now o }
 {
-    match cells::find_cell(bins, map, Rule::Map, o) {
-        Found::Flawed(_) => false,
-        Found::Named(c) => is_sk(cells::cell_data(bins, c)),
-    }
+    matches!(cells::find_cell(bins, map, Rule::Map, o), Ok(c) if is_sk(cells::cell_data(bins, c)))
 }
 
 // The fields of the item r.
+#[tactic(auto, unfolding(crate::specs::Items::item_in))]
 fn item_in(r: &[u8]) -> Item
     requires { 20 ≤ length r.now }
     ensures { result ≡ item_in r.now }
@@ -62,40 +58,32 @@ pub fn item_at(bins: &[u8], o: Offset) -> Item
 }
 
 // "its descriptor's room", with no sum that wraps.
+#[tactic(auto, using(crate::proofs::Items::found), unfolding(crate::specs::Items::has_room, crate::specs::Items::item_of))]
 fn has_room(bins: &[u8], map: &[u8], o: Offset, size: u32) -> bool
     requires o_value { is_item bins.now map.now o ≡ true }
     requires size_value { size ≡ (item_of bins.now o).size }
     ensures { result ≡ has_room bins.now o }
 {
-    match cells::find_cell(bins, map, Rule::Map, o) {
-        Found::Flawed(_) => false,
-        Found::Named(c) => 20 + size as usize <= c.len,
-    }
+    matches!(cells::find_cell(bins, map, Rule::Map, o), Ok(c) if 20 + size as usize <= c.len)
 }
 
 // An item's forward link: "naming an item whose backward link names it back".
+#[tactic(auto, using(crate::proofs::Items::item_room), unfolding(crate::specs::Items::is_linked))]
 fn is_linked(bins: &[u8], map: &[u8], o: Offset, next: Offset) -> bool
     requires { next ≡ (item_of bins.now o).forward }
     ensures { result ≡ is_linked bins.now map.now o }
 {
-    if !is_item(bins, map, next) {
-        return false;
-    }
-    let item = item_at(bins, next);
-    let back = item.backward;
-    back.0 == o.0
+    is_item(bins, map, next) && item_at(bins, next).backward.0 == o.0
 }
 
 // Room and link of an item.
+#[tactic(auto, unfolding(crate::specs::Items::is_joined))]
 fn is_joined(bins: &[u8], map: &[u8], o: Offset, item: Item) -> bool
     requires o_value { is_item bins.now map.now o ≡ true }
     requires item_value { item ≡ item_of bins.now o }
     ensures { result ≡ is_joined bins.now map.now o }
 {
-    if !has_room(bins, map, o, item.size) {
-        return false;
-    }
-    is_linked(bins, map, o, item.forward)
+    has_room(bins, map, o, item.size) && is_linked(bins, map, o, item.forward)
 }
 
 // How far a batch of items came, with how many stand in the table: to the ring's end, to the item whose room or link is at fault, or, the table being
@@ -124,59 +112,45 @@ pub fn gather(
     ensures chained { Chained keys.new older.new heads.new (taken result) }
 {
     let mut at = from;
-    let mut n: usize = 0;
-    while n < keys.len() {
+    for n in 0..keys.len() {
         let item = item_at(bins, at);
         if !is_joined(bins, map, at, item) {
             return Batch::Broken(n, at);
         }
         chains::insert(keys, older, heads, n, at.0);
-        n += 1;
-        let next = item.forward;
-        if next.0 == first.0 {
-            return Batch::Closed(n);
+        if item.forward.0 == first.0 {
+            return Batch::Closed(n + 1);
         }
-        at = next;
+        at = item.forward;
     }
-    Batch::More(n, at)
-}
-
-#[derive(Clone, Copy)]
-pub enum Described {
-    Whole(Item),
-    Flawed(Flaw),
+    Batch::More(keys.len(), at)
 }
 
 // Whether a cell's data hold an item and its descriptor, with no sum that wraps.
+#[tactic(auto, using(crate::proofs::Items::longs), unfolding(crate::specs::Descriptor::is_described, crate::specs::Items::item_in))]
 fn is_described(r: &[u8]) -> bool
     ensures { result ≡ is_described r.now }
 {
-    if !is_sk(r) {
-        return false;
-    }
-    20 + fields::u32_at(r, 16) as usize <= r.len()
+    is_sk(r) && 20 + fields::u32_at(r, 16) as usize <= r.len()
 }
 
 // The item that an offset names, with its descriptor: its cell, then its record. Neither links nor count are asked.
-pub fn described_at(bins: &[u8], map: &[u8], rule: Rule, o: Offset) -> Described
+#[tactic(auto, using(records::proofs::LawsRecord::records, crate::proofs::Descriptor::described_room), unfolding(crate::specs::Descriptor::descriptor_fault, crate::specs::Items::item_of))]
+pub fn described_at(bins: &[u8], map: &[u8], rule: Rule, o: Offset) -> Result<Item, Flaw>
     ensures { result ≡ described (descriptor_fault rule bins.now map.now o) (item_of bins.now o) }
 {
-    match cells::find_cell(bins, map, rule, o) {
-        Found::Flawed(f) => Described::Flawed(f),
-        Found::Named(c) => {
-            let r = cells::cell_data(bins, c);
-            if !is_described(r) {
-                return Described::Flawed(Flaw {
-                    fault: Fault::Record,
-                    place: o,
-                });
-            }
-            Described::Whole(item_in(r))
-        }
+    let r = cells::cell_data(bins, cells::find_cell(bins, map, rule, o)?);
+    if !is_described(r) {
+        return Err(Flaw {
+            fault: Fault::Record,
+            place: o,
+        });
     }
+    Ok(item_in(r))
 }
 
 // Where in the file the descriptor of an item lies.
+#[tactic(auto, unfolding(crate::specs::Descriptor::descriptor_place))]
 pub fn descriptor_place(o: Offset, item: Item) -> Place
     ensures { result ≡ descriptor_place o item }
 {

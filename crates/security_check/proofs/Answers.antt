@@ -2,16 +2,12 @@
 use Rattle.std.proofs.Common.{◌≡◌, ℕ, ◌*◌, ◌/◌, ◌%◌, ◌^◌, ◌<◌, ◌≤◌, true, false, List, [], ◌∷◌, length, drop, replicate, sym, refl, ap, ◌∙◌, arith, length-append, length-drop, drop_at}
 use mathlib.Core.List.{Memᴰ}
 use lib.ListN.{length-replicate}
-use Rattle.fields.specs.declared.Fault.TheVariants.{Security}
 use Rattle.fields.specs.declared.Flaw.{Flaw}
 use Rattle.fields.specs.declared.Offset.{Offset}
 use Rattle.fields.specs.declared.Refusal.{Refusal}
-use Rattle.fields.specs.declared.Verdict.{Verdict}
-use Rattle.fields.specs.declared.Verdict.TheVariants.{Sound, Flawed}
-use Rattle.fields.specs.Faults.{flaw, ◌next◌, refusal_of}
+use Rattle.fields.specs.Faults.{◌next◌, refusal_of, Verdict}
 use Rattle.fields.specs.Charges.{Charge, Free, ◌after◌}
 use Rattle.bitmap.specs.Bits.{zeros}
-use Rattle.cells.specs.declared.Surveyed.{Surveyed}
 use Rattle.cells.specs.Map.{map_after}
 use Rattle.cells.specs.Terms.{Data}
 use Rattle.cells.specs.Tiling.{layout, survey_of}
@@ -19,49 +15,25 @@ use Rattle.cells.proofs.Cleared.{over}
 use Rattle.cells.proofs.Naming.{sound-names}
 use Rattle.cells.specs.declared.Rule.TheVariants.{Map}
 use Rattle.records.specs.Keys.{security_of}
-use Rattle.security_pass.specs.declared.Sought.{Sought}
-use Rattle.security_pass.specs.declared.Sought.TheVariants as sought
 use Rattle.security_pass.specs.Counting.{sought_in}
-use Rattle.security.specs.declared.Batch.{Batch}
-use Rattle.security.specs.declared.Batch.TheVariants.{Closed, Broken, More}
 use Rattle.security.specs.Items.{is_item, ring_fault, ring_of, ring_steps, off_charge, security_charge}
 use Rattle.security.proofs.Items.{item-facts, item-below}
 use Rattle.security.proofs.Ring.{whole-ring}
-use Rattle.security_check.specs.declared.Added.{Added}
-use Rattle.security_check.specs.declared.Added.TheVariants as added
-use Rattle.security_check.specs.declared.Secured.TheVariants as secured
-use Rattle.security_check.specs.declared.Turn.TheVariants as turn
-use Rattle.security_check.specs.Terms.{turn_by, summed, sum_over, Rung, marked, Complete, refused_at, answer_of, seeking, sought_charge}
+use Rattle.security_check.specs.Terms.{summed, sum_over, Rung, marked, Complete, refused_at, answer_of, seeking, sought_charge}
 use Rattle.security_check.proofs.Counts.{sum_is, within-most, within, first-in, rest_in}
 use Rattle.security_check.proofs.Bits.{marked-length, marked-beyond, Placed, sought-off}
-
--- ---- a batch
-
-module _ (a : Added) (b : Batch) where
-  pub turn-flawed : {f : Flaw} → a ≡ added.Flawed f → turn_by a b ≡ turn.Flawed f
-  turn-flawed e = rw e
-
-  pub turn-closed : {n k : ℕ} → a ≡ added.Sum n → b ≡ Closed k → turn_by a b ≡ turn.Ended n
-  turn-closed e q = rw (e, q)
-
-  pub turn-broken : {n k : ℕ} {o : Offset} → a ≡ added.Sum n → b ≡ Broken k o → turn_by a b ≡ turn.Flawed (flaw Security o)
-  turn-broken e q = rw (e, q)
-
-  pub turn_more : {n k : ℕ} {o : Offset} → a ≡ added.Sum n → b ≡ More k o → turn_by a b ≡ turn.Next n o
-  turn_more e q = rw (e, q)
+use Rattle.cells.specs.declared.Tally.{Tally}
+use Rattle.std.specs.Prelude.{Err, None, Ok, Option, Result, Some}
 
 -- ---- the ring
 
-pub rung-of : {d : List ℕ} {first : Offset} (m : List ℕ) (ks : List Offset) → is_item d m first ≡ true → ring_fault d m ks first (ring_steps d) first ≡ Sound → Rung d first
-rung-of m ks i e = record { map = m; keys = ks; item = i; sound = e }
+pub ring-flawed : (v : Verdict) (n : ℕ) {f : Flaw} → Err f ≡ summed v n → v ≡ Err f
+ring-flawed (Ok tt) n e = absurd (let z : ◌≡◌ {A = ℕ} 0 1 = cc in omega arith)
+ring-flawed (Err g) n e = cc
 
-pub ring-flawed : (v : Verdict) (n : ℕ) {f : Flaw} → added.Flawed f ≡ summed v n → v ≡ Flawed f
-ring-flawed Sound n e = absurd (let z : ◌≡◌ {A = ℕ} 0 1 = cc in omega arith)
-ring-flawed (Flawed g) n e = cc
-
-pub ring-summed : (v : Verdict) (n : ℕ) {s : ℕ} → added.Sum s ≡ summed v n → (v ≡ Sound) × (s ≡ n % 2 ^ 64)
-ring-summed Sound n e = (refl, cc)
-ring-summed (Flawed g) n e = absurd (let z : ◌≡◌ {A = ℕ} 0 1 = cc in omega arith)
+pub ring-summed : (v : Verdict) (n : ℕ) {s : ℕ} → Ok s ≡ summed v n → (v ≡ Ok tt) × (s ≡ n % 2 ^ 64)
+ring-summed (Ok tt) n e = (refl, cc)
+ring-summed (Err g) n e = absurd (let z : ◌≡◌ {A = ℕ} 0 1 = cc in omega arith)
 
 -- the items of a sound ring, where they lie
 pub rung-placed : (d : List ℕ) (first : Offset) → Rung d first → Placed d (ring_of d first (ring_steps d) first)
@@ -87,9 +59,6 @@ module _ (d m : List ℕ) (fits : Data d m) where
   unfolding zeros
   zeros-length = simp (length-append, length-replicate, length-drop) (let h = map-room in omega arith)
 
-  pub cleared-data : {z : List ℕ} → z ≡ zeros (length d / 64) m → Data d z
-  cleared-data k = record { whole = fits.whole; room = (let l = ap length k ∙ zeros-length in omega (arith, fits.room)) }
-
   zeros-beyond : drop (length d / 64) (zeros (length d / 64) m) ≡ drop (length d / 64) m
   unfolding zeros
   zeros-beyond = drop_at (replicate (length d / 64) 0) (drop (length d / 64) m) (length d / 64) (length-replicate (length d / 64) 0)
@@ -105,14 +74,11 @@ module _ (d m : List ℕ) (fits : Data d m) where
       w-is : w ≡ marked (ring_of d first (ring_steps d) first) (zeros (length d / 64) m)
       w-is = q ∙ ap (marked (ring_of d first (ring_steps d) first)) k
 
-      pub marked-data : Data d w
-      marked-data = record { whole = fits.whole; room = (let l = ap length w-is ∙ bits-length in omega (arith, fits.room)) }
-
       -- after another survey the map is as it was
-      pub map-restored : Complete d m → {s : Surveyed} {x : List ℕ} → s ≡ survey_of (layout d 0) 0 0 0 → x ≡ map_after d s w → x ≡ m
+      pub map-restored : Complete d m → {s : Result Tally Flaw} {x : List ℕ} → s ≡ survey_of (layout d 0) 0 0 0 → x ≡ map_after d s w → x ≡ m
       map-restored e {s} g h =
           h
-          ∙ ap (λ (t : Surveyed). map_after d t w) g
+          ∙ ap (λ (t : Result Tally Flaw). map_after d t w) g
           ∙ over d (survey_of (layout d 0) 0 0 0) w m
           (ap (drop (length d / 64)) w-is
           ∙ marked-beyond (length d / 64) (ring_of d first (ring_steps d) first) (zeros (length d / 64) m)
@@ -120,7 +86,7 @@ module _ (d m : List ℕ) (fits : Data d m) where
           ∙ zeros-beyond)
           ∙ e
 
-      pub key-sought : (ks : List Offset) {s : Sought} → s ≡ sought_in d w seeking ks → sought_charge s ≡ off_charge d (ring_of d first (ring_steps d) first) ks
+      pub key-sought : (ks : List Offset) {s : Option Offset} → s ≡ sought_in d w seeking ks → sought_charge s ≡ off_charge d (ring_of d first (ring_steps d) first) ks
       key-sought ks e =
           ap sought_charge (e ∙ ap (λ (l : List ℕ). sought_in d l seeking ks) w-is)
           ∙ sought-off d m (ring_of d first (ring_steps d) first) (length d / 64) (rung-placed d first r) map_whole map-room zeros-length ks
@@ -141,15 +107,15 @@ module _ (d m : List ℕ) (root : Offset) (ks : List Offset) where
     same-ring : {v : Verdict} → ring_fault d m ks o (ring_steps d) o ≡ v → ring_fault d m ks (security_of d root) (ring_steps d) (security_of d root) ≡ v
     same-ring e = rw (← q) e
 
-    pub at-fault : {f : Flaw} {r : Refusal} → ring_fault d m ks o (ring_steps d) o ≡ Flawed f → r ≡ refusal_of root f
-        → secured.Refused r ≡ answer_of (security_charge d m root ks)
+    pub at-fault : {f : Flaw} {r : Refusal} → ring_fault d m ks o (ring_steps d) o ≡ Err f → r ≡ refusal_of root f
+        → Err r ≡ answer_of (security_charge d m root ks)
     unfolding security_charge ◌after◌ ◌next◌
     at-fault e z =
         let g : is_item d m (security_of d root) ≡ true = rw (← q) i in
         let h = same-ring e in
-        ap (λ (x : Refusal). secured.Refused x) z ∙ rw (g, h)
+        ap (λ (x : Refusal). Err x) z ∙ rw (g, h)
 
-    module _ (e : ring_fault d m ks o (ring_steps d) o ≡ Sound) where
+    module _ (e : ring_fault d m ks o (ring_steps d) o ≡ Ok tt) where
       pub by-keys : answer_of (off_charge d (ring_of d o (ring_steps d) o) ks) ≡ answer_of (security_charge d m root ks)
       unfolding security_charge ◌after◌ ◌next◌
       by-keys =
@@ -158,7 +124,7 @@ module _ (d m : List ℕ) (root : Offset) (ks : List Offset) where
           rw (g, h, q)
 
       pub all-on : length ks < 4294967296 → {n s : ℕ} → n ≡ length ks → s ≡ sum_over d ks (ring_of d o (ring_steps d) o) % 2 ^ 64 → s ≡ n
-          → secured.Stands ≡ answer_of (security_charge d m root ks)
+          → (Ok tt) ≡ answer_of (security_charge d m root ks)
       all-on few {n} {s} p t z =
           let once = (whole-ring d m o ks i e).once in
           let a = sum_is d ks (ring_of d o (ring_steps d) o) once in
@@ -168,8 +134,8 @@ module _ (d m : List ℕ) (root : Offset) (ks : List Offset) where
 
 -- ---- what the pass that seeks answers
 
-pub seek-none : {s : Sought} (a : Charge) → s ≡ sought.Nothing → sought_charge s ≡ a → secured.Stands ≡ answer_of a
+pub seek-none : {s : Option Offset} (a : Charge) → s ≡ None → sought_charge s ≡ a → (Ok tt) ≡ answer_of a
 seek-none a e q = ap answer_of (sym (ap sought_charge e) ∙ q)
 
-pub seek-at : {s : Sought} {k : Offset} (a : Charge) → s ≡ sought.At k → sought_charge s ≡ a → refused_at k k ≡ answer_of a
+pub seek-at : {s : Option Offset} {k : Offset} (a : Charge) → s ≡ Some k → sought_charge s ≡ a → refused_at k k ≡ answer_of a
 seek-at a e q = ap answer_of (sym (ap sought_charge e) ∙ q)

@@ -11,10 +11,11 @@ use Rattle.security.specs.declared.Batch.{Batch}
 use Rattle.security.specs.Items.{is_item, named_by}
 use Rattle.security.specs.Terms.{along, onward, gathered, taken, HoldsFrom}
 use Rattle.security.proofs.Items.{item-facts}
-use Rattle.security_check.specs.declared.Added.{Added}
 use Rattle.security_check.specs.Terms.{tree_keys, row_of, unequal, added_from, summed, turn_by, turned, Turning, Rows}
 use Rattle.security_check.proofs.Counts.{named-most, counted-exactly, onward-in, row_is, table-distinct, unequal-is, added_is}
 use Rattle.security_check.proofs.Turns.{went, taken-along, items-item}
+use Rattle.fields.specs.declared.Flaw.{Flaw}
+use Rattle.std.specs.Prelude.{Result}
 
 module _ (d m : List ℕ) (root first from : Offset) (room : ℕ) (g : Turning d m root first room from) {b : Batch} {n : ℕ} (bq : b ≡ gathered d m first room 0 from)
     (nq : n ≡ taken b) (table : List ℕ) (held : HoldsFrom d table (taken b) from) where
@@ -49,10 +50,10 @@ module _ (d m : List ℕ) (root first from : Offset) (room : ℕ) (g : Turning d
         ∙ counted-exactly table n (table-distinct d table n from holds once) i l d w by_count of_size zs (tree_keys d root) space (zero-all i)
         (let h = named-most d (tree_keys d root) (row_of table i) in omega (arith, g.walk.few))
 
-    pub batch-turn : {a : Added} → a ≡ summed (unequal d table counts 0 n) (added_from counts 0 n) → turn_by a b ≡ turned d m (tree_keys d root) first room from
+    pub batch-turn : {a : Result ℕ Flaw} → a ≡ summed (unequal d table counts 0 n) (added_from counts 0 n) → turn_by a b ≡ turned d m (tree_keys d root) first room from
     unfolding turned
     batch-turn aq =
-        ap (λ (x : Added). turn_by x b)
+        ap (λ (x : Result ℕ Flaw). turn_by x b)
         (aq
         ∙ ap₂ summed (unequal-is d table n from holds counts (tree_keys d root) counted) (added_is d table n from holds counts (tree_keys d root) counted))
         ∙ rw (nq, bq)

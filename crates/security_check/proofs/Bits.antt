@@ -13,11 +13,11 @@ use Rattle.cells.specs.Map.{is_marked}
 use Rattle.cells.proofs.Marked.{marked-odd, marked-set}
 use Rattle.cells.proofs.Mapped.{zeros-bit}
 use Rattle.records.specs.Keys.{security_of}
-use Rattle.security_pass.specs.declared.Sought.TheVariants as sought
 use Rattle.security_pass.specs.Counting.{is_off, ends, sought_in}
 use Rattle.security_pass.proofs.Laws.{off-past, off-inside, ends-seek}
 use Rattle.security.specs.Items.{is_among, off_charge}
 use Rattle.security_check.specs.Terms.{marked, seeking, sought_charge}
+use Rattle.std.specs.Prelude.{Some}
 
 -- the bit at index k is that of one of some items
 hit : ℕ → List Offset → Bool
@@ -129,7 +129,7 @@ module _ (d m : List ℕ) (os : List Offset) (n : ℕ) (placed : Placed d os) (w
       ends_is = ends-seek d (marked os (zeros n m)) seeking k refl refl ∙ off-is (security_of d k)
 
       by : sought_charge (sought_in d (marked os (zeros n m)) seeking ks) ≡ off_charge d os ks → (b : Bool) → is_among (security_of d k) os ≡ b
-          → sought_charge (cond (ends d (marked os (zeros n m)) seeking k) (sought.At k) (sought_in d (marked os (zeros n m)) seeking ks))
+          → sought_charge (cond (ends d (marked os (zeros n m)) seeking k) (Some k) (sought_in d (marked os (zeros n m)) seeking ks))
           ≡ charge_of k (unless (is_among (security_of d k) os) (flaw Security k)) after off_charge d os ks
       by h true e = rw (ends_is, e, h)
       by h false e = rw (ends_is, e)

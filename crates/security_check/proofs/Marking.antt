@@ -1,7 +1,6 @@
 -- The loop that sets the bits of the ring's items: what is left of the ring, set on the map as it is, comes to the whole.
 use Rattle.std.proofs.Common.{◌≡◌, ℕ, suc, ◌+◌, ◌-◌, ◌*◌, ◌/◌, ◌<◌, ◌≤◌, Bool, true, false, cond, List, [], ◌∷◌, length, sym, refl, ap, ◌∙◌, arith}
 use Rattle.fields.specs.declared.Offset.{Offset}
-use Rattle.fields.specs.declared.Verdict.TheVariants.{Sound}
 use Rattle.bitmap.specs.Bits.{with_bit}
 use Rattle.bitmap.proofs.Marks.{with-length}
 use Rattle.cells.specs.Named.{data_at}
@@ -10,6 +9,7 @@ use Rattle.security.proofs.Items.{item-facts, item-below}
 use Rattle.security.proofs.Ring.{Trail, start, step, trail-item, trail-few}
 use Rattle.security_check.specs.Terms.{Rung, marked}
 use Rattle.security_check.proofs.Rounds.{ring-on}
+use Rattle.std.specs.Prelude.{Ok}
 
 ring-step : (d : List ℕ) (first : Offset) (n f : ℕ) (o : Offset) → n ≡ suc f → ring_of d first n o ≡ o ∷ cond (closes_at d first o) [] (ring_of d first f (item_of d o).forward)
 unfolding ring_of
@@ -30,7 +30,7 @@ module _ (d : List ℕ) (first : Offset) (map₀ : List ℕ) where
     pub passed : List Offset
     pub count : met ≡ length passed
     pub trail : Trail d rung.map first at passed
-    pub sound : ring_fault d rung.map rung.keys first (length d - met) at ≡ Sound
+    pub sound : ring_fault d rung.map rung.keys first (length d - met) at ≡ Ok tt
     pub same : marked (ring_of d first (ring_steps d) first) map₀ ≡ marked (ring_of d first (length d - met) at) map
     pub size : length map ≡ length map₀
     pub space : length d ≤ length map₀ * 64

@@ -3,9 +3,7 @@ use Rattle.std.proofs.Common.{◌≡◌, ℕ, zero, suc, ◌+◌, ◌-◌, ◌%�
 use Rattle.fields.specs.declared.Fault.TheVariants.{Security}
 use Rattle.fields.specs.declared.Flaw.{Flaw}
 use Rattle.fields.specs.declared.Offset.{Offset}
-use Rattle.fields.specs.declared.Verdict.{Verdict}
-use Rattle.fields.specs.declared.Verdict.TheVariants.{Sound, Flawed}
-use Rattle.fields.specs.Faults.{flaw, ◌next◌, fault_over}
+use Rattle.fields.specs.Faults.{flaw, ◌next◌, fault_over, Verdict}
 use Rattle.fields.proofs.Firsts.{both, held}
 use Rattle.records.specs.Listed.{Once}
 use Rattle.security.specs.declared.Batch.{Batch}
@@ -13,10 +11,10 @@ use Rattle.security.specs.declared.Batch.TheVariants.{Closed, Broken, More}
 use Rattle.security.specs.Items.{is_item, item_of, is_joined, link_fault, count_fault, item_fault, closes_at, ring_fault, ring_of, ring_steps}
 use Rattle.security.specs.Terms.{along, gathered, taken}
 use Rattle.security.proofs.Ring.{Trail, start, trail-few}
-use Rattle.security_check.specs.declared.Added.TheVariants as added
 use Rattle.security_check.specs.declared.Turn.TheVariants as turn
 use Rattle.security_check.specs.Terms.{summed, sum_over, turn_by, turned}
 use Rattle.security_check.proofs.Turns.{onto, length-onto, Went, went, items, items-count, taken-along, items-once, went-trail, rest_fault, rest_ring, went-fault, went-ring}
+use Rattle.std.specs.Prelude.{Err, Ok}
 
 sum-onto : (d : List ℕ) (ks xs os : List Offset) → sum_over d ks (onto xs os) ≡ sum_over d ks xs + sum_over d ks os
 unfolding onto sum_over
@@ -61,7 +59,7 @@ module _ (d m : List ℕ) (ks : List Offset) (first : Offset) where
     pub round-few : met < length d
     round-few = let h = trail-few d m first r.trail in omega (arith, r.count)
 
-    pub round-over : length d ≤ met → added.Sum sum ≡ summed (ring_fault d m ks first (ring_steps d) first) (sum_over d ks (ring_of d first (ring_steps d) first))
+    pub round-over : length d ≤ met → Ok sum ≡ summed (ring_fault d m ks first (ring_steps d) first) (sum_over d ks (ring_of d first (ring_steps d) first))
     round-over h = absurd (let z = round-few in omega arith)
 
     module _ (room : ℕ) where
@@ -122,57 +120,57 @@ module _ (d m : List ℕ) (ks : List Offset) (first : Offset) where
       unfolding turned b
       turn_is = rw took-is
 
-      pub round-flawed : {f : Flaw} → turned d m ks first room from ≡ turn.Flawed f
-          → added.Flawed f ≡ summed (ring_fault d m ks first (ring_steps d) first) (sum_over d ks (ring_of d first (ring_steps d) first))
+      pub round-flawed : {f : Flaw} → turned d m ks first room from ≡ Err f
+          → Err f ≡ summed (ring_fault d m ks first (ring_steps d) first) (sum_over d ks (ring_of d first (ring_steps d) first))
       unfolding rest_fault ◌next◌
       round-flawed {f} e = by (fault_over (count_fault d ks) took) refl b refl (sym turn_is ∙ e)
         where
-          by : (v : Verdict) → fault_over (count_fault d ks) took ≡ v → (a : Batch) → b ≡ a → turn_by (summed v (sum_over d ks took)) a ≡ turn.Flawed f
-              → added.Flawed f ≡ summed (ring_fault d m ks first (ring_steps d) first) (sum_over d ks (ring_of d first (ring_steps d) first))
-          by (Flawed g) p a q t = let z : f ≡ g = cc in ap (λ (x : Flaw). added.Flawed x) z ∙ sym (rw (split-fault, p))
-          by Sound p (Closed k) q t = absurd (let z : ◌≡◌ {A = ℕ} 0 1 = cc in omega arith)
-          by Sound p (Broken k o) q t =
+          by : (v : Verdict) → fault_over (count_fault d ks) took ≡ v → (a : Batch) → b ≡ a → turn_by (summed v (sum_over d ks took)) a ≡ Err f
+              → Err f ≡ summed (ring_fault d m ks first (ring_steps d) first) (sum_over d ks (ring_of d first (ring_steps d) first))
+          by (Err g) p a q t = let z : f ≡ g = cc in ap (λ (x : Flaw). Err x) z ∙ sym (rw (split-fault, p))
+          by (Ok tt) p (Closed k) q t = absurd (let z : ◌≡◌ {A = ℕ} 0 1 = cc in omega arith)
+          by (Ok tt) p (Broken k o) q t =
               let z : f ≡ flaw Security o = cc in
-              let g : summed (ring_fault d m ks first (ring_steps d) first) (sum_over d ks (ring_of d first (ring_steps d) first)) ≡ added.Flawed (flaw Security o)
+              let g : summed (ring_fault d m ks first (ring_steps d) first) (sum_over d ks (ring_of d first (ring_steps d) first)) ≡ Err (flaw Security o)
               = rw (split-fault, p, q) in
-              ap (λ (x : Flaw). added.Flawed x) z ∙ sym g
-          by Sound p (More k o) q t = absurd (let z : ◌≡◌ {A = ℕ} 0 1 = cc in omega arith)
+              ap (λ (x : Flaw). Err x) z ∙ sym g
+          by (Ok tt) p (More k o) q t = absurd (let z : ◌≡◌ {A = ℕ} 0 1 = cc in omega arith)
 
       add : (a s t : ℕ) → a ≡ s % 2 ^ 64 → (a + t % 2 ^ 64) % 2 ^ 64 ≡ (s + t) % 2 ^ 64
       add a s t e = rw e (omega arith)
 
-      pub round-ended : {n : ℕ} → turned d m ks first room from ≡ turn.Ended n
-          → added.Sum ((sum + n) % 2 ^ 64) ≡ summed (ring_fault d m ks first (ring_steps d) first) (sum_over d ks (ring_of d first (ring_steps d) first))
+      pub round-ended : {n : ℕ} → turned d m ks first room from ≡ Ok (turn.Ended n)
+          → Ok ((sum + n) % 2 ^ 64) ≡ summed (ring_fault d m ks first (ring_steps d) first) (sum_over d ks (ring_of d first (ring_steps d) first))
       unfolding rest_fault rest_ring ◌next◌ sum_over
       round-ended {n} e = by (fault_over (count_fault d ks) took) refl b refl (sym turn_is ∙ e)
         where
-          by : (v : Verdict) → fault_over (count_fault d ks) took ≡ v → (a : Batch) → b ≡ a → turn_by (summed v (sum_over d ks took)) a ≡ turn.Ended n
-              → added.Sum ((sum + n) % 2 ^ 64) ≡ summed (ring_fault d m ks first (ring_steps d) first) (sum_over d ks (ring_of d first (ring_steps d) first))
-          by (Flawed g) p a q t = absurd (let z : ◌≡◌ {A = ℕ} 0 1 = cc in omega arith)
-          by Sound p (Closed k) q t =
+          by : (v : Verdict) → fault_over (count_fault d ks) took ≡ v → (a : Batch) → b ≡ a → turn_by (summed v (sum_over d ks took)) a ≡ Ok (turn.Ended n)
+              → Ok ((sum + n) % 2 ^ 64) ≡ summed (ring_fault d m ks first (ring_steps d) first) (sum_over d ks (ring_of d first (ring_steps d) first))
+          by (Err g) p a q t = absurd (let z : ◌≡◌ {A = ℕ} 0 1 = cc in omega arith)
+          by (Ok tt) p (Closed k) q t =
               let z : sum_over d ks took % 2 ^ 64 ≡ n = cc in
               let s : sum_over d ks (ring_of d first (ring_steps d) first) ≡ sum_over d ks r.passed + sum_over d ks took = split-sum ∙ rw q (omega arith) in
               let g : summed (ring_fault d m ks first (ring_steps d) first) (sum_over d ks (ring_of d first (ring_steps d) first))
-              ≡ added.Sum ((sum_over d ks r.passed + sum_over d ks took) % 2 ^ 64) = rw (split-fault, p, q, s) in
-              ap (λ (i : ℕ). added.Sum ((sum + i) % 2 ^ 64)) (sym z)
-              ∙ ap (λ (i : ℕ). added.Sum i) (add sum (sum_over d ks r.passed) (sum_over d ks took) r.sum_is)
+              ≡ Ok ((sum_over d ks r.passed + sum_over d ks took) % 2 ^ 64) = rw (split-fault, p, q, s) in
+              ap (λ (i : ℕ). Ok ((sum + i) % 2 ^ 64)) (sym z)
+              ∙ ap (λ (i : ℕ). Ok i) (add sum (sum_over d ks r.passed) (sum_over d ks took) r.sum_is)
               ∙ sym g
-          by Sound p (Broken k o) q t = absurd (let z : ◌≡◌ {A = ℕ} 0 1 = cc in omega arith)
-          by Sound p (More k o) q t = absurd (let z : ◌≡◌ {A = ℕ} 0 1 = cc in omega arith)
+          by (Ok tt) p (Broken k o) q t = absurd (let z : ◌≡◌ {A = ℕ} 0 1 = cc in omega arith)
+          by (Ok tt) p (More k o) q t = absurd (let z : ◌≡◌ {A = ℕ} 0 1 = cc in omega arith)
 
-      pub round-next : {n : ℕ} {o : Offset} → turned d m ks first room from ≡ turn.Next n o → Round o ((sum + n) % 2 ^ 64) (met + room)
+      pub round-next : {n : ℕ} {o : Offset} → turned d m ks first room from ≡ Ok (turn.Next n o) → Round o ((sum + n) % 2 ^ 64) (met + room)
       unfolding rest_fault rest_ring ◌next◌
       round-next {n} {o} e = by (fault_over (count_fault d ks) took) refl b refl (sym turn_is ∙ e)
         where
           swap : (s t : ℕ) → (s + t) % 2 ^ 64 ≡ (t + s) % 2 ^ 64
           swap s t = ap (λ (n : ℕ). n % 2 ^ 64) (let u : s + t ≡ t + s = omega arith in u)
 
-          by : (v : Verdict) → fault_over (count_fault d ks) took ≡ v → (a : Batch) → b ≡ a → turn_by (summed v (sum_over d ks took)) a ≡ turn.Next n o
+          by : (v : Verdict) → fault_over (count_fault d ks) took ≡ v → (a : Batch) → b ≡ a → turn_by (summed v (sum_over d ks took)) a ≡ Ok (turn.Next n o)
               → Round o ((sum + n) % 2 ^ 64) (met + room)
-          by (Flawed g) p a q t = absurd (let z : ◌≡◌ {A = ℕ} 0 1 = cc in omega arith)
-          by Sound p (Closed k) q t = absurd (let z : ◌≡◌ {A = ℕ} 0 1 = cc in omega arith)
-          by Sound p (Broken k x) q t = absurd (let z : ◌≡◌ {A = ℕ} 0 1 = cc in omega arith)
-          by Sound p (More k x) q t =
+          by (Err g) p a q t = absurd (let z : ◌≡◌ {A = ℕ} 0 1 = cc in omega arith)
+          by (Ok tt) p (Closed k) q t = absurd (let z : ◌≡◌ {A = ℕ} 0 1 = cc in omega arith)
+          by (Ok tt) p (Broken k x) q t = absurd (let z : ◌≡◌ {A = ℕ} 0 1 = cc in omega arith)
+          by (Ok tt) p (More k x) q t =
               let z : sum_over d ks took % 2 ^ 64 ≡ n = cc in
               let y : x ≡ o = cc in
               let k-is = more-all d m first room 0 from (sym b-is ∙ q) in
@@ -197,9 +195,9 @@ module _ (d m : List ℕ) (ks : List Offset) (first : Offset) where
   -- at one item of it
   pub record Sounds (f : ℕ) (o : Offset) : Type 0 where
     pub goes : is_joined d m o ≡ true
-    pub rest : closes_at d first o ≡ false → ring_fault d m ks first f (item_of d o).forward ≡ Sound
+    pub rest : closes_at d first o ≡ false → ring_fault d m ks first f (item_of d o).forward ≡ Ok tt
 
-  pub ring-on : (f : ℕ) (o : Offset) → ring_fault d m ks first (suc f) o ≡ Sound → Sounds f o
+  pub ring-on : (f : ℕ) (o : Offset) → ring_fault d m ks first (suc f) o ≡ Ok tt → Sounds f o
   unfolding ring_fault item_fault link_fault
   ring-on f o e =
       let p = both (item_fault d m ks o) _ e in

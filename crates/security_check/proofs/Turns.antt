@@ -4,9 +4,7 @@ use mathlib.Core.List.Memᴰ
 use mathlib.Core.List.{Memᴰ}
 use Rattle.fields.specs.declared.Fault.TheVariants.{Security}
 use Rattle.fields.specs.declared.Offset.{Offset}
-use Rattle.fields.specs.declared.Verdict.{Verdict}
-use Rattle.fields.specs.declared.Verdict.TheVariants.{Sound, Flawed}
-use Rattle.fields.specs.Faults.{flaw, ◌next◌, fault_over}
+use Rattle.fields.specs.Faults.{flaw, ◌next◌, fault_over, Verdict}
 use Rattle.records.specs.Listed.{Once, nil, cons}
 use Rattle.security.specs.declared.Batch.{Batch}
 use Rattle.security.specs.declared.Batch.TheVariants.{Closed, Broken, More}
@@ -14,16 +12,17 @@ use Rattle.security.specs.Items.{is_item, item_of, is_joined, link_fault, count_
 use Rattle.security.specs.Terms.{along, gathered, taken}
 use Rattle.security.proofs.Items.{next-item}
 use Rattle.security.proofs.Ring.{Trail, step, trail-once, trail-few}
+use Rattle.std.specs.Prelude.{Err, Ok}
 
 next-assoc : (a b c : Verdict) → (a next b) next c ≡ a next b next c
 unfolding ◌next◌
-next-assoc Sound b c = refl
-next-assoc (Flawed f) b c = refl
+next-assoc (Ok tt) b c = refl
+next-assoc (Err f) b c = refl
 
-next-sound : (a : Verdict) → a next Sound ≡ a
+next-sound : (a : Verdict) → a next (Ok tt) ≡ a
 unfolding ◌next◌
-next-sound Sound = refl
-next-sound (Flawed f) = refl
+next-sound (Ok tt) = refl
+next-sound (Err f) = refl
 
 -- some items put in front of others, the last of them first
 unfoldable pub onto : List Offset → List Offset → List Offset
@@ -123,8 +122,8 @@ module _ (d m : List ℕ) (first : Offset) where
 
   -- what is left of the ring, with so many steps
   unfoldable pub rest_fault : List Offset → ℕ → Batch → Verdict
-  rest_fault ks f (Closed k) = Sound
-  rest_fault ks f (Broken k o) = Flawed (flaw Security o)
+  rest_fault ks f (Closed k) = Ok tt
+  rest_fault ks f (Broken k o) = Err (flaw Security o)
   rest_fault ks f (More k o) = ring_fault d m ks first f o
 
   unfoldable pub rest_ring : ℕ → Batch → List Offset
@@ -139,7 +138,7 @@ module _ (d m : List ℕ) (first : Offset) where
   went-fault ks (broken j) zero t e = absurd (let h = trail-few d m first t in omega arith)
   went-fault ks (broken j) (suc f) t e = rw j
   went-fault ks (closed j c) zero t e = absurd (let h = trail-few d m first t in omega arith)
-  went-fault ks {o} (closed j c) (suc f) t e = rw (j, c) (sym (next-sound (count_fault d ks o next Sound)))
+  went-fault ks {o} (closed j c) (suc f) t e = rw (j, c) (sym (next-sound (count_fault d ks o next (Ok tt))))
   went-fault ks (on j c w) zero t e = absurd (let h = trail-few d m first t in omega arith)
   went-fault ks {o} {n} {b} {os} (on j c w) (suc f) t e =
       let h = went-fault ks w f (step t j c) (omega arith) in

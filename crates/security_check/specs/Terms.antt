@@ -1,11 +1,9 @@
 -- The examination of the security items as the code makes it: batches of items, each counted by a pass over the keys; then the sum; then, where it is too
 -- small, a pass that seeks. d is the bins data, m the work map and ks the keys of the tree.
-use Rattle.std.specs.Prelude.{◌≡◌, ℕ, zero, suc, ◌+◌, ◌/◌, ◌%◌, ◌^◌, ◌<◌, ◌≤◌, true, List, [], ◌∷◌, length, ◌==◌, slice_index}
+use Rattle.std.specs.Prelude.{◌≡◌, ℕ, zero, suc, ◌+◌, ◌/◌, ◌%◌, ◌^◌, ◌<◌, ◌≤◌, true, List, [], ◌∷◌, length, ◌==◌, slice_index, Err, None, Ok, Option, Result, Some}
 use Rattle.fields.specs.declared.Fault.TheVariants.{Security}
 use Rattle.fields.specs.declared.Offset.{Offset}
-use Rattle.fields.specs.declared.Verdict.{Verdict}
-use Rattle.fields.specs.declared.Verdict.TheVariants.{Sound, Flawed}
-use Rattle.fields.specs.Faults.{flaw, unless, ◌next◌, fault_over, refusal_of}
+use Rattle.fields.specs.Faults.{flaw, unless, ◌next◌, fault_over, refusal_of, Verdict}
 use Rattle.fields.specs.Charges.{Charge, Free, Of}
 use Rattle.bitmap.specs.Bits.{with_bit}
 use Rattle.cells.specs.Map.{map_after}
@@ -15,18 +13,14 @@ use Rattle.cells.specs.Tiling.{layout, survey_of}
 use Rattle.records.specs.Listed.{keys_in, Once}
 use Rattle.security_pass.specs.Counting.{Legible}
 use Rattle.security_pass.specs.declared.Pass.{Pass}
-use Rattle.security_pass.specs.declared.Sought.{Sought}
-use Rattle.security_pass.specs.declared.Sought.TheVariants as sought
 use Rattle.security.specs.declared.Batch.{Batch}
 use Rattle.security.specs.declared.Batch.TheVariants.{Closed, Broken, More}
 use Rattle.security.specs.Items.{is_item, item_of, named_by, count_fault, ring_fault, ring_steps}
 use Rattle.security.specs.Terms.{along, gathered, taken}
-use Rattle.security_check.specs.declared.Added.{Added}
-use Rattle.security_check.specs.declared.Added.TheVariants as added
-use Rattle.security_check.specs.declared.Secured.{Secured}
-use Rattle.security_check.specs.declared.Secured.TheVariants as secured
-use Rattle.security_check.specs.declared.Turn.{Turn}
 use Rattle.security_check.specs.declared.Turn.TheVariants as turn
+use Rattle.fields.specs.declared.Flaw.{Flaw}
+use Rattle.fields.specs.declared.Refusal.{Refusal}
+use Rattle.security_check.specs.declared.Turn.{Turn}
 
 -- "The root is level 0; level 512 is the last"
 abbrev pub tree_keys : List ℕ → Offset → List Offset
@@ -38,7 +32,7 @@ row_of table i = record { 0 = slice_index table i }
 
 -- the counts of n items of a table from one on, compared with what the items say: the first that differs
 unfoldable pub unequal : List ℕ → List ℕ → List ℕ → ℕ → ℕ → Verdict
-unequal d table counts i zero = Sound
+unequal d table counts i zero = Ok tt
 unequal d table counts i (suc n) =
     unless ((item_of d (row_of table i)).count == slice_index counts i) (flaw Security (row_of table i))
     next unequal d table counts (suc i) n
@@ -49,9 +43,9 @@ added_from counts i zero = 0
 added_from counts i (suc n) = slice_index counts i + added_from counts (suc i) n
 
 -- a fault, or a sum as 64 bits hold it
-abbrev pub summed : Verdict → ℕ → Added
-summed Sound n = added.Sum (n % 2 ^ 64)
-summed (Flawed f) n = added.Flawed f
+abbrev pub summed : Verdict → ℕ → Result ℕ Flaw
+summed (Ok tt) n = Ok (n % 2 ^ 64)
+summed (Err f) n = Err f
 
 -- how often the keys name one of some items, one item after the other
 unfoldable pub sum_over : List ℕ → List Offset → List Offset → ℕ
@@ -59,14 +53,14 @@ sum_over d ks [] = 0
 sum_over d ks (o ∷ os) = named_by d ks o + sum_over d ks os
 
 -- a batch's counts in order, then a fault that the gathering met, else the next batch
-abbrev pub turn_by : Added → Batch → Turn
-turn_by (added.Flawed f) b = turn.Flawed f
-turn_by (added.Sum n) (Closed k) = turn.Ended n
-turn_by (added.Sum n) (Broken k o) = turn.Flawed (flaw Security o)
-turn_by (added.Sum n) (More k o) = turn.Next n o
+abbrev pub turn_by : Result ℕ Flaw → Batch → Result Turn Flaw
+turn_by (Err f) b = Err f
+turn_by (Ok n) (Closed k) = Ok (turn.Ended n)
+turn_by (Ok n) (Broken k o) = Err (flaw Security o)
+turn_by (Ok n) (More k o) = Ok (turn.Next n o)
 
 -- one batch from an item on, with a table of so much room
-unfoldable pub turned : List ℕ → List ℕ → List Offset → Offset → ℕ → Offset → Turn
+unfoldable pub turned : List ℕ → List ℕ → List Offset → Offset → ℕ → Offset → Result Turn Flaw
 turned d m ks first room from =
     let b = gathered d m first room 0 from in
     let os = along d (taken b) from in
@@ -94,7 +88,7 @@ pub record Rung (d : List ℕ) (first : Offset) : Type 0 where
   pub map : List ℕ
   pub keys : List Offset
   pub item : is_item d map first ≡ true
-  pub sound : ring_fault d map keys first (ring_steps d) first ≡ Sound
+  pub sound : ring_fault d map keys first (ring_steps d) first ≡ Ok tt
 
 -- the bits of some items set
 unfoldable pub marked : List Offset → List ℕ → List ℕ
@@ -114,19 +108,19 @@ pub record Asked (d m : List ℕ) (root : Offset) (keys : ℕ) : Type 0 where
   pub few : keys < 4294967296
 
 -- "All these faults are the new refusal 28": at a place, with the key under examination
-abbrev pub refused_at : Offset → Offset → Secured
-refused_at key place = secured.Refused (refusal_of key (flaw Security place))
+abbrev pub refused_at : Offset → Offset → Result (Unit {0}) Refusal
+refused_at key place = Err (refusal_of key (flaw Security place))
 
 -- the answer: a refusal, or none
-abbrev pub answer_of : Charge → Secured
-answer_of Free = secured.Stands
-answer_of (Of r) = secured.Refused r
+abbrev pub answer_of : Charge → Result (Unit {0}) Refusal
+answer_of Free = Ok tt
+answer_of (Of r) = Err r
 
 -- the pass that seeks has no table
 abbrev pub seeking : Pass
 seeking = record { seek = true; items = 0 }
 
 -- the first key that a pass sought, as a refusal
-abbrev pub sought_charge : Sought → Charge
-sought_charge sought.Nothing = Free
-sought_charge (sought.At k) = Of (refusal_of k (flaw Security k))
+abbrev pub sought_charge : Option Offset → Charge
+sought_charge None = Free
+sought_charge (Some k) = Of (refusal_of k (flaw Security k))

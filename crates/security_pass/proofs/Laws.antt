@@ -13,10 +13,10 @@ use Rattle.records.specs.Listed.{joined, keys_in}
 use Rattle.records.specs.Terms.{no_child}
 use Rattle.records.proofs.Listed.{joined-append}
 use Rattle.chains.specs.Chains.{find_in}
+use Rattle.chains.proofs.Laws.{find-most}
 use Rattle.security_pass.specs.declared.Pass.{Pass}
-use Rattle.security_pass.specs.declared.Sought.{Sought}
-use Rattle.security_pass.specs.declared.Sought.TheVariants.{Nothing, At}
 use Rattle.security_pass.specs.Counting.{Ready, bump, visited, counted_all, is_off, ends, sought_in}
+use Rattle.std.specs.Prelude.{None, Option, Some}
 
 pub bump-none : (cs : List ℕ) {p : ℕ} → p ≡ 0 → bump cs p ≡ cs
 unfolding bump
@@ -62,32 +62,32 @@ module _ (d m : List ℕ) (w : Pass) where
   unfolding ends
   end-seeks k e = (and-inv w.seek _ e).0
 
-  found-seeks : (ks : List Offset) {f : Offset} → sought_in d m w ks ≡ At f → w.seek ≡ true
+  found-seeks : (ks : List Offset) {f : Offset} → sought_in d m w ks ≡ Some f → w.seek ≡ true
   unfolding sought_in
   found-seeks [] e = absurd (let z : ◌≡◌ {A = ℕ} 0 1 = cc in omega arith)
   found-seeks (k ∷ ks) {f} e = by (λ q. found-seeks ks q) (ends d m w k) refl e
     where
-      by : (sought_in d m w ks ≡ At f → w.seek ≡ true) → (t : Bool) → ends d m w k ≡ t → cond t (At k) (sought_in d m w ks) ≡ At f → w.seek ≡ true
+      by : (sought_in d m w ks ≡ Some f → w.seek ≡ true) → (t : Bool) → ends d m w k ≡ t → cond t (Some k) (sought_in d m w ks) ≡ Some f → w.seek ≡ true
       by h true p q = end-seeks k p
       by h false p q = h q
 
-  sought-on : (ks js : List Offset) → sought_in d m w ks ≡ Nothing → sought_in d m w (ks ++ js) ≡ sought_in d m w js
+  sought-on : (ks js : List Offset) → sought_in d m w ks ≡ None → sought_in d m w (ks ++ js) ≡ sought_in d m w js
   unfolding sought_in
   sought-on [] js e = refl
   sought-on (k ∷ ks) js e = by (λ q. sought-on ks js q) (ends d m w k) e
     where
-      by : (sought_in d m w ks ≡ Nothing → sought_in d m w (ks ++ js) ≡ sought_in d m w js) → (t : Bool)
-          → cond t (At k) (sought_in d m w ks) ≡ Nothing → cond t (At k) (sought_in d m w (ks ++ js)) ≡ sought_in d m w js
+      by : (sought_in d m w ks ≡ None → sought_in d m w (ks ++ js) ≡ sought_in d m w js) → (t : Bool)
+          → cond t (Some k) (sought_in d m w ks) ≡ None → cond t (Some k) (sought_in d m w (ks ++ js)) ≡ sought_in d m w js
       by h true q = absurd (let z : ◌≡◌ {A = ℕ} 0 1 = cc in omega arith)
       by h false q = h q
 
-  sought-stop : (ks js : List Offset) {f : Offset} → sought_in d m w ks ≡ At f → sought_in d m w (ks ++ js) ≡ At f
+  sought-stop : (ks js : List Offset) {f : Offset} → sought_in d m w ks ≡ Some f → sought_in d m w (ks ++ js) ≡ Some f
   unfolding sought_in
   sought-stop [] js e = absurd (let z : ◌≡◌ {A = ℕ} 0 1 = cc in omega arith)
   sought-stop (k ∷ ks) js {f} e = by (λ q. sought-stop ks js q) (ends d m w k) e
     where
-      by : (sought_in d m w ks ≡ At f → sought_in d m w (ks ++ js) ≡ At f) → (t : Bool) → cond t (At k) (sought_in d m w ks) ≡ At f
-          → cond t (At k) (sought_in d m w (ks ++ js)) ≡ At f
+      by : (sought_in d m w ks ≡ Some f → sought_in d m w (ks ++ js) ≡ Some f) → (t : Bool) → cond t (Some k) (sought_in d m w ks) ≡ Some f
+          → cond t (Some k) (sought_in d m w (ks ++ js)) ≡ Some f
       by h true q = q
       by h false q = h q
 
@@ -108,11 +108,6 @@ module _ (d table : List ℕ) (w : Pass) where
       by : (t : Bool) → w.seek ≡ t → length (visited d table w cs k) ≡ length cs
       by true e = ap length (visit-seek cs k e)
       by false e = ap length (visit-count cs k refl e) ∙ length-bump cs (find_in table (security_of d k).0 w.items)
-
-  pub length-counted : (cs : List ℕ) (ks : List Offset) → length (counted_all d table w cs ks) ≡ length cs
-  unfolding counted_all
-  length-counted cs [] = refl
-  length-counted cs (k ∷ ks) = length-counted (visited d table w cs k) ks ∙ length-visited cs k
 
   seek-still : w.seek ≡ true → (cs : List ℕ) (ks : List Offset) → counted_all d table w cs ks ≡ cs
   unfolding counted_all
@@ -135,17 +130,17 @@ module _ (d table : List ℕ) (w : Pass) where
     at-start cs ks = record { sought = refl; counts = refl }
 
     -- and where nothing is left, or the pass ends
-    pub record Over (cs : List ℕ) (ks : List Offset) (s : Sought) (ds : List ℕ) : Type 0 where
+    pub record Over (cs : List ℕ) (ks : List Offset) (s : Option Offset) (ds : List ℕ) : Type 0 where
       pub sought : s ≡ sought_in d m w ks
       pub counts : ds ≡ counted_all d table w cs ks
 
     module _ {cs₀ cs : List ℕ} {ks₀ ks : List Offset} (inv : OnTo cs₀ ks₀ cs ks) where
-      pub none_left : ks ≡ [] → Over cs₀ ks₀ Nothing cs
+      pub none_left : ks ≡ [] → Over cs₀ ks₀ None cs
       unfolding sought_in counted_all
       none_left e = record { sought = sym (inv.sought ∙ ap (sought_in d m w) e); counts = sym (inv.counts ∙ ap (counted_all d table w cs) e) }
 
-      module _ (part js : List Offset) {s : Sought} {ds : List ℕ} (parts : ks ≡ part ++ js) (p : s ≡ sought_in d m w part) (q : ds ≡ counted_all d table w cs part) where
-        pub part-on : s ≡ Nothing → OnTo cs₀ ks₀ ds js
+      module _ (part js : List Offset) {s : Option Offset} {ds : List ℕ} (parts : ks ≡ part ++ js) (p : s ≡ sought_in d m w part) (q : ds ≡ counted_all d table w cs part) where
+        pub part-on : s ≡ None → OnTo cs₀ ks₀ ds js
         part-on e =
             record {
               sought = inv.sought ∙ ap (sought_in d m w) parts ∙ sought-on d m w part js (sym p ∙ e);
@@ -153,7 +148,7 @@ module _ (d table : List ℕ) (w : Pass) where
                   inv.counts ∙ ap (counted_all d table w cs) parts ∙ counted-append cs part js ∙ ap (λ (l : List ℕ). counted_all d table w l js) (sym q);
             }
 
-        pub part-stop : {f : Offset} → s ≡ At f → Over cs₀ ks₀ (At f) ds
+        pub part-stop : {f : Offset} → s ≡ Some f → Over cs₀ ks₀ (Some f) ds
         part-stop {f} e =
             let y = found-seeks d m w part (sym p ∙ e) in
             record {
@@ -172,7 +167,7 @@ module _ (d table : List ℕ) (w : Pass) where
           by (suc n) f = ap (λ (k : ℕ). at ∷ joined (keys_in d k) (children d at)) (let z : n ≡ suc n - 1 = omega arith in z)
 
       one : (t : Bool) → ends d m w at ≡ t → (ks : List Offset)
-          → (sought_in d m w (at ∷ ks) ≡ cond t (At at) (sought_in d m w ks)) × (counted_all d table w cs (at ∷ ks) ≡ counted_all d table w ds ks)
+          → (sought_in d m w (at ∷ ks) ≡ cond t (Some at) (sought_in d m w ks)) × (counted_all d table w cs (at ∷ ks) ≡ counted_all d table w ds ks)
       unfolding sought_in counted_all
       one t e ks = (rw e, rw q)
 
@@ -180,15 +175,15 @@ module _ (d table : List ℕ) (w : Pass) where
       key-on e = rw keys_on (let o = one false e (joined (keys_in d (levels - 1)) (children d at)) in record { sought = o.0; counts = o.1 })
 
       -- the key alone, where it has no children, or with them
-      pub key-alone : ends d m w at ≡ false → children d at ≡ [] → Over cs (keys_in d levels at) Nothing ds
+      pub key-alone : ends d m w at ≡ false → children d at ≡ [] → Over cs (keys_in d levels at) None ds
       unfolding joined
       key-alone e n = none_left (key-on e) (ap (joined (keys_in d (levels - 1))) n)
 
-      pub key_below : ends d m w at ≡ false → {s : Sought} {es : List ℕ} → s ≡ sought_in d m w (joined (keys_in d (levels - 1)) (children d at))
+      pub key_below : ends d m w at ≡ false → {s : Option Offset} {es : List ℕ} → s ≡ sought_in d m w (joined (keys_in d (levels - 1)) (children d at))
           → es ≡ counted_all d table w ds (joined (keys_in d (levels - 1)) (children d at)) → Over cs (keys_in d levels at) s es
       key_below e p r = record { sought = p ∙ sym (key-on e).sought; counts = r ∙ sym (key-on e).counts }
 
-      pub key-stop : ends d m w at ≡ true → Over cs (keys_in d levels at) (At at) ds
+      pub key-stop : ends d m w at ≡ true → Over cs (keys_in d levels at) (Some at) ds
       key-stop e =
           rw keys_on
           (let o = one true e (joined (keys_in d (levels - 1)) (children d at)) in
@@ -215,6 +210,15 @@ unfolding joined children_in
 list_over d n os j p = rw (drop_all os j p)
 
 -- a key without children
-pub no_keys : (d table : List ℕ) (w : Pass) (m : List ℕ) (n : ℕ) (cs : List ℕ) (es : List Child) → es ≡ [] → Over d table w m cs (joined (keys_in d n) es) Nothing cs
+pub no_keys : (d table : List ℕ) (w : Pass) (m : List ℕ) (n : ℕ) (cs : List ℕ) (es : List Child) → es ≡ [] → Over d table w m cs (joined (keys_in d n) es) None cs
 unfolding joined
 no_keys d table w m n cs es e = none_left d table w m (at-start d table w m cs (joined (keys_in d n) es)) (rw e)
+
+-- what is found is counted, and nothing else
+pub ruleset bump_ways = (bump-none, bump_at, find-most)
+
+-- one key: a pass that seeks looks at it, and one that counts counts its item
+pub ruleset visit_ways = (visit-seek, visit-count, ends-seek, ends-count)
+
+-- a key, where the pass ends or goes on below it
+pub ruleset key_ways = (length-visited, ready-still, key_below, key-stop)

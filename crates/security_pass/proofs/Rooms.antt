@@ -3,7 +3,6 @@ use Rattle.std.proofs.Common.{◌≡◌, ℕ, ◌+◌, ◌-◌, ◌<◌, ◌≤�
 use mathlib.Core.List.Memᴰ
 use mathlib.Core.List.{Memᴰ}
 use Rattle.fields.specs.declared.Offset.{Offset}
-use Rattle.fields.specs.declared.Verdict.TheVariants.{Sound}
 use Rattle.cells.specs.declared.Rule.TheVariants.{Map}
 use Rattle.cells.specs.Named.{data_at}
 use Rattle.records.specs.declared.Child.{Child}
@@ -17,12 +16,13 @@ use Rattle.records.proofs.LawsPlaces.{leaf-tested, elements_lie, leaves-lie}
 use Rattle.records.proofs.LawsElements.{elements-length, element-at, elements-are}
 use Rattle.records.proofs.Elements.{at_in, no-children, head-sound, head-room, as-list, each-sound}
 use Rattle.security_pass.specs.Counting.{Legible, key, LegibleLeaf}
+use Rattle.std.specs.Prelude.{Ok}
 
 -- a key of such a tree, with so many levels below it
 pub record Opened (d : List ℕ) (n : ℕ) (at : Offset) : Type 0 where
   pub map : List ℕ
   pub room : 76 ≤ length (data_at d at)
-  pub sound : lists_fault Map d map (key_of d at) ≡ Sound
+  pub sound : lists_fault Map d map (key_of d at) ≡ Ok tt
   pub below : (c : Child) → Memᴰ c (children d at) → Legible d n c.at
 
 pub opened : {d : List ℕ} {levels : ℕ} {at : Offset} (k : ℕ) → levels ≡ k + 1 → Legible d levels at → Opened d k at
@@ -50,7 +50,7 @@ in-children d (p ∷ os) {o} {c} i j =
 
 -- the list of a key
 module _ {d : List ℕ} (n : ℕ) {at : Offset} (g : Legible d (n + 1) at) {k : Key} (q : k ≡ key_of d at) where
-  list-sound : lists_fault Map d (opened n refl g).map k ≡ Sound
+  list-sound : lists_fault Map d (opened n refl g).map k ≡ Ok tt
   list-sound = rw q (opened n refl g).sound
 
   pub list-none : k.subkeys ≡ 0 → children d at ≡ []
@@ -94,3 +94,9 @@ module _ (d : List ℕ) (l : Leaf) (i : ℕ) (p : i < l.count) where
 
   pub offset-legible : {n : ℕ} → ((c : Child) → Memᴰ c (elements_of d l) → Legible d n c.at) → {o : Offset} → o ≡ (child_named d l i).at → Legible d n o
   offset-legible f q = rw (offset_at q) (f _ (at_in (elements_of d l) i no_child (omega (arith, elements-length d l))))
+
+-- a key has room, and levels
+pub ruleset level_ways = (some_level, key-room, level-again)
+
+-- what a pass may read of a list
+pub ruleset list_ways = (list-room, list-lies)

@@ -1,8 +1,7 @@
 -- How often the keys of a tree name each item of a table, and the first of them whose item is none of those marked. d is the bins data and m a map.
-use Rattle.std.specs.Prelude.{◌≡◌, ℕ, zero, suc, ◌+◌, ◌%◌, ◌≤◌, Bool, cond, not, ◌&&◌, List, [], ◌∷◌, length, nat_lt, slice_index, slice_set}
+use Rattle.std.specs.Prelude.{◌≡◌, ℕ, zero, suc, ◌+◌, ◌%◌, ◌≤◌, Bool, cond, not, ◌&&◌, List, [], ◌∷◌, length, nat_lt, slice_index, slice_set, None, Ok, Option, Some}
 use mathlib.Core.List.{Memᴰ}
 use Rattle.fields.specs.declared.Offset.{Offset}
-use Rattle.fields.specs.declared.Verdict.TheVariants.{Sound}
 use Rattle.cells.specs.declared.Rule.TheVariants.{Map}
 use Rattle.cells.specs.Map.{is_marked}
 use Rattle.cells.specs.Named.{data_at}
@@ -11,18 +10,16 @@ use Rattle.records.specs.Keys.{key_of, security_of}
 use Rattle.records.specs.Lists.{leaf_children, children, leaf_fault, lists_fault}
 use Rattle.chains.specs.Chains.{find_in, Chained}
 use Rattle.security_pass.specs.declared.Pass.{Pass}
-use Rattle.security_pass.specs.declared.Sought.{Sought}
-use Rattle.security_pass.specs.declared.Sought.TheVariants.{Nothing, At}
 
 -- what a pass over a tree of at most so many levels may read: each key's record has room, its lists were found sound by some map, and so below
 pub data Legible (d : List ℕ) : ℕ → Offset → Type 0 where
-  key : {n : ℕ} {at : Offset} (m : List ℕ) → 76 ≤ length (data_at d at) → lists_fault Map d m (key_of d at) ≡ Sound
+  key : {n : ℕ} {at : Offset} (m : List ℕ) → 76 ≤ length (data_at d at) → lists_fault Map d m (key_of d at) ≡ Ok tt
       → ((c : Child) → Memᴰ c (children d at) → Legible d n c.at) → Legible d (suc n) at
 
 -- a leaf of such a tree
 pub record LegibleLeaf (d : List ℕ) (n : ℕ) (o : Offset) : Type 0 where
   pub map : List ℕ
-  pub sound : leaf_fault Map d map o ≡ Sound
+  pub sound : leaf_fault Map d map o ≡ Ok tt
   pub below : (c : Child) → Memᴰ c (leaf_children (data_at d o)) → Legible d n c.at
 
 -- a table that is ready, with a count for each of its numbers
@@ -51,6 +48,6 @@ is_off d m o = not (nat_lt o.0 (length d) && is_marked m o.0)
 unfoldable pub ends : List ℕ → List ℕ → Pass → Offset → Bool
 ends d m w k = w.seek && is_off d m (security_of d k)
 
-unfoldable pub sought_in : List ℕ → List ℕ → Pass → List Offset → Sought
-sought_in d m w [] = Nothing
-sought_in d m w (k ∷ ks) = cond (ends d m w k) (At k) (sought_in d m w ks)
+unfoldable pub sought_in : List ℕ → List ℕ → Pass → List Offset → Option Offset
+sought_in d m w [] = None
+sought_in d m w (k ∷ ks) = cond (ends d m w k) (Some k) (sought_in d m w ks)

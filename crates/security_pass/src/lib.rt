@@ -11,42 +11,36 @@ ghost use Rattle.security_pass.specs.Counting.{Legible, LegibleLeaf, Ready, bump
 
 use fields::Offset;
 
-// Which pass it is: one that seeks, or one that counts for a table of so many items.
+// Which pass it is: one that seeks, or one that counts for a table of so many items. Definitions here and above name both fields, so that no enum
+// takes their place.
 #[derive(Clone, Copy)]
 pub struct Pass {
     pub seek: bool,
     pub items: usize,
 }
 
-#[derive(Clone, Copy)]
-pub enum Sought {
-    Nothing,
-    At(Offset),
-}
-
 // One more for x, where it stands in the table.
+#[tactic(auto, unfolding(crate::specs::Counting::bump), using(crate::proofs::Laws::bump_ways))]
 fn count_item(table: &[u32], older: &[u32], heads: &[u32], n: usize, x: u32, counts: &mut [u32])
     requires { Ready table.now older.now heads.now counts.old n }
     ensures { counts.new ≡ bump counts.old (find_in table.now x n) }
 {
     let p = chains::find(table, older, heads, n, x);
     if p != 0 {
-        let i = p - 1;
-        counts[i] = std::num::wrapping_add_u32(counts[i], 1);
+        counts[p - 1] = counts[p - 1].wrapping_add(1);
     }
 }
 
 // Whether an offset lies past the bins data or has no bit in the map.
+#[tactic(auto, unfolding(crate::specs::Counting::is_off))]
 fn is_off(bins: &[u8], map: &[u8], o: Offset) -> bool
     ensures { result ≡ is_off bins.now map.now o }
 {
-    if bins.len() <= o.0 as usize {
-        return true;
-    }
-    !cells::is_marked(map, o)
+    bins.len() <= o.0 as usize || !cells::is_marked(map, o)
 }
 
 // One key: counted, or looked at. Whether the pass ends here.
+#[tactic(auto, using(crate::proofs::Laws::visit_ways))]
 fn visit(
     bins: &[u8],
     map: &[u8],
@@ -71,6 +65,7 @@ fn visit(
 }
 
 // A key, then those below it.
+#[tactic(auto, using(crate::proofs::Laws::key_ways, crate::proofs::Rooms::level_ways))]
 pub fn count_key(
     bins: &[u8],
     map: &[u8],
@@ -81,20 +76,21 @@ pub fn count_key(
     at: Offset,
     levels: u32,
     counts: &mut [u32],
-) -> Sought
+) -> Option<Offset>
     requires legible { Legible bins.now levels at }
     requires ready { Ready table.now older.now heads.now counts.old w.items }
     ensures value { result ≡ sought_in bins.now map.now w (keys_in bins.now levels at) }
     ensures counts_after { counts.new ≡ counted_all bins.now table.now w counts.old (keys_in bins.now levels at) }
 {
     if visit(bins, map, table, older, heads, w, at, counts) {
-        return Sought::At(at);
+        return Some(at);
     }
     count_list(bins, map, table, older, heads, w, at, levels - 1, counts)
 }
 
 // The children of a key, leaf by leaf: the levels left fall with each key that has some.
 #[cycle(count_leaf_count_list)]
+#[tactic(auto, using(crate::proofs::Rooms::list_ways))]
 fn count_list(
     bins: &[u8],
     map: &[u8],
@@ -105,7 +101,7 @@ fn count_list(
     at: Offset,
     levels: u32,
     counts: &mut [u32],
-) -> Sought
+) -> Option<Offset>
     requires legible { Legible bins.now (levels + 1) at }
     requires ready { Ready table.now older.now heads.now counts.old w.items }
     ensures value { result ≡ sought_in bins.now map.now w (joined (keys_in bins.now levels) (children bins.now at)) }
@@ -113,20 +109,16 @@ fn count_list(
 {
     let k = records::key_fields(bins, at);
     if k.subkeys == 0 {
-        return Sought::Nothing;
+        return None;
     }
     let ls = records::leaves_fields(bins, k.list);
-    let mut j: usize = 0;
-    while j < ls.count {
+    for j in 0..ls.count {
         let o = records::leaf_offset(bins, ls, j);
-        let s = count_leaf(bins, map, table, older, heads, w, o, levels, counts);
-        match s {
-            Sought::At(f) => return Sought::At(f),
-            Sought::Nothing => {}
+        if let Some(found) = count_leaf(bins, map, table, older, heads, w, o, levels, counts) {
+            return Some(found);
         }
-        j += 1;
     }
-    Sought::Nothing
+    None
 }
 
 // The keys of a leaf, each wholly before the next. Most keys have no subkeys, and are counted in the loop itself: a call would lend all tables again.
@@ -141,28 +133,34 @@ fn count_leaf(
     o: Offset,
     levels: u32,
     counts: &mut [u32],
-) -> Sought
+) -> Option<Offset>
     requires legible_leaf { LegibleLeaf bins.now levels o }
     requires ready { Ready table.now older.now heads.now counts.old w.items }
     ensures value { result ≡ sought_in bins.now map.now w (joined (keys_in bins.now levels) (leaf_children (data_at bins.now o))) }
     ensures counts_after { counts.new ≡ counted_all bins.now table.now w counts.old (joined (keys_in bins.now levels) (leaf_children (data_at bins.now o))) }
 {
     let leaf = records::leaf_fields(bins, o);
-    let mut i: usize = 0;
-    while i < leaf.count {
+    for i in 0..leaf.count {
         let at = records::child_offset(bins, leaf, i);
         if visit(bins, map, table, older, heads, w, at, counts) {
-            return Sought::At(at);
+            return Some(at);
         }
         let k = records::key_fields(bins, at);
         if k.subkeys != 0 {
-            let s = count_list(bins, map, table, older, heads, w, at, levels - 1, counts);
-            match s {
-                Sought::At(f) => return Sought::At(f),
-                Sought::Nothing => {}
+            if let Some(found) = count_list(
+                bins,
+                map,
+                table,
+                older,
+                heads,
+                w,
+                at,
+                levels - 1,
+                counts,
+            ) {
+                return Some(found);
             }
         }
-        i += 1;
     }
-    Sought::Nothing
+    None
 }

@@ -10,7 +10,6 @@ use lib.ListN.{length, get_or, take, drop, set, length-append}
 use lib.Seq.{sets, take-suc, take_all, length-take-le, drop-length}
 use borrow.Author.Tests.{eqb-true, leb-true, leb-false}
 use Rattle.fields.specs.declared.Offset.{Offset}
-use Rattle.fields.specs.declared.Verdict.TheVariants.{Sound}
 use Rattle.fields.specs.Number.{u16_at, u32_at}
 use Rattle.fields.proofs.Bools.{and-inv}
 use Rattle.cells.specs.declared.Rule.TheVariants.{Header}
@@ -27,13 +26,14 @@ use Rattle.values.specs.Records.{top_bit, is_value_name, value_fault, is_segment
 use Rattle.values.specs.Segments.{data_fault, bytes_of, length_of}
 use Rattle.values.proofs.Cell_tests.{says}
 use Rattle.values.proofs.Tests.{Kept, kept}
-use Rattle.values.proofs.LawsData.{bytes-length}
+use Rattle.values.proofs.LawsData.{bytes-length, part-whole}
 use Rattle.values.proofs.LawsValues.{inline-size, other-size, name-inside, lies}
 use Rattle.fields.specs.Number.{le16, le32}
 use Rattle.stream.specs.Stream.{wide, open_frame, framed_value}
 use Rattle.stream.specs.Terms.{wide_len, NameStands, ValueLies, open_len, value_len}
 use Rattle.fields.proofs.Little.{length-le16, length-le32}
-use Rattle.stream.proofs.Puts.{put_then, put_all, frame-length, put-frame}
+use Rattle.stream.proofs.Puts.{put_then, part_lent, put_all, frame-length, put-frame, put-closing}
+use Rattle.std.specs.Prelude.{Ok}
 
 -- ---- UTF-16LE
 
@@ -135,7 +135,7 @@ module _ (d : List ℕ) (n : Name) (p : NameIn d n) where
 
 -- ---- a key
 
-module _ (d : List ℕ) (k : Offset) (s : key_fault Header d [] k ≡ Sound) where
+module _ (d : List ℕ) (k : Offset) (s : key_fault Header d [] k ≡ Ok tt) where
   pub key-name : NameStands d (key_of d k).name
   unfolding key_of key_in
   key-name =
@@ -244,7 +244,7 @@ module _ (d : List ℕ) (x : Value) (v : ValueLies d x) where
       ∙ put-frame 17 parts l at m (e ∙ sym parts-length)
 
 -- what a value's tests say of it
-module _ (d : List ℕ) (minor : ℕ) (v : Offset) (s : value_fault Header d [] v ≡ Sound) where
+module _ (d : List ℕ) (minor : ℕ) (v : Offset) (s : value_fault Header d [] v ≡ Ok tt) where
   tested : Kept (data_at d v)
   unfolding value_fault
   tested = kept (data_at d v) (says is_value Header d [] v s)
@@ -267,6 +267,15 @@ module _ (d : List ℕ) (minor : ℕ) (v : Offset) (s : value_fault Header d [] 
       let n = and-inv (is_whole (u16_at (data_at d v) 2) (value_narrow (data_at d v))) _ tested.name in
       record { inside = name-inside Header d [] minor v s; whole = n.0; few = leb-true _ 16383 n.1 }
 
-  pub value-lies : data_fault Header d [] (data_in d minor v) ≡ Sound → ValueLies d (value_of d minor v)
+  pub value-lies : data_fault Header d [] (data_in d minor v) ≡ Ok tt → ValueLies d (value_of d minor v)
   unfolding value_of fields_of data_in
   value-lies e = record { name = value-name; data-lies = lies Header d [] minor v s Header [] e; small = data-small }
+
+-- for the tactics
+pub ruleset wide_ways = (widen-start, widen-turn, widen-end, narrow-count, wide-count, wide-even, stored-wide)
+
+pub ruleset put_ways = (part_lent, put-closing, name-length, name-wide, part_length, all-copied, bytes-length)
+
+pub ruleset open_ways = (named-few, named-stands, open-room, open-puts, key-room)
+
+pub ruleset value_ways = (value-length, value-put, part-whole)

@@ -1,11 +1,12 @@
 -- Bytes put into a list at a position, one part after the other, and a frame put by its parts.
-use Prim.Native.Nat.{ℕ, ◌+◌, ◌≤◌}
+use Prim.Native.Nat.{ℕ, ◌+◌, ◌-◌, ◌≤◌}
 use native.Mathlib.Omega.{arith}
 use native.Mathlib.Nat.{zero-add}
 use mathlib.Core.Path.{◌≡◌, refl, sym, ap, ◌∙◌}
 use mathlib.Core.List.{List, [], ◌++◌, append_assoc, append-nil}
 use lib.ListN.{length, take, drop, length-append}
 use lib.Seq.{sets, sets-eq, drop-length}
+use borrow.Rule.Slice.PartMut.{put_mid, Post-is}
 use Rattle.fields.specs.Number.{le16, le32}
 use Rattle.stream.specs.Stream.{frame, close_frame}
 use Rattle.fields.proofs.Little.{length-le16, length-le32, sets-append}
@@ -18,6 +19,9 @@ pub part-put : (l xs : List ℕ) (i e : ℕ) → e ≡ i + length xs → e ≤ l
 part-put l xs i e p q =
     sym (sets-eq xs l i (omega arith) ∙ append_assoc (take i l) xs (drop (i + length xs) l)
     ∙ ap (λ (n : ℕ). take i l ++ (xs ++ drop n l)) (sym p))
+
+pub part_lent : (l xs : List ℕ) (i e : ℕ) → e ≡ i + length xs → e ≤ length l → put_mid i (e - i) l xs ≡ sets l i xs
+part_lent l xs i e p q = ap (λ (zs : List ℕ). take i l ++ (xs ++ zs)) (Post-is i e l (omega arith)) ∙ part-put l xs i e p q
 
 -- all of a list
 pub put_all : (l xs : List ℕ) → length xs ≡ length l → sets l 0 xs ≡ xs

@@ -10,12 +10,14 @@ use lib.Dec.{eqb}
 use lib.ListN.{length, take, drop, length-append, drop_of_length-le}
 use lib.Seq.{length-take-le, take_all, take_at}
 use borrow.Author.Tests.{eqb-true}
-use Rattle.recovery.specs.declared.Started.{Started}
-use Rattle.recovery.specs.declared.Started.TheVariants.{Clean, Pages, Refused}
+use Rattle.recovery.specs.declared.Started.TheVariants.{Clean, Pages}
 use Rattle.recovery.specs.Calls.{start_answer}
 use Rattle.recovery.proofs.Ended.{end-length}
 use Rattle.recovery.specs.Finished.{finished}
 use Rattle.test_frames.specs.Frames.{repaired_as, repaired_hive}
+use Rattle.fields.specs.declared.Refusal.{Refusal}
+use Rattle.recovery.specs.declared.Started.{Started}
+use Rattle.std.specs.Prelude.{Err, Ok, Result}
 
 -- the part that is lent is what is held
 pub lent : (n e : ℕ) (b : List ℕ) → e ≡ min n (length b) → take (e - 0) b ≡ take n b
@@ -45,18 +47,18 @@ back n e b x q s = go (dec_le n (length b))
         ap (λ (y : List ℕ). take n (x ++ y)) z ∙ ap (take n) (append-nil x) ∙ take_all n x (omega arith)
 
 -- a whole repair, by the start's answer
-pub repaired-by : (h l : List ℕ) (a : Started) → start_answer h l ≡ a → repaired_hive h l ≡ repaired_as a (finished h l) h
+pub repaired-by : (h l : List ℕ) (a : Result Started Refusal) → start_answer h l ≡ a → repaired_hive h l ≡ repaired_as a (finished h l) h
 unfolding repaired_hive
-repaired-by h l a e = ap (λ (x : Started). repaired_as x (finished h l) h) e
+repaired-by h l a e = ap (λ (x : Result Started Refusal). repaired_as x (finished h l) h) e
 
 -- a repair keeps the length, so a repaired part is held whole
 repaired-length : (h l : List ℕ) → length (repaired_hive h l) ≡ length h
 repaired-length h l = go (start_answer h l) refl
   where
-    go : (a : Started) → start_answer h l ≡ a → length (repaired_hive h l) ≡ length h
-    go Clean e = ap length (repaired-by h l Clean e)
-    go (Pages n) e = ap length (repaired-by h l (Pages n) e) ∙ end-length h l n e
-    go (Refused r) e = ap length (repaired-by h l (Refused r) e)
+    go : (a : Result Started Refusal) → start_answer h l ≡ a → length (repaired_hive h l) ≡ length h
+    go (Ok Clean) e = ap length (repaired-by h l (Ok Clean) e)
+    go (Ok (Pages n)) e = ap length (repaired-by h l (Ok (Pages n)) e) ∙ end-length h l n e
+    go (Err r) e = ap length (repaired-by h l (Err r) e)
 
 pub repaired-back : (n e : ℕ) (h l x : List ℕ) → e ≡ min n (length h) → x ≡ repaired_hive (take (e - 0) h) l
     → take n (x ++ drop (e - 0) h) ≡ repaired_hive (take n h) l

@@ -1,62 +1,58 @@
 -- What a frame is, and the line that answers it.
-use Rattle.std.specs.Prelude.{ℕ, ◌/◌, ◌%◌, false, cond, List, ◌++◌, eqb, ltb, length, take, drop}
+use Rattle.std.specs.Prelude.{ℕ, ◌/◌, ◌%◌, false, cond, List, ◌++◌, eqb, ltb, length, take, drop, Err, None, Ok, Option, Result, Some}
 use Rattle.fields.specs.Number.{u16_at, u32_at}
 use Rattle.cells.specs.Survey.{map_left}
 use Rattle.names.specs.Codes.{codes}
-use Rattle.tree.specs.declared.Checked.{Checked}
-use Rattle.tree.specs.declared.Checked.TheVariants as checked
 use Rattle.tree.specs.Tree.{check_answer}
-use Rattle.paths.specs.declared.KeyFound.{KeyFound}
-use Rattle.paths.specs.declared.KeyFound.TheVariants as found
 use Rattle.paths.specs.Answers.{find_answer}
-use Rattle.recovery.specs.declared.Started.{Started}
 use Rattle.recovery.specs.declared.Started.TheVariants as started
 use Rattle.recovery.specs.Calls.{start_answer}
 use Rattle.recovery.specs.Finished.{finished}
 use Rattle.test_frames.specs.declared.Frame.{Frame}
-use Rattle.test_frames.specs.declared.Frame.TheVariants.{Good, Bad}
-use Rattle.test_frames.specs.declared.Held.{Held}
-use Rattle.test_frames.specs.declared.Held.TheVariants as held
 use Rattle.test_frames.specs.declared.Kind.{Kind}
 use Rattle.test_frames.specs.declared.Kind.TheVariants.{Hive, Log, Path}
 use Rattle.test_frames.specs.declared.Line.{Line}
 use Rattle.test_frames.specs.declared.Line.TheVariants as line
+use Rattle.fields.specs.declared.Offset.{Offset}
+use Rattle.fields.specs.declared.Refusal.{Refusal}
+use Rattle.recovery.specs.declared.Started.{Started}
+use Rattle.tree.specs.declared.Report.{Report}
 
 -- "kind (1 hive, 2 log, 3 path)"; "of unknown kind, or a path frame of odd length, gives `bad frame`"
-unfoldable pub framed : ℕ → ℕ → Frame
+unfoldable pub framed : ℕ → ℕ → Option Frame
 framed kind n =
-    cond (eqb kind 1) (Good Hive n)
-    (cond (eqb kind 2) (Good Log n)
-    (cond (eqb kind 3) (cond (eqb (n % 2) 0) (Good Path n) Bad) Bad))
+    cond (eqb kind 1) (Some (record { kind = Hive; len = n }))
+    (cond (eqb kind 2) (Some (record { kind = Log; len = n }))
+    (cond (eqb kind 3) (cond (eqb (n % 2) 0) (Some (record { kind = Path; len = n })) None) None))
 
 -- "4-byte payload length, 2-byte kind [..], payload up to 20,480 bytes"; "A frame too long [..] gives `bad frame`"
-unfoldable pub frame_of : List ℕ → Frame
-frame_of head = cond (ltb 20480 (u32_at head 0)) Bad (framed (u16_at head 4) (u32_at head 0))
+unfoldable pub frame_of : List ℕ → Option Frame
+frame_of head = cond (ltb 20480 (u32_at head 0)) None (framed (u16_at head 4) (u32_at head 0))
 
 -- a hive frame is answered by the check
-abbrev pub checked_line : Checked → Line
-checked_line (checked.Accepted r) = line.Accepted r
-checked_line (checked.Refused r) = line.Refused r
+abbrev pub checked_line : Result Report Refusal → Line
+checked_line (Ok r) = line.Accepted r
+checked_line (Err r) = line.Refused r
 
 -- "Log: repairs the last hive frame's bytes, pages rising, and gives `repaired N` (set bits) or `clean`."
-abbrev pub repaired_line : Started → Line
-repaired_line started.Clean = line.Clean
-repaired_line (started.Pages n) = line.Repaired n
-repaired_line (started.Refused r) = line.Refused r
+abbrev pub repaired_line : Result Started Refusal → Line
+repaired_line (Ok started.Clean) = line.Clean
+repaired_line (Ok (started.Pages n)) = line.Repaired n
+repaired_line (Err r) = line.Refused r
 
-abbrev pub repaired_as : Started → List ℕ → List ℕ → List ℕ
-repaired_as started.Clean new old = old
-repaired_as (started.Pages n) new old = new
-repaired_as (started.Refused r) new old = old
+abbrev pub repaired_as : Result Started Refusal → List ℕ → List ℕ → List ℕ
+repaired_as (Ok started.Clean) new old = old
+repaired_as (Ok (started.Pages n)) new old = new
+repaired_as (Err r) new old = old
 
 -- the hive after a log frame
 unfoldable pub repaired_hive : List ℕ → List ℕ → List ℕ
 repaired_hive h l = repaired_as (start_answer h l) (finished h l) h
 
 -- "Path, in that hive as it then stands: `key at N`. A refusal: `refused N at P`."
-abbrev pub found_line : KeyFound → Line
-found_line (found.At o) = line.KeyAt o
-found_line (found.Refused r) = line.Refused r
+abbrev pub found_line : Result Offset Refusal → Line
+found_line (Ok o) = line.KeyAt o
+found_line (Err r) = line.Refused r
 
 -- ---- the turn: what is held and a frame give the frame's line and what is held after it
 
@@ -66,9 +62,9 @@ pub data Hold : Type 0 where
   some_hive : List ℕ → Hold
 
 -- as the program holds it: so many bytes from the start of the hive's room
-abbrev pub held_in : Held → List ℕ → Hold
-held_in held.Nothing room = no_hive
-held_in (held.Hive n) room = some_hive (take n room)
+abbrev pub held_in : Option ℕ → List ℕ → Hold
+held_in None room = no_hive
+held_in (Some n) room = some_hive (take n room)
 
 -- "Before any hive, kinds 2 and 3 give `no hive`."
 abbrev pub log_line : Hold → List ℕ → Line

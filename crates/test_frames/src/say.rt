@@ -2,39 +2,18 @@
 use crate::Line;
 use std::io;
 use std::io::Write;
-use test_lines::{end, number};
-use tree::Report;
-
-pub fn hive<W: Write>(to: &mut W) -> io::Result<()> {
-    to.write_all(b"hive\n")
-}
-
-pub fn bad_frame<W: Write>(to: &mut W) -> io::Result<()> {
-    to.write_all(b"bad frame\n")
-}
-
-fn accepted<W: Write>(to: &mut W, r: Report) -> io::Result<()> {
-    number(to, b"accepted bins ", r.bins as u64)?;
-    number(to, b" keys ", r.keys)?;
-    number(to, b" values ", r.values)?;
-    number(to, b" used ", r.used as u64)?;
-    number(to, b" free ", r.free as u64)?;
-    end(to)
-}
 
 pub fn line<W: Write>(to: &mut W, l: Line) -> io::Result<()> {
     match l {
-        Line::NoHive => to.write_all(b"no hive\n"),
-        Line::Clean => to.write_all(b"clean\n"),
-        Line::Accepted(r) => accepted(to, r),
-        Line::Repaired(n) => {
-            number(to, b"repaired ", n as u64)?;
-            end(to)
-        }
-        Line::KeyAt(o) => {
-            number(to, b"key at ", o.0 as u64)?;
-            end(to)
-        }
+        Line::NoHive => writeln!(to, "no hive"),
+        Line::Clean => writeln!(to, "clean"),
+        Line::Accepted(r) => writeln!(
+            to,
+            "accepted bins {} keys {} values {} used {} free {}",
+            r.bins, r.keys, r.values, r.used, r.free
+        ),
+        Line::Repaired(n) => writeln!(to, "repaired {n}"),
+        Line::KeyAt(o) => writeln!(to, "key at {}", o.0),
         Line::Refused(r) => test_lines::refused(to, r),
     }
 }

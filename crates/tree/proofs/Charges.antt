@@ -1,7 +1,6 @@
 -- The parts of a key's charge, and what an answer says of a charge.
 use Rattle.std.proofs.Common.{◌≡◌, ℕ, zero, suc, List, refl, arith}
 use Rattle.fields.specs.declared.Refusal.{Refusal}
-use Rattle.fields.specs.declared.Verdict.TheVariants.{Sound}
 use Rattle.fields.specs.Charges.{Charge, Free, Of, charge_of}
 use Rattle.fields.proofs.Firsts.{both}
 use Rattle.fields.proofs.Charges.{both-free, free, clear_of}
@@ -12,35 +11,35 @@ use Rattle.records.specs.Keys.{key_fault, key_of}
 use Rattle.records.specs.Lists.{children, lists_fault}
 use Rattle.values.specs.Lists.{values_fault}
 use Rattle.namesakes.specs.Namesakes.{namesake_fault}
-use Rattle.tree.specs.declared.Checked.TheVariants.{Accepted, Refused}
 use Rattle.tree.specs.declared.Hive.{Hive}
 use Rattle.tree.specs.declared.Report.{Report}
 use Rattle.tree.specs.declared.Arrival.{Arrival}
 use Rattle.tree.specs.declared.Arrival.TheVariants.{First}
 use Rattle.tree.specs.Tree.{holder, place_fault, hash_fault, hint_fault, beside_fault, level_fault, total_fault, rest_fault, own_fault, key_charge, list_charge, tree_charge, answer}
+use Rattle.std.specs.Prelude.{Err, Ok}
 
 -- an answer is a refusal exactly when there is a charge
-pub accepted-free : (c : Charge) (r : Report) {s : Report} → answer c r ≡ Accepted s → (c ≡ Free) × (r ≡ s)
+pub accepted-free : (c : Charge) (r : Report) {s : Report} → answer c r ≡ Ok s → (c ≡ Free) × (r ≡ s)
 accepted-free Free r e = (refl, cc)
 accepted-free (Of f) r e = absurd (let z : ◌≡◌ {A = ℕ} 0 1 = cc in omega arith)
 
-pub refused-charge : (a : Charge) (r : Report) {f : Refusal} → answer a r ≡ Refused f → a ≡ Of f
+pub refused-charge : (a : Charge) (r : Report) {f : Refusal} → answer a r ≡ Err f → a ≡ Of f
 refused-charge Free r e = absurd (let z : ◌≡◌ {A = ℕ} 0 1 = cc in omega arith)
 refused-charge (Of g) r e = cc
 
 -- what a key's own tests say, part by part
 pub record Own (d m : List ℕ) (hive : Hive) (n : ℕ) (k : Key) (c : Child) (l : Arrival) : Type 0 where
-  pub place : place_fault d hive.root k c.at l ≡ Sound
-  pub hash : hash_fault d k c ≡ Sound
-  pub hint : hint_fault d k c ≡ Sound
-  pub level : level_fault n c.at ≡ Sound
-  pub values : values_fault Map d m hive.minor k ≡ Sound
-  pub names : namesake_fault d k ≡ Sound
-  pub lists : lists_fault Map d m k ≡ Sound
-  pub total : total_fault d k c.at ≡ Sound
+  pub place : place_fault d hive.root k c.at l ≡ Ok tt
+  pub hash : hash_fault d k c ≡ Ok tt
+  pub hint : hint_fault d k c ≡ Ok tt
+  pub level : level_fault n c.at ≡ Ok tt
+  pub values : values_fault Map d m hive.minor k ≡ Ok tt
+  pub names : namesake_fault d k ≡ Ok tt
+  pub lists : lists_fault Map d m k ≡ Ok tt
+  pub total : total_fault d k c.at ≡ Ok tt
 
 module _ (d m : List ℕ) (hive : Hive) where
-  pub own-parts : (n : ℕ) (k : Key) (c : Child) (l : Arrival) → own_fault d m hive n k c l ≡ Sound → Own d m hive n k c l
+  pub own-parts : (n : ℕ) (k : Key) (c : Child) (l : Arrival) → own_fault d m hive n k c l ≡ Ok tt → Own d m hive n k c l
   unfolding own_fault beside_fault rest_fault
   own-parts n k c l e =
       let p = both (place_fault d hive.root k c.at l) _ e in
@@ -53,12 +52,12 @@ module _ (d m : List ℕ) (hive : Hive) where
       record { place = p.0; hash = h.0; hint = h.1; level = v.0; values = x.0; names = s.0; lists = y.0; total = y.1 }
 
   -- with no level left some charge stands
-  pub level-zero : (c : Child) → level_fault 0 c.at ≡ Sound → ⊥
+  pub level-zero : (c : Child) → level_fault 0 c.at ≡ Ok tt → ⊥
   unfolding level_fault
   level-zero c e = let z : ◌≡◌ {A = ℕ} 0 1 = cc in omega arith
 
   pub key-parts : (n : ℕ) (c : Child) (l : Arrival) → key_charge d m hive n c l ≡ Free
-      → (key_fault Map d m c.at ≡ Sound) × Own d m hive n (key_of d c.at) c l
+      → (key_fault Map d m c.at ≡ Ok tt) × Own d m hive n (key_of d c.at) c l
   unfolding key_charge
   key-parts n c l e =
       let x = both-free (charge_of (holder l) (key_fault Map d m c.at)) _ e in

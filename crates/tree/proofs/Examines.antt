@@ -23,10 +23,10 @@ use Rattle.values.specs.Lists.{values_of}
 use Rattle.values.specs.Refused.{Role, a_key, Fit, Unfit, no_cell, no_record}
 use Rattle.namesakes.specs.Namesakes.{Repeats}
 use Rattle.security.specs.Refused.{OfSecurity, no_item, no_room, no-link, other-count, off-ring}
-use Rattle.tree.specs.declared.Checked.TheVariants.{Refused}
 use Rattle.tree.specs.Tree.{hive_of, keys_of, check_answer}
 use Rattle.tree.specs.Told.{Reached, the-root, a-child, OfTree, of-root, of-lists, of_values, of-data, of-namesake, no-order, other-hash, other-hint, other-parent, root-listed, other-total, too-deep, Told, of-survey, of_tree, of-security, Examined}
 use Rattle.tree.proofs.Tells.{unfit-number, among-number, check-tells}
+use Rattle.std.specs.Prelude.{Err}
 
 fit-not : {d : List ℕ} {w : Role} {o : Offset} {f : Flaw} → Unfit Map d w o f → Fit Map d w o → ⊥
 fit-not (no_cell p) g = p g.used
@@ -171,5 +171,5 @@ module _ (h : List ℕ) where
   by-told room (of_tree b t) = by-tree t
   by-told room (of-security b s t) = by-ring t
 
-  pub check-examines : (m : List ℕ) {r : Refusal} → check_answer h m ≡ Refused r → Examined h r
+  pub check-examines : (m : List ℕ) {r : Refusal} → check_answer h m ≡ Err r → Examined h r
   check-examines m e = let w = check-tells h m e in subst (λ (x : Refusal). Examined h x) (sym w.2) (by-told (length m) w.3)

@@ -5,7 +5,6 @@ use Rattle.std.proofs.Common.{◌≡◌, ℕ, suc, ◌+◌, List, [], ◌∷◌,
 use mathlib.Core.List.Memᴰ
 use mathlib.Core.List.{Memᴰ}
 use Rattle.fields.specs.declared.Offset.{Offset}
-use Rattle.names.specs.declared.Order.TheVariants.{Before}
 use Rattle.names.specs.Comparison.{compare}
 use Rattle.names.proofs.LawsOrder.{irreflexive}
 use Rattle.records.specs.declared.Child.{Child}
@@ -17,12 +16,13 @@ use Rattle.records.proofs.Depth.{climb, climb-suc, Depth, depth-unique, depth-ro
 use Rattle.tree.specs.declared.Hive.{Hive}
 use Rattle.tree.specs.Tree.{name_at}
 use Rattle.tree.specs.WellFormed.{ChildStands, Ascends, more, TreeStands, key}
+use Rattle.std.specs.declared.cmp.Ordering.TheVariants.{Less}
 
 ascends-apart : (d : List ℕ) (cs : List Child) → Ascends d cs → Apart cs
 ascends-apart d [] a = apart-nil
 ascends-apart d (c ∷ cs) (more f a) =
     apart_cons
-    (λ e i q. irreflexive (name_at d c.at) (subst (λ (o : Offset). compare (name_at d c.at) (name_at d o) ≡ Before) (sym q) (f e i)))
+    (λ e i q. irreflexive (name_at d c.at) (subst (λ (o : Offset). compare (name_at d c.at) (name_at d o) ≡ Less) (sym q) (f e i)))
     (ascends-apart d cs a)
 
 module _ (d : List ℕ) (hive : Hive) where

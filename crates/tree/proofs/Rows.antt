@@ -23,9 +23,6 @@ module _ (d : List ℕ) (l : Leaf) where
       by zero e = ap length (row-start e) ∙ sym (r.one e)
       by (suc w) e = ap length (row-leaf (λ z. omega arith)) ∙ elements-length d l
 
-  pub row_first : (i : ℕ) → i < l.count → RowLies d l → l.width ≡ 0 → alone l.cell ≡ get_or (row_children d l) i no_child
-  row_first i p r e = let q = r.one e in let z : i ≡ 0 = omega arith in rw (row-start e, z)
-
   pub row-element : (i : ℕ) → i < l.count → (l.width ≡ 0 → ⊥) → {c : Child} → c ≡ child_named d l i → c ≡ get_or (row_children d l) i no_child
   row-element i p f q = rw (row-leaf f) (element-at d l i p q)
 

@@ -6,22 +6,17 @@ use Rattle.fields.specs.declared.Fault.TheVariants as named
 use Rattle.fields.specs.declared.Offset.{Offset}
 use Rattle.fields.specs.declared.Flaw.{Flaw}
 use Rattle.fields.specs.declared.Refusal.{Refusal}
-use Rattle.fields.specs.declared.Verdict.TheVariants.{Sound}
 use Rattle.fields.specs.Faults.{number_of, flaw, unless, ◌next◌, no_key, refusal_of, Because}
 use Rattle.fields.specs.Charges.{Charge, charge_of, ◌after◌}
 use Rattle.fields.proofs.Charges.{clear_of, because, Charges, after-charges, flaw-charges}
 use Rattle.fields.proofs.Every.{Every, every-sound, every-flaw, every-unless, every-next, every-over}
 use Rattle.base.specs.Block.{bins_data}
 use Rattle.cells.specs.declared.Rule.TheVariants.{Map}
-use Rattle.cells.specs.declared.Surveyed.{Surveyed}
-use Rattle.cells.specs.declared.Surveyed.TheVariants.{Tiled, Flawed as Untiled}
 use Rattle.cells.specs.declared.Tally.{Tally}
 use Rattle.cells.specs.Survey.{survey_answer, map_left}
 use Rattle.cells.specs.Tiled.{BinsTile, Mapped}
 use Rattle.cells.proofs.Refusals.{Ruled, by_map, survey-refuses}
 use Rattle.cells.proofs.Mapped.{surveyed}
-use Rattle.names.specs.declared.Order.{Order as Ordering}
-use Rattle.names.specs.declared.Order.TheVariants.{Before, Same, After as Behind}
 use Rattle.names.specs.Comparison.{compare}
 use Rattle.names.specs.Hashing.{hash_of}
 use Rattle.names.specs.Hints.{fits_hint}
@@ -37,7 +32,6 @@ use Rattle.namesakes.specs.Namesakes.{namesake_fault}
 use Rattle.namesakes.proofs.Laws.{namesake-told}
 use Rattle.security.specs.Refused.{OfSecurity, no_item, no_room, no-link, other-count, off-ring}
 use Rattle.security.proofs.Tells.{security-tells}
-use Rattle.tree.specs.declared.Checked.TheVariants.{Refused}
 use Rattle.tree.specs.declared.Hive.{Hive}
 use Rattle.tree.specs.declared.Arrival.{Arrival}
 use Rattle.tree.specs.declared.Arrival.TheVariants.{Start, First, After}
@@ -46,6 +40,9 @@ use Rattle.tree.specs.Told.{Reached, the-root, a-child, Follows, at_once, later,
 use Rattle.tree.specs.WellFormed.{TreeStands}
 use Rattle.tree.proofs.Accepted.{root_stands}
 use Rattle.tree.proofs.Charges.{refused-charge, level-zero, key-parts}
+use Rattle.std.specs.Prelude.{Err, Ok, Result}
+use Rattle.std.specs.declared.cmp.Ordering.{Ordering}
+use Rattle.std.specs.declared.cmp.Ordering.TheVariants.{Equal, Greater, Less}
 
 follows-in : {b c : Child} {cs : List Child} → Follows b c cs → Memᴰ c cs
 follows-in at_once = Memᴰ.tail (Memᴰ.head refl)
@@ -56,10 +53,10 @@ besides : (set same : Bool) → not set || same ≡ false → (set ≡ true) × 
 besides true same e = (refl, e)
 besides false same e = absurd (let z : ◌≡◌ {A = ℕ} 0 1 = cc in omega arith)
 
-not-before : (o : Ordering) → is_before o ≡ false → o ≡ Before → ⊥
-not-before Before e p = let z : ◌≡◌ {A = ℕ} 0 1 = cc in omega arith
-not-before Same e p = let z : ◌≡◌ {A = ℕ} 0 1 = cc in omega arith
-not-before Behind e p = let z : ◌≡◌ {A = ℕ} 0 1 = cc in omega arith
+not-before : (o : Ordering) → is_before o ≡ false → o ≡ Less → ⊥
+not-before Less e p = let z : ◌≡◌ {A = ℕ} 0 1 = cc in omega arith
+not-before Equal e p = let z : ◌≡◌ {A = ℕ} 0 1 = cc in omega arith
+not-before Greater e p = let z : ◌≡◌ {A = ℕ} 0 1 = cc in omega arith
 
 module _ (d m : List ℕ) (tiles : BinsTile d 0) (mapped : Mapped d m) (hive : Hive) where
   ruled : Ruled Map d m
@@ -127,7 +124,7 @@ module _ (d m : List ℕ) (tiles : BinsTile d 0) (mapped : Mapped d m) (hive : H
     level-tells zero e = every-flaw (OfTree d hive k) (too-deep r (omega arith))
     level-tells (suc n) e = every-sound (OfTree d hive k)
 
-    level-left : (n : ℕ) → lv + n ≡ 513 → level_fault n k ≡ Sound → lv ≤ 512
+    level-left : (n : ℕ) → lv + n ≡ 513 → level_fault n k ≡ Ok tt → lv ≤ 512
     level-left zero e s = absurd (level-zero d m hive (record { at = k; hashed = false; hinted = false; beside = 0 }) s)
     level-left (suc n) e s = omega arith
 
@@ -234,7 +231,7 @@ past-number {h} (in_tree t) = tree-number (bins_data h) (hive_of h) t
 past-number (on-ring s t) = let n = security-number t in omega arith
 
 module _ (h m : List ℕ) where
-  walk-tells : {t : Tally} {r : Refusal} → survey_answer h (length m) ≡ Tiled t → on_tiled h m (Tiled t) ≡ Refused r → Because (Past h) r
+  walk-tells : {t : Tally} {r : Refusal} → survey_answer h (length m) ≡ Ok t → on_tiled h m (Ok t) ≡ Err r → Because (Past h) r
   walk-tells {t} {r} p q =
       let x = (surveyed h m t p).1 in
       let d = bins_data h in
@@ -246,10 +243,10 @@ module _ (h m : List ℕ) where
       r (refused-charge (keys_charge h left after ring_charge h left) _ q)
 
   -- its number is 11 or more
-  pub walk-number : {t : Tally} {r : Refusal} → survey_answer h (length m) ≡ Tiled t → on_tiled h m (Tiled t) ≡ Refused r → 11 ≤ number_of r.fault
+  pub walk-number : {t : Tally} {r : Refusal} → survey_answer h (length m) ≡ Ok t → on_tiled h m (Ok t) ≡ Err r → 11 ≤ number_of r.fault
   walk-number p q = let w = walk-tells p q in rw w.2 (past-number w.3)
 
-  pub check-tells : {r : Refusal} → check_answer h m ≡ Refused r → Because (Told h (length m)) r
+  pub check-tells : {r : Refusal} → check_answer h m ≡ Err r → Because (Told h (length m)) r
   unfolding check_answer
   check-tells {r} e = by (survey_answer h (length m)) refl e
     where
@@ -257,6 +254,6 @@ module _ (h m : List ℕ) where
       told b k f (in_tree t) = of_tree b t
       told b k f (on-ring s t) = of-security b s t
 
-      by : (s : Surveyed) → survey_answer h (length m) ≡ s → on_tiled h m s ≡ Refused r → Because (Told h (length m)) r
-      by (Untiled f) p q = (no_key, f, let z : refusal_of no_key f ≡ r = cc in sym z, of-survey (survey-refuses h (length m) p))
-      by (Tiled t) p q = because (Past h) (Told h (length m)) (told (surveyed h m t p).1.tiles) (walk-tells p q)
+      by : (s : Result Tally Flaw) → survey_answer h (length m) ≡ s → on_tiled h m s ≡ Err r → Because (Told h (length m)) r
+      by (Err f) p q = (no_key, f, let z : refusal_of no_key f ≡ r = cc in sym z, of-survey (survey-refuses h (length m) p))
+      by (Ok t) p q = because (Past h) (Told h (length m)) (told (surveyed h m t p).1.tiles) (walk-tells p q)

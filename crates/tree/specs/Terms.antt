@@ -1,9 +1,7 @@
 -- What the walk's functions ask of each other.
-use Rattle.std.specs.Prelude.{◌≡◌, ℕ, ◌-◌, ◌≤◌, false, cond, List, [], ◌∷◌, length, ◌==◌, ◌≢◌, slice_index_or}
+use Rattle.std.specs.Prelude.{◌≡◌, ℕ, ◌-◌, ◌≤◌, false, cond, List, [], ◌∷◌, length, ◌==◌, ◌≢◌, slice_index_or, Ok, Result}
 use Rattle.fields.specs.declared.Offset.{Offset}
-use Rattle.fields.specs.declared.Verdict.{Verdict}
-use Rattle.fields.specs.declared.Verdict.TheVariants.{Sound}
-use Rattle.fields.specs.Faults.{◌next◌}
+use Rattle.fields.specs.Faults.{◌next◌, Verdict}
 use Rattle.fields.specs.Charges.{Free}
 use Rattle.cells.specs.declared.Rule.TheVariants.{Map}
 use Rattle.base.specs.Block.{bins_data, base_fault}
@@ -22,8 +20,9 @@ use Rattle.records.specs.Lists.{leaf_children, lists_fault}
 use Rattle.namesakes.specs.Namesakes.{namesake_fault}
 use Rattle.tree.specs.declared.Arrival.{Arrival}
 use Rattle.tree.specs.declared.Arrival.TheVariants.{Start, First, After}
-use Rattle.tree.specs.declared.Checked.{Checked}
 use Rattle.tree.specs.Tree.{total_fault, keys_of, report_of, keys_charge, answer}
+use Rattle.fields.specs.declared.Refusal.{Refusal}
+use Rattle.tree.specs.declared.Report.{Report}
 
 -- a key's name lies in its cell
 abbrev pub NameLies : List ℕ → Key → Type 0
@@ -66,12 +65,12 @@ pub record RowLies (d : List ℕ) (l : Leaf) : Type 0 where
 
 -- a hive whose bins and cells were surveyed, with its map
 pub record Ready (h m : List ℕ) : Type 0 where
-  pub base : base_fault h ≡ Sound
+  pub base : base_fault h ≡ Ok tt
   pub tiles : BinsTile (bins_data h) 0
   pub mapped : Mapped (bins_data h) m
 
 -- the walk from the root, and the report where there is no charge
-unfoldable pub keys_answer : List ℕ → List ℕ → Tally → Checked
+unfoldable pub keys_answer : List ℕ → List ℕ → Tally → Result Report Refusal
 keys_answer h m t = answer (keys_charge h m) (report_of h t)
 
 -- and one whose tree was walked without a charge: its map is whole, and the keys were counted

@@ -11,7 +11,6 @@ use Rattle.base.specs.Block.{sector, bins_of, bins_data}
 use Rattle.cells.specs.declared.Rule.TheVariants.{Map}
 use Rattle.cells.specs.Tiled.{BinsTile}
 use Rattle.cells.specs.Refused.{OfSurvey}
-use Rattle.names.specs.declared.Order.TheVariants.{Before}
 use Rattle.names.specs.Comparison.{compare}
 use Rattle.names.specs.Hashing.{hash_of}
 use Rattle.names.specs.Hints.{fits_hint}
@@ -26,6 +25,7 @@ use Rattle.security.specs.Refused.{OfSecurity}
 use Rattle.tree.specs.declared.Hive.{Hive}
 use Rattle.tree.specs.Tree.{name_at, levels, hive_of, keys_of}
 use Rattle.tree.specs.WellFormed.{TreeStands}
+use Rattle.std.specs.declared.cmp.Ordering.TheVariants.{Less}
 
 -- the keys that the check comes to, with their levels: "The root is level 0"
 pub data Reached (d : List ℕ) (root : Offset) : ℕ → Offset → Type 0 where
@@ -50,7 +50,7 @@ pub data OfTree (d : List ℕ) (hive : Hive) : Offset → Flaw → Type 0 where
   of-namesake : {n : ℕ} {k v : Offset} → Reached d hive.root n k → n ≤ 512 → Repeats d (key_of d k) v → OfTree d hive k (flaw Namesake v)
   -- 13: "order of names, or `lh` hash", and the hint of an `lf`, at the key that is listed
   no-order : {n : ℕ} {k : Offset} {b c : Child} → Reached d hive.root n k → Follows b c (children d k) → Fit Map d a_key c.at
-      → (compare (name_at d b.at) (name_at d c.at) ≢ Before) → OfTree d hive c.at (flaw Order c.at)
+      → (compare (name_at d b.at) (name_at d c.at) ≢ Less) → OfTree d hive c.at (flaw Order c.at)
   other-hash : {n : ℕ} {k : Offset} {c : Child} → Reached d hive.root n k → Memᴰ c (children d k) → Fit Map d a_key c.at
       → c.hashed ≡ true → (c.beside ≢ hash_of (name_at d c.at)) → OfTree d hive c.at (flaw Order c.at)
   other-hint : {n : ℕ} {k : Offset} {c : Child} → Reached d hive.root n k → Memᴰ c (children d k) → Fit Map d a_key c.at

@@ -1,21 +1,15 @@
 -- The check, in the order of its tests: "then from the root: the key's cell and record; parent or root listed (neither at the start); order and hash;
 -- level; values in order with their data; all its lists and the total; then each child, wholly, before the next." After the walk, the security items.
 -- d is the bins data and m the work map; a hive's minor version and root come along.
-use Rattle.std.specs.Prelude.{ℕ, zero, suc, ◌+◌, ◌%◌, ◌^◌, Bool, true, false, not, ◌||◌, List, [], ◌∷◌, length, ◌==◌}
+use Rattle.std.specs.Prelude.{ℕ, zero, suc, ◌+◌, ◌%◌, ◌^◌, Bool, true, false, not, ◌||◌, List, [], ◌∷◌, length, ◌==◌, Err, Ok, Result}
 use Rattle.fields.specs.declared.Offset.{Offset}
-use Rattle.fields.specs.declared.Verdict.{Verdict}
-use Rattle.fields.specs.declared.Verdict.TheVariants.{Sound, Flawed}
 use Rattle.fields.specs.declared.Fault.TheVariants.{Order, Parent, Level}
-use Rattle.fields.specs.Faults.{flaw, unless, ◌next◌, no_key, refusal_of}
+use Rattle.fields.specs.Faults.{flaw, unless, ◌next◌, no_key, refusal_of, Verdict}
 use Rattle.fields.specs.Charges.{Charge, Free, Of, charge_of, ◌after◌}
 use Rattle.base.specs.Block.{sector, minor_of, root_of, bins_data}
 use Rattle.cells.specs.declared.Rule.TheVariants.{Map}
 use Rattle.cells.specs.declared.Tally.{Tally}
-use Rattle.cells.specs.declared.Surveyed.{Surveyed}
-use Rattle.cells.specs.declared.Surveyed.TheVariants.{Tiled, Flawed as Untiled}
 use Rattle.cells.specs.Survey.{survey_answer, map_left}
-use Rattle.names.specs.declared.Order.{Order as Ordering}
-use Rattle.names.specs.declared.Order.TheVariants.{Before, Same, After as Behind}
 use Rattle.names.specs.Comparison.{compare}
 use Rattle.names.specs.Hashing.{hash_of}
 use Rattle.names.specs.Hints.{fits_hint}
@@ -27,15 +21,15 @@ use Rattle.records.specs.Listed.{joined, keys_in}
 use Rattle.values.specs.Lists.{values_fault}
 use Rattle.namesakes.specs.Namesakes.{namesake_fault}
 use Rattle.security.specs.Items.{security_charge}
-use Rattle.tree.specs.declared.Checked.{Checked}
-use Rattle.tree.specs.declared.Checked.TheVariants.{Accepted, Refused}
 use Rattle.tree.specs.declared.Count.{Count}
 use Rattle.tree.specs.declared.Hive.{Hive}
 use Rattle.tree.specs.declared.Arrival.{Arrival}
 use Rattle.tree.specs.declared.Arrival.TheVariants.{Start, First, After}
 use Rattle.tree.specs.declared.Report.{Report}
-use Rattle.tree.specs.declared.Subtree.{Subtree}
-use Rattle.tree.specs.declared.Subtree.TheVariants.{Counted, Refused as Stopped}
+use Rattle.fields.specs.declared.Flaw.{Flaw}
+use Rattle.fields.specs.declared.Refusal.{Refusal}
+use Rattle.std.specs.declared.cmp.Ordering.{Ordering}
+use Rattle.std.specs.declared.cmp.Ordering.TheVariants.{Equal, Greater, Less}
 
 -- the codes of the name of the key at an offset
 abbrev pub name_at : List ℕ → Offset → List ℕ
@@ -48,9 +42,9 @@ parent_fault root k at parent =
     next unless (not (at.0 == root.0)) (flaw Parent at)
 
 abbrev pub is_before : Ordering → Bool
-is_before Before = true
-is_before Same = false
-is_before Behind = false
+is_before Less = true
+is_before Equal = false
+is_before Greater = false
 
 -- "those of subkeys ascend strictly over all leaves of a key"
 unfoldable pub order_fault : List ℕ → Offset → Key → Offset → Verdict
@@ -58,7 +52,7 @@ order_fault d sibling k at = unless (is_before (compare (name_at d sibling) (cod
 
 -- where the key was listed: "parent or root listed (neither at the start); order"
 unfoldable pub place_fault : List ℕ → Offset → Key → Offset → Arrival → Verdict
-place_fault d root k at Start = Sound
+place_fault d root k at Start = Ok tt
 place_fault d root k at (First p) = parent_fault root k at p
 place_fault d root k at (After p b) = parent_fault root k at p next order_fault d b k at
 
@@ -74,8 +68,8 @@ beside_fault d k c = hash_fault d k c next hint_fault d k c
 
 -- "The root is level 0; level 512 is the last": with no level left, the key is too deep
 unfoldable pub level_fault : ℕ → Offset → Verdict
-level_fault zero at = Flawed (flaw Level at)
-level_fault (suc n) at = Sound
+level_fault zero at = Err (flaw Level at)
+level_fault (suc n) at = Ok tt
 
 -- "The key's count is the total over its leaves."
 unfoldable pub total_fault : List ℕ → Key → Offset → Verdict
@@ -155,16 +149,16 @@ keys_charge h m = tree_charge (bins_data h) m (hive_of h) levels (root_child (hi
 abbrev pub ring_charge : List ℕ → List ℕ → Charge
 ring_charge h m = security_charge (bins_data h) m (hive_of h).root (keys_of h)
 
-abbrev pub answer : Charge → Report → Checked
-answer Free r = Accepted r
-answer (Of f) r = Refused f
+abbrev pub answer : Charge → Report → Result Report Refusal
+answer Free r = Ok r
+answer (Of f) r = Err f
 
-abbrev pub on_tiled : List ℕ → List ℕ → Surveyed → Checked
-on_tiled h m (Untiled f) = Refused (refusal_of no_key f)
-on_tiled h m (Tiled t) = answer (keys_charge h (map_left h m) after ring_charge h (map_left h m)) (report_of h t)
+abbrev pub on_tiled : List ℕ → List ℕ → Result Tally Flaw → Result Report Refusal
+on_tiled h m (Err f) = Err (refusal_of no_key f)
+on_tiled h m (Ok t) = answer (keys_charge h (map_left h m) after ring_charge h (map_left h m)) (report_of h t)
 
 -- the check's answer for a hive and a work map; the map afterwards is `map_left h m`
-unfoldable pub check_answer : List ℕ → List ℕ → Checked
+unfoldable pub check_answer : List ℕ → List ℕ → Result Report Refusal
 check_answer h m = on_tiled h m (survey_answer h (length m))
 
 -- The walk as the code makes it, adding in 64 bits.
@@ -175,12 +169,12 @@ unfoldable pub tallied : List ℕ → Count → List Offset → Count
 tallied d t [] = t
 tallied d t (k ∷ ks) = tallied d (tally t (key_of d k)) ks
 
-abbrev pub walked : Charge → Count → Subtree
-walked Free t = Counted t
-walked (Of f) t = Stopped f
+abbrev pub walked : Charge → Count → Result Count Refusal
+walked Free t = Ok t
+walked (Of f) t = Err f
 
-unfoldable pub key_answer : List ℕ → List ℕ → Hive → ℕ → Child → Arrival → Count → Subtree
+unfoldable pub key_answer : List ℕ → List ℕ → Hive → ℕ → Child → Arrival → Count → Result Count Refusal
 key_answer d m hive n c l t = walked (tree_charge d m hive n c l) (tallied d t (keys_in d n c.at))
 
-unfoldable pub list_answer : List ℕ → List ℕ → Hive → ℕ → Offset → Arrival → List Child → Count → Subtree
+unfoldable pub list_answer : List ℕ → List ℕ → Hive → ℕ → Offset → Arrival → List Child → Count → Result Count Refusal
 list_answer d m hive n key l cs t = walked (list_charge (tree_charge d m hive n) key l cs) (tallied d t (joined (keys_in d n) cs))

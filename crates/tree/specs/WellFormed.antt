@@ -6,7 +6,6 @@ use Rattle.fields.specs.declared.Offset.{Offset}
 use Rattle.base.specs.Block.{sector, bins_of, clean, bins_data}
 use Rattle.cells.specs.Named.{data_at}
 use Rattle.cells.specs.Tiled.{BinsTile, InUse}
-use Rattle.names.specs.declared.Order.TheVariants.{Before}
 use Rattle.names.specs.Comparison.{compare}
 use Rattle.names.specs.Hashing.{hash_of}
 use Rattle.names.specs.Hints.{fits_hint}
@@ -26,6 +25,7 @@ use Rattle.tree.specs.declared.Hive.{Hive}
 use Rattle.records.specs.Facts.{Signed, KeyRecord}
 use Rattle.tree.specs.Facts.{LeafRecord, ListRecord, ValueRecord, DbRecord}
 use Rattle.tree.specs.Tree.{name_at, levels, hive_of, keys_of}
+use Rattle.std.specs.declared.cmp.Ordering.TheVariants.{Less}
 
 -- an offset names a cell in use with room for so many bytes
 pub record Room (d : List ℕ) (o : Offset) (n : ℕ) : Type 0 where
@@ -86,7 +86,7 @@ pub record ChildStands (d : List ℕ) (root key : Offset) (c : Child) : Type 0 w
 -- "those of subkeys ascend strictly over all leaves of a key": each name before all later ones
 pub data Ascends (d : List ℕ) : List Child → Type 0 where
   none : Ascends d []
-  more : {c : Child} {cs : List Child} → ((e : Child) → Memᴰ e cs → compare (name_at d c.at) (name_at d e.at) ≡ Before)
+  more : {c : Child} {cs : List Child} → ((e : Child) → Memᴰ e cs → compare (name_at d c.at) (name_at d e.at) ≡ Less)
       → Ascends d cs → Ascends d (c ∷ cs)
 
 -- the keys reached from a key form a sorted tree of at most n levels, its own among them

@@ -6,24 +6,22 @@ use mathlib.Core.List.{List, [], ◌∷◌}
 use Rattle.fields.specs.declared.Offset.{Offset}
 use Rattle.fields.specs.declared.Flaw.{Flaw}
 use Rattle.fields.specs.declared.Fault.TheVariants.{Record}
-use Rattle.fields.specs.declared.Verdict.{Verdict}
-use Rattle.fields.specs.declared.Verdict.TheVariants.{Sound, Flawed}
-use Rattle.fields.specs.Faults.{flaw, unless, ◌next◌, fault_over}
+use Rattle.fields.specs.Faults.{flaw, unless, ◌next◌, fault_over, Verdict}
 use Rattle.fields.proofs.Firsts.{on, stop, both, sound, held, holds, fails}
 use Rattle.cells.specs.declared.Cell.{Cell}
-use Rattle.cells.specs.declared.Found.TheVariants.{Named, Flawed as Missing}
 use Rattle.cells.specs.declared.Rule.{Rule}
 use Rattle.cells.specs.declared.Rule.TheVariants.{Header}
 use Rattle.cells.specs.Named.{cell_of, cell_fault, data_of, data_at}
 use Rattle.cells.proofs.Naming.{cell-sound, cell-flawed, cell-data-at, header-cell}
+use Rattle.std.specs.Prelude.{Err, Ok}
 
 -- ---- what the map names, the cell's own header names
 
-pub carries-next : (a b x y : Verdict) → (a ≡ Sound → x ≡ Sound) → (b ≡ Sound → y ≡ Sound) → a next b ≡ Sound → x next y ≡ Sound
+pub carries-next : (a b x y : Verdict) → (a ≡ Ok tt → x ≡ Ok tt) → (b ≡ Ok tt → y ≡ Ok tt) → a next b ≡ Ok tt → x next y ≡ Ok tt
 carries-next a b x y p q e = let s = both a b e in sound x y (p s.0) (q s.1)
 
-pub carries_over : {A : Type 0} (each other : A → Verdict) (xs : List A) → ((x : A) → each x ≡ Sound → other x ≡ Sound)
-    → fault_over each xs ≡ Sound → fault_over other xs ≡ Sound
+pub carries_over : {A : Type 0} (each other : A → Verdict) (xs : List A) → ((x : A) → each x ≡ Ok tt → other x ≡ Ok tt)
+    → fault_over each xs ≡ Ok tt → fault_over other xs ≡ Ok tt
 unfolding fault_over
 carries_over each other [] p e = refl
 carries_over each other (x ∷ xs) p e =
@@ -35,18 +33,18 @@ abbrev pub test_fault : (List ℕ → Bool) → Rule → List ℕ → List ℕ �
 test_fault test rule d m o = cell_fault rule d m o next unless (test (data_at d o)) (flaw Record o)
 
 module _ (test : List ℕ → Bool) (rule : Rule) (d m : List ℕ) (o : Offset) where
-  pub lacks : {f : Flaw} → cell_of rule d m o ≡ Missing f → test_fault test rule d m o ≡ Flawed f
+  pub lacks : {f : Flaw} → cell_of rule d m o ≡ Err f → test_fault test rule d m o ≡ Err f
   lacks e = stop _ _ (cell-flawed rule d m o e)
 
-  module _ {c : Cell} (e : cell_of rule d m o ≡ Named c) (r : List ℕ) (q : r ≡ data_of d c) where
-    pub passes : test r ≡ true → test_fault test rule d m o ≡ Sound
+  module _ {c : Cell} (e : cell_of rule d m o ≡ Ok c) (r : List ℕ) (q : r ≡ data_of d c) where
+    pub passes : test r ≡ true → test_fault test rule d m o ≡ Ok tt
     passes p = on _ _ (cell-sound rule d m o e) ∙ holds _ (ap test (sym (q ∙ cell-data-at rule d m o e)) ∙ p)
 
-    pub refuses : test r ≡ false → test_fault test rule d m o ≡ Flawed (flaw Record o)
+    pub refuses : test r ≡ false → test_fault test rule d m o ≡ Err (flaw Record o)
     refuses p = on _ _ (cell-sound rule d m o e) ∙ fails _ (ap test (sym (q ∙ cell-data-at rule d m o e)) ∙ p)
 
-  pub says : test_fault test rule d m o ≡ Sound → test (data_at d o) ≡ true
+  pub says : test_fault test rule d m o ≡ Ok tt → test (data_at d o) ≡ true
   says e = held (test (data_at d o)) (flaw Record o) (both (cell_fault rule d m o) _ e).1
 
-  pub by-header : (n : List ℕ) → test_fault test rule d m o ≡ Sound → test_fault test Header d n o ≡ Sound
+  pub by-header : (n : List ℕ) → test_fault test rule d m o ≡ Ok tt → test_fault test Header d n o ≡ Ok tt
   by-header n = carries-next (cell_fault rule d m o) _ (cell_fault Header d n o) _ (λ e. header-cell rule d m o e n) (λ e. e)

@@ -1,12 +1,11 @@
 -- Segments copied one after the other: what stands before a turn of the loop, and after it.
 use Prim.Native.Nat.{ℕ, suc, ◌+◌, ◌-◌, ◌*◌, ◌<◌, ◌≤◌}
 use native.Mathlib.Omega.{arith}
-use mathlib.Core.Path.{◌≡◌, refl, sym, ap, ap₂, ◌∙◌}
+use mathlib.Core.Path.{◌≡◌, sym, ap, ap₂, ◌∙◌}
 use mathlib.Core.List.{List, [], ◌++◌, append_assoc, append-nil}
 use lib.ListN.{length, get_or, take, drop, take-append-drop}
 use lib.Seq.{paste, length-paste, take-paste, drop-paste, drop-drop}
 use Rattle.fields.specs.declared.Offset.{Offset}
-use Rattle.fields.specs.declared.Verdict.TheVariants.{Sound}
 use Rattle.fields.specs.Faults.{nowhere, fault_over}
 use Rattle.fields.proofs.Firsts.{both}
 use Rattle.cells.specs.declared.Rule.TheVariants.{Header}
@@ -16,9 +15,9 @@ use Rattle.values.specs.declared.Segment.{Segment}
 use Rattle.values.specs.Entries.{entries_of}
 use Rattle.values.specs.Records.{segment_size}
 use Rattle.values.specs.Segments.{segment_length, segments_from, segments_in, segment_fault, joined_bytes}
-use Rattle.values.specs.Terms.{SegmentsLie}
 use Rattle.values.proofs.Rooms.{roomy}
 use Rattle.values.proofs.Segment_turns.{takes, segments-cons, segments-nil}
+use Rattle.std.specs.Prelude.{Ok}
 
 -- the segments before element i stand in `out`, `left` bytes are to come, and what lies behind them is as it was
 pub record Copied (d out₀ : List ℕ) (e : Entries) (size : ℕ) (out : List ℕ) (left i : ℕ) : Type 0 where
@@ -26,7 +25,7 @@ pub record Copied (d out₀ : List ℕ) (e : Entries) (size : ℕ) (out : List �
   pub within : left ≤ size
   pub enough : left ≤ (e.count - i) * segment_size
   pub kept : length out ≡ length out₀
-  pub sound : fault_over (segment_fault Header d []) (segments_from (data_at d e.cell) i left (e.count - i)) ≡ Sound
+  pub sound : fault_over (segment_fault Header d []) (segments_from (data_at d e.cell) i left (e.count - i)) ≡ Ok tt
   pub done : joined_bytes d (segments_in d e size) ≡ take (size - left) out ++ joined_bytes d (segments_from (data_at d e.cell) i left (e.count - i))
   pub after : drop (size - left) out ≡ drop (size - left) out₀
 
@@ -38,24 +37,10 @@ moved : (size left n : ℕ) → n ≤ left → left ≤ size → size - left + n
 moved size left n p q = omega arith
 
 module _ (d out₀ : List ℕ) (e : Entries) (size : ℕ) where
-  pub copied-start : SegmentsLie d e size → Copied d out₀ e size out₀ size 0
-  copied-start l =
-      let z : size - size ≡ 0 = omega arith in
-      let k : e.count - 0 ≡ e.count = omega arith in
-      record {
-        before-end = omega arith;
-        within = omega arith;
-        enough = omega (arith, l.enough);
-        kept = refl;
-        sound = rw k l.sound;
-        done = rw (z, k);
-        after = refl;
-      }
-
   module _ {out : List ℕ} {left i : ℕ} (w : Copied d out₀ e size out left i) (room : size ≤ length out₀) (p : i < e.count) (o : Offset) (n : ℕ)
       (at : o ≡ get_or (entries_of d e) i nowhere) (len : n ≡ segment_length left) where
     -- the segment's test, and those of the rest
-    parts : (n ≤ length (data_at d o)) × (fault_over (segment_fault Header d []) (segments_from (data_at d e.cell) (i + 1) (left - n) (e.count - (i + 1))) ≡ Sound)
+    parts : (n ≤ length (data_at d o)) × (fault_over (segment_fault Header d []) (segments_from (data_at d e.cell) (i + 1) (left - n) (e.count - (i + 1))) ≡ Ok tt)
     unfolding fault_over segment_fault
     parts =
         let s = both _ _ (sym (ap (fault_over (segment_fault Header d [])) (segments-cons d e i left p o n at len)) ∙ w.sound) in

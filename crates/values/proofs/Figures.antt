@@ -5,7 +5,6 @@ use mathlib.Core.Bool.{true, false}
 use mathlib.Core.List.{List, [], ◌∷◌, ◌++◌}
 use lib.ListN.{replicate}
 use Rattle.fields.specs.declared.Offset.{Offset}
-use Rattle.fields.specs.declared.Verdict.TheVariants.{Sound}
 use Rattle.fields.specs.Number.{u16_at, u32_at, size_at}
 use Rattle.fields.specs.Bytes.{same_bytes, stands_at}
 use Rattle.fields.specs.Faults.{◌next◌}
@@ -16,6 +15,7 @@ use Rattle.names.specs.Codes.{characters_in}
 use Rattle.values.specs.Records.{is_value_name, is_data_size, is_old_value, is_value, value_fault, is_segmented, content_of, data_in}
 use Rattle.values.specs.Segments.{segments_for, segment_length, segments_from, bytes_of}
 use Rattle.values.proofs.LawsSegments.{lengths_of}
+use Rattle.std.specs.Prelude.{Ok}
 
 -- "65 segments for 1,048,576 bytes", and "count is size / 16,344 rounded up"
 pub two-segments : segments_for 16345 ≡ 2
@@ -81,7 +81,7 @@ inlined =
 abbrev pub at32 : Offset
 at32 = record { 0 = 32 }
 
-pub inlined-sound : value_fault Header inlined [] at32 ≡ Sound
+pub inlined-sound : value_fault Header inlined [] at32 ≡ Ok tt
 unfolding inlined value_fault cell_fault cell_of by_header is_named good_size data_at data_of is_old_value is_value is_value_name characters_in is_data_size stands_at same_bytes ◌next◌ size_at u32_at u16_at
 inlined-sound = refl
 

@@ -10,7 +10,6 @@ use lib.ListN.{length, drop}
 use lib.Seq.{paste}
 use borrow.Author.Tests.{eqb-true}
 use Rattle.fields.specs.declared.Offset.{Offset}
-use Rattle.fields.specs.declared.Verdict.TheVariants.{Sound}
 use Rattle.fields.specs.Faults.{fault_over}
 use Rattle.fields.proofs.Firsts.{both}
 use Rattle.cells.specs.declared.Rule.TheVariants.{Header}
@@ -28,6 +27,7 @@ use Rattle.values.proofs.Cell_tests.{says}
 use Rattle.values.proofs.Rooms.{roomy}
 use Rattle.values.proofs.Segment_faults.{db-long, list-roomy, segments-listed}
 use Rattle.values.proofs.LawsSegments.{enough-segments, lengths-sum, joined_length}
+use Rattle.std.specs.Prelude.{Ok}
 
 -- data that one part holds
 abbrev pub is_one : ValueData → Bool
@@ -77,7 +77,7 @@ copy-one d out x t l p e =
 
 -- segmented data
 module _ (d : List ℕ) (o : Offset) (size : ℕ) (l : Lies d (Segments o size)) where
-  faults : (segment_list_fault Header d [] o size ≡ Sound) × (fault_over (segment_fault Header d []) (segments_of d o size) ≡ Sound)
+  faults : (segment_list_fault Header d [] o size ≡ Ok tt) × (fault_over (segment_fault Header d []) (segments_of d o size) ≡ Ok tt)
   unfolding data_fault segments_fault
   faults = both (segment_list_fault Header d [] o size) _ l.sound
 

@@ -6,7 +6,6 @@ use mathlib.Core.Bool.{Bool, true, false}
 use mathlib.Core.List.{List}
 use lib.Dec.{eqb}
 use Rattle.fields.specs.declared.Flaw.{Flaw}
-use Rattle.fields.specs.declared.Verdict.TheVariants.{Sound, Flawed}
 use Rattle.fields.specs.Faults.{fault_over}
 use Rattle.fields.proofs.Firsts.{on, stop}
 use Rattle.cells.specs.declared.Rule.{Rule}
@@ -17,6 +16,8 @@ use Rattle.values.specs.Entries.{entries_of}
 use Rattle.values.specs.Terms.{Room}
 use Rattle.values.specs.Lists.{values_of, value_list_fault, value_entries, whole_value_fault, values_fault}
 use Rattle.values.proofs.Rooms.{roomy}
+use Rattle.values.proofs.Segment_faults.{entered-whole, entered-flawed}
+use Rattle.std.specs.Prelude.{Err, Ok}
 
 -- the elements are the key's values
 pub values_listed : (d : List ℕ) (k : Key) → values_of d k ≡ entries_of d (value_entries k)
@@ -28,7 +29,7 @@ values_listed d k = by (eqb k.values 0) refl
     by false e = rw e
 
 module _ (rule : Rule) (d m : List ℕ) (k : Key) where
-  pub values-room : value_list_fault rule d m k ≡ Sound → Room d (value_entries k)
+  pub values-room : value_list_fault rule d m k ≡ Ok tt → Room d (value_entries k)
   unfolding value_list_fault value_entries
   values-room s = by (eqb k.values 0) refl
     where
@@ -36,7 +37,7 @@ module _ (rule : Rule) (d m : List ℕ) (k : Key) where
       by true e = rw e (omega arith)
       by false e = rw e (roomy rule d m k.value_list (4 * k.values) (rw e at s))
 
-  module _ (s : value_list_fault rule d m k ≡ Sound) (e : Entries) (is : value_entries k ≡ e) where
+  module _ (s : value_list_fault rule d m k ≡ Ok tt) (e : Entries) (is : value_entries k ≡ e) where
     pub list-room : Room d e
     list-room = rw (← is) (values-room s)
 
@@ -44,11 +45,14 @@ module _ (rule : Rule) (d m : List ℕ) (k : Key) where
     list-values = values_listed d k ∙ ap (entries_of d) is
 
   module _ (minor : ℕ) where
-    pub unlisted-values : {f : Flaw} → value_list_fault rule d m k ≡ Flawed f → values_fault rule d m minor k ≡ Flawed f
+    pub unlisted-values : {f : Flaw} → value_list_fault rule d m k ≡ Err f → values_fault rule d m minor k ≡ Err f
     unfolding values_fault
     unlisted-values e = stop _ _ e
 
-    pub by_values : value_list_fault rule d m k ≡ Sound → (e : Entries) → value_entries k ≡ e
+    pub by_values : value_list_fault rule d m k ≡ Ok tt → (e : Entries) → value_entries k ≡ e
         → values_fault rule d m minor k ≡ fault_over (whole_value_fault rule d m minor) (entries_of d e)
     unfolding values_fault
     by_values s e is = on _ _ s ∙ ap (fault_over (whole_value_fault rule d m minor)) (list-values s e is)
+
+-- the ways out of the tests of a value list
+pub ruleset values_ways = (entered-whole, entered-flawed, unlisted-values, list-room, by_values)

@@ -6,7 +6,6 @@ use mathlib.Core.List.{List, [], ◌∷◌}
 use lib.ListN.{length, take, length-append}
 use lib.Seq.{length-take-le}
 use Rattle.fields.specs.declared.Offset.{Offset}
-use Rattle.fields.specs.declared.Verdict.TheVariants.{Sound}
 use Rattle.fields.specs.Faults.{fault_over}
 use Rattle.fields.proofs.Firsts.{both}
 use Rattle.cells.specs.declared.Rule.{Rule}
@@ -16,6 +15,7 @@ use Rattle.values.specs.Records.{segment_size, data_limit}
 use Rattle.values.specs.Segments.{segments_for, segments_from, segments_of, segment_fault, joined_bytes}
 use Rattle.values.proofs.Rooms.{roomy}
 use Rattle.values.proofs.Segment_turns.{takes}
+use Rattle.std.specs.Prelude.{Ok}
 
 -- ---- how many
 
@@ -54,7 +54,7 @@ lengths-sum d o size = lengths-from _ 0 size (segments_for size) (enough-segment
 
 -- ---- the bytes of sound segments
 
-pub joined_length : (rule : Rule) (d m : List ℕ) (ss : List Segment) → fault_over (segment_fault rule d m) ss ≡ Sound → length (joined_bytes d ss) ≡ lengths_of ss
+pub joined_length : (rule : Rule) (d m : List ℕ) (ss : List Segment) → fault_over (segment_fault rule d m) ss ≡ Ok tt → length (joined_bytes d ss) ≡ lengths_of ss
 unfolding joined_bytes lengths_of fault_over segment_fault
 joined_length rule d m [] e = refl
 joined_length rule d m (s ∷ ss) e =

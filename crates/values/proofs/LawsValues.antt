@@ -9,7 +9,6 @@ use lib.Dec.{eqb, leb, ltb}
 use lib.ListN.{length}
 use borrow.Author.Tests.{leb-true, leb-false, ltb-true}
 use Rattle.fields.specs.declared.Offset.{Offset}
-use Rattle.fields.specs.declared.Verdict.TheVariants.{Sound}
 use Rattle.fields.specs.Number.{u32_at}
 use Rattle.fields.proofs.Bools.{and-inv}
 use Rattle.cells.specs.declared.Rule.{Rule}
@@ -24,10 +23,11 @@ use Rattle.values.specs.Segments.{room_fault, segments_for, is_db, db_fault, seg
 use Rattle.values.specs.Terms.{Lies}
 use Rattle.values.proofs.Cell_tests.{carries-next, carries_over, says, by-header}
 use Rattle.values.proofs.Tests.{Kept, kept}
+use Rattle.std.specs.Prelude.{Ok}
 
 -- ---- what is known of a value that passes
 
-value-says : (rule : Rule) (d m : List ℕ) (v : Offset) → value_fault rule d m v ≡ Sound → Kept (data_at d v)
+value-says : (rule : Rule) (d m : List ℕ) (v : Offset) → value_fault rule d m v ≡ Ok tt → Kept (data_at d v)
 unfolding value_fault
 value-says rule d m v e = kept (data_at d v) (says is_value rule d m v e)
 
@@ -54,7 +54,7 @@ pub data Cased (d : List ℕ) (minor : ℕ) (v : Offset) : Type 0 where
   one_cell : (o : Offset) (n : ℕ) → n ≤ data_limit → data_in d minor v ≡ OneCell o n → Cased d minor v
   segments : (o : Offset) (n : ℕ) → segment_size < n → n ≤ data_limit → 4 ≤ minor → data_in d minor v ≡ Segments o n → Cased d minor v
 
-module _ (rule : Rule) (d m : List ℕ) (minor : ℕ) (v : Offset) (s : value_fault rule d m v ≡ Sound) where
+module _ (rule : Rule) (d m : List ℕ) (minor : ℕ) (v : Offset) (s : value_fault rule d m v ≡ Ok tt) where
   cased : Cased d minor v
   unfolding data_in content_of is_segmented
   cased = by (leb top_bit size) refl (is_segmented minor size) refl
@@ -95,33 +95,33 @@ module _ (rule : Rule) (d m : List ℕ) (minor : ℕ) (v : Offset) (s : value_fa
 -- ---- what is sound by either rule is sound by the cells' own headers, with any map
 
 module _ (rule : Rule) (d m n : List ℕ) where
-  header-room : (o : Offset) (k : ℕ) → room_fault rule d m o k ≡ Sound → room_fault Header d n o k ≡ Sound
+  header-room : (o : Offset) (k : ℕ) → room_fault rule d m o k ≡ Ok tt → room_fault Header d n o k ≡ Ok tt
   unfolding room_fault
   header-room o k = by-header (λ r. leb k (length r)) rule d m o n
 
-  header-list : (o : Offset) (size : ℕ) → segment_list_fault rule d m o size ≡ Sound → segment_list_fault Header d n o size ≡ Sound
+  header-list : (o : Offset) (size : ℕ) → segment_list_fault rule d m o size ≡ Ok tt → segment_list_fault Header d n o size ≡ Ok tt
   unfolding segment_list_fault db_fault
   header-list o size =
       carries-next _ _ _ _ (by-header (λ r. is_db r size) rule d m o n) (header-room (segment_list d o) (4 * segments_for size))
 
-  header-segments : (o : Offset) (size : ℕ) → segments_fault rule d m o size ≡ Sound → segments_fault Header d n o size ≡ Sound
+  header-segments : (o : Offset) (size : ℕ) → segments_fault rule d m o size ≡ Ok tt → segments_fault Header d n o size ≡ Ok tt
   unfolding segments_fault segment_fault
   header-segments o size =
       carries-next _ _ _ _ (header-list o size)
       (carries_over (segment_fault rule d m) (segment_fault Header d n) (segments_of d o size) (λ s. header-room s.at s.len))
 
-  header-data : (x : ValueData) → data_fault rule d m x ≡ Sound → data_fault Header d n x ≡ Sound
+  header-data : (x : ValueData) → data_fault rule d m x ≡ Ok tt → data_fault Header d n x ≡ Ok tt
   unfolding data_fault
   header-data (Inline v len) e = refl
   header-data (OneCell o len) e = by (eqb len 0) e
     where
-      by : (t : Bool) → cond t Sound (room_fault rule d m o len) ≡ Sound → cond t Sound (room_fault Header d n o len) ≡ Sound
+      by : (t : Bool) → cond t (Ok tt) (room_fault rule d m o len) ≡ Ok tt → cond t (Ok tt) (room_fault Header d n o len) ≡ Ok tt
       by true e = refl
       by false e = header-room o len e
   header-data (Segments o len) e = header-segments o len e
 
 -- ---- what a copy and a view ask
 
-pub lies : (rule : Rule) (d m : List ℕ) (minor : ℕ) (v : Offset) → value_fault rule d m v ≡ Sound
-    → (other : Rule) (n : List ℕ) → data_fault other d n (data_in d minor v) ≡ Sound → Lies d (data_in d minor v)
+pub lies : (rule : Rule) (d m : List ℕ) (minor : ℕ) (v : Offset) → value_fault rule d m v ≡ Ok tt
+    → (other : Rule) (n : List ℕ) → data_fault other d n (data_in d minor v) ≡ Ok tt → Lies d (data_in d minor v)
 lies rule d m minor v s other n e = record { inside = inline-inside rule d m minor v s; sound = header-data other d n [] (data_in d minor v) e }

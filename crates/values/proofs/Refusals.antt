@@ -10,7 +10,6 @@ use lib.Dec.{eqb}
 use borrow.Author.Tests.{eqb-false}
 use Rattle.fields.specs.declared.Fault.TheVariants.{Record}
 use Rattle.fields.specs.declared.Offset.{Offset}
-use Rattle.fields.specs.declared.Verdict.TheVariants.{Sound, Flawed}
 use Rattle.fields.specs.Faults.{flaw}
 use Rattle.fields.proofs.Every.{Every, every-sound, every-next, every-unless, every-cond, every-over}
 use Rattle.fields.proofs.Firsts.{both, held}
@@ -27,10 +26,11 @@ use Rattle.values.specs.Segments.{room_fault, segments_for, db_fault, segment_li
 use Rattle.values.specs.Lists.{values_of, value_list_fault}
 use Rattle.values.specs.Refused.{Role, a_key, a-list, a-leaf, a-value, a-db, room_for, passes, Fit, Unfit, no_cell, no_record, Among, one_of, Lists, its-list, its-leaf, Values, its-values, its-value, Data, in_cell, in-db, in_list, in-segment}
 use Rattle.values.proofs.Cell_tests.{test_fault}
+use Rattle.std.specs.Prelude.{Err, Ok}
 
 module _ (rule : Rule) (d m : List ℕ) (ruled : Ruled rule d m) where
   -- a cell, then a test of its data
-  fit : (w : Role) (o : Offset) → test_fault (passes w) rule d m o ≡ Sound → Fit rule d w o
+  fit : (w : Role) (o : Offset) → test_fault (passes w) rule d m o ≡ Ok tt → Fit rule d w o
   fit w o e =
       let s = both (cell_fault rule d m o) _ e in
       record { used = ruled.sound-used o s.0; passing = held (passes w (data_at d o)) (flaw Record o) s.1 }
@@ -38,11 +38,11 @@ module _ (rule : Rule) (d m : List ℕ) (ruled : Ruled rule d m) where
   unfit : (w : Role) (o : Offset) → Every (Unfit rule d w o) (test_fault (passes w) rule d m o)
   unfit w o =
       every-next (Unfit rule d w o) (cell_fault rule d m o) _
-      (λ f e. rw (cell-fault-is rule d m o e) (no_cell (λ u. let z : Sound ≡ Flawed f = sym (ruled.used_sound o u) ∙ e in absurd (let y : ◌≡◌ {A = ℕ} 0 1 = cc in omega arith))))
+      (λ f e. rw (cell-fault-is rule d m o e) (no_cell (λ u. let z : (Ok tt) ≡ Err f = sym (ruled.used_sound o u) ∙ e in absurd (let y : ◌≡◌ {A = ℕ} 0 1 = cc in omega arith))))
       (λ s. every-unless (Unfit rule d w o) (passes w (data_at d o)) (flaw Record o) (no_record (ruled.sound-used o s)))
 
   -- by name
-  pub key-fit : (o : Offset) → key_fault rule d m o ≡ Sound → Fit rule d a_key o
+  pub key-fit : (o : Offset) → key_fault rule d m o ≡ Ok tt → Fit rule d a_key o
   unfolding key_fault
   key-fit o = fit a_key o
 
@@ -50,7 +50,7 @@ module _ (rule : Rule) (d m : List ℕ) (ruled : Ruled rule d m) where
   unfolding key_fault
   key-unfit o = unfit a_key o
 
-  pub list-fit : (o : Offset) → head_fault rule d m o ≡ Sound → Fit rule d a-list o
+  pub list-fit : (o : Offset) → head_fault rule d m o ≡ Ok tt → Fit rule d a-list o
   unfolding head_fault
   list-fit o = fit a-list o
 
@@ -62,7 +62,7 @@ module _ (rule : Rule) (d m : List ℕ) (ruled : Ruled rule d m) where
   unfolding leaf_fault
   leaf-unfit o = unfit a-leaf o
 
-  pub value-fit : (o : Offset) → value_fault rule d m o ≡ Sound → Fit rule d a-value o
+  pub value-fit : (o : Offset) → value_fault rule d m o ≡ Ok tt → Fit rule d a-value o
   unfolding value_fault
   value-fit o = fit a-value o
 
@@ -70,7 +70,7 @@ module _ (rule : Rule) (d m : List ℕ) (ruled : Ruled rule d m) where
   unfolding value_fault
   value-unfit o = unfit a-value o
 
-  room-fit : (o : Offset) (n : ℕ) → room_fault rule d m o n ≡ Sound → Fit rule d (room_for n) o
+  room-fit : (o : Offset) (n : ℕ) → room_fault rule d m o n ≡ Ok tt → Fit rule d (room_for n) o
   unfolding room_fault
   room-fit o n = fit (room_for n) o
 
@@ -84,9 +84,9 @@ module _ (rule : Rule) (d m : List ℕ) (ruled : Ruled rule d m) where
   lists-unfit k =
       let o = (key_of d k).list in
       let P = Among rule d (Lists rule d k) in
-      every-cond P (eqb (key_of d k).subkeys 0) Sound _ (λ z. every-sound P) (λ z.
+      every-cond P (eqb (key_of d k).subkeys 0) (Ok tt) _ (λ z. every-sound P) (λ z.
       every-next P (head_fault rule d m o) _ (λ f e. one_of (its-list (eqb-false _ _ z)) (list-unfit o f e)) (λ s.
-      every-cond P (is_ri (data_at d o)) _ Sound
+      every-cond P (is_ri (data_at d o)) _ (Ok tt)
       (λ r. every-over P (leaf_fault rule d m) (leaves_of d o) (λ l i f e. one_of (its-leaf (eqb-false _ _ z) (list-fit o s) i) (leaf-unfit l f e)))
       (λ r. every-sound P)))
 
@@ -95,10 +95,10 @@ module _ (rule : Rule) (d m : List ℕ) (ruled : Ruled rule d m) where
   unfolding value_list_fault
   value-list-unfit k =
       let P = Among rule d (Values rule d k) in
-      every-cond P (eqb (key_of d k).values 0) Sound _ (λ z. every-sound P)
+      every-cond P (eqb (key_of d k).values 0) (Ok tt) _ (λ z. every-sound P)
       (λ z f e. one_of (its-values (eqb-false _ _ z)) (room-unfit (key_of d k).value_list (4 * (key_of d k).values) f e))
 
-  pub value-named : (k v : Offset) → value_list_fault rule d m (key_of d k) ≡ Sound → Memᴰ v (values_of d (key_of d k)) → Values rule d k a-value v
+  pub value-named : (k v : Offset) → value_list_fault rule d m (key_of d k) ≡ Ok tt → Memᴰ v (values_of d (key_of d k)) → Values rule d k a-value v
   unfolding value_list_fault values_of
   value-named k v e i = by (eqb (key_of d k).values 0) refl
     where
@@ -122,5 +122,5 @@ module _ (rule : Rule) (d m : List ℕ) (ruled : Ruled rule d m) where
   data-unfit (Inline at len) = every-sound (Among rule d (Data rule d (Inline at len)))
   data-unfit (OneCell o len) =
       let P = Among rule d (Data rule d (OneCell o len)) in
-      every-cond P (eqb len 0) Sound _ (λ z. every-sound P) (λ z f e. one_of (in_cell (eqb-false _ _ z)) (room-unfit o len f e))
+      every-cond P (eqb len 0) (Ok tt) _ (λ z. every-sound P) (λ z f e. one_of (in_cell (eqb-false _ _ z)) (room-unfit o len f e))
   data-unfit (Segments o len) = segments-unfit o len

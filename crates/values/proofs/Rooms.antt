@@ -10,10 +10,8 @@ use borrow.Author.Tests.{le-leb, lt-leb, leb-true}
 use Rattle.fields.specs.declared.Offset.{Offset}
 use Rattle.fields.specs.declared.Flaw.{Flaw}
 use Rattle.fields.specs.declared.Fault.TheVariants.{Record}
-use Rattle.fields.specs.declared.Verdict.TheVariants.{Sound, Flawed}
 use Rattle.fields.specs.Faults.{flaw, nowhere}
 use Rattle.cells.specs.declared.Cell.{Cell}
-use Rattle.cells.specs.declared.Found.TheVariants.{Named, Flawed as Missing}
 use Rattle.cells.specs.declared.Rule.{Rule}
 use Rattle.cells.specs.Named.{cell_of, data_of, data_at}
 use Rattle.cells.proofs.Naming.{inside, data-length}
@@ -23,25 +21,26 @@ use Rattle.values.specs.Entries.{entries_of}
 use Rattle.values.specs.Segments.{room_fault}
 use Rattle.values.proofs.Cell_tests.{lacks, passes, refuses, says}
 use Rattle.records.proofs.LawsSequence.{offsets-length, offsets-at}
+use Rattle.std.specs.Prelude.{Err, Ok}
 
 module _ (rule : Rule) (d m : List ℕ) (o : Offset) (n : ℕ) where
-  pub room-lacks : {f : Flaw} → cell_of rule d m o ≡ Missing f → room_fault rule d m o n ≡ Flawed f
+  pub room-lacks : {f : Flaw} → cell_of rule d m o ≡ Err f → room_fault rule d m o n ≡ Err f
   unfolding room_fault
   room-lacks e = lacks (λ r. leb n (length r)) rule d m o e
 
-  module _ {c : Cell} (e : cell_of rule d m o ≡ Named c) where
+  module _ {c : Cell} (e : cell_of rule d m o ≡ Ok c) where
     long : length (data_of d c) ≡ c.len
     long = data-length d c (inside d o rule m e)
 
-    pub room-short : c.len < n → room_fault rule d m o n ≡ Flawed (flaw Record o)
+    pub room-short : c.len < n → room_fault rule d m o n ≡ Err (flaw Record o)
     unfolding room_fault
     room-short p = refuses (λ r. leb n (length r)) rule d m o e (data_of d c) refl (lt-leb n (length (data_of d c)) (omega (arith, long)))
 
-    pub room-enough : n ≤ c.len → room_fault rule d m o n ≡ Sound
+    pub room-enough : n ≤ c.len → room_fault rule d m o n ≡ Ok tt
     unfolding room_fault
     room-enough p = passes (λ r. leb n (length r)) rule d m o e (data_of d c) refl (le-leb n (length (data_of d c)) (omega (arith, long)))
 
-pub roomy : (rule : Rule) (d m : List ℕ) (o : Offset) (n : ℕ) → room_fault rule d m o n ≡ Sound → n ≤ length (data_at d o)
+pub roomy : (rule : Rule) (d m : List ℕ) (o : Offset) (n : ℕ) → room_fault rule d m o n ≡ Ok tt → n ≤ length (data_at d o)
 unfolding room_fault
 roomy rule d m o n e = leb-true n (length (data_at d o)) (says (λ r. leb n (length r)) rule d m o e)
 
@@ -56,3 +55,6 @@ module _ (d : List ℕ) (e : Entries) where
   entries_at i p =
       offsets-at (data_at d e.cell) 0 e.count i nowhere p
       ∙ ap (λ (k : ℕ). offset_at (data_at d e.cell) k) (zero-add (4 * i))
+
+-- the ways out of the test of a room
+pub ruleset room_ways = (room-lacks, room-short, room-enough)

@@ -10,9 +10,7 @@ use lib.ListN.{get_or}
 use borrow.Author.Tests.{ltb-true, ltb-false}
 use Rattle.fields.specs.declared.Offset.{Offset}
 use Rattle.fields.specs.declared.Flaw.{Flaw}
-use Rattle.fields.specs.declared.Verdict.{Verdict}
-use Rattle.fields.specs.declared.Verdict.TheVariants.{Sound, Flawed}
-use Rattle.fields.specs.Faults.{nowhere, fault_over}
+use Rattle.fields.specs.Faults.{nowhere, fault_over, Verdict}
 use Rattle.fields.proofs.Firsts.{on, stop}
 use Rattle.cells.specs.declared.Rule.{Rule}
 use Rattle.cells.specs.Named.{data_at}
@@ -23,6 +21,7 @@ use Rattle.values.specs.Entries.{entries_of}
 use Rattle.values.specs.Records.{segment_size}
 use Rattle.values.specs.Segments.{room_fault, segment_length, segments_from, segments_in, segment_fault}
 use Rattle.values.proofs.Rooms.{entries_at}
+use Rattle.std.specs.Prelude.{Err, Ok}
 
 -- what a segment takes of what is left, and what it leaves
 pub record Takes (left n : ℕ) : Type 0 where
@@ -56,11 +55,11 @@ module _ (d : List ℕ) (e : Entries) (i left : ℕ) (p : i < e.count) (o : Offs
   module _ (rule : Rule) (m : List ℕ) (size : ℕ)
       (inv : fault_over (segment_fault rule d m) (segments_in d e size)
       ≡ fault_over (segment_fault rule d m) (segments_from (data_at d e.cell) i left (e.count - i))) where
-    pub segment-stop : {f : Flaw} → room_fault rule d m o n ≡ Flawed f → fault_over (segment_fault rule d m) (segments_in d e size) ≡ Flawed f
+    pub segment-stop : {f : Flaw} → room_fault rule d m o n ≡ Err f → fault_over (segment_fault rule d m) (segments_in d e size) ≡ Err f
     unfolding fault_over segment_fault
     segment-stop x = inv ∙ ap (fault_over (segment_fault rule d m)) segments-cons ∙ stop _ _ x
 
-    pub segment-on : room_fault rule d m o n ≡ Sound
+    pub segment-on : room_fault rule d m o n ≡ Ok tt
         → fault_over (segment_fault rule d m) (segments_in d e size)
         ≡ fault_over (segment_fault rule d m) (segments_from (data_at d e.cell) (i + 1) (left - n) (e.count - (i + 1)))
     unfolding fault_over segment_fault
@@ -71,10 +70,6 @@ pub segments-nil : (s : List ℕ) (i left n : ℕ) → n ≤ i → segments_from
 unfolding segments_from
 segments-nil s i left n p = let z : n - i ≡ 0 = omega arith in rw z
 
-pub segments-start : (each : Segment → Verdict) (s : List ℕ) (left n : ℕ)
-    → fault_over each (segments_from s 0 left n) ≡ fault_over each (segments_from s 0 left (n - 0))
-segments-start each s left n = let z : n ≡ n - 0 = omega arith in ap (λ (k : ℕ). fault_over each (segments_from s 0 left k)) z
-
-pub segments-end : (each : Segment → Verdict) (s : List ℕ) (i left n : ℕ) → n ≤ i → fault_over each (segments_from s i left (n - i)) ≡ Sound
+pub segments-end : (each : Segment → Verdict) (s : List ℕ) (i left n : ℕ) → n ≤ i → fault_over each (segments_from s i left (n - i)) ≡ Ok tt
 unfolding fault_over
 segments-end each s i left n p = rw (segments-nil s i left n p)

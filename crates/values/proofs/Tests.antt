@@ -1,44 +1,15 @@
--- The tests of a value record, a law for each way out.
-use Prim.Native.Nat.{ℕ, ◌+◌, ◌<◌, ◌≤◌}
+-- What the tests of a value record say.
+use Prim.Native.Nat.{ℕ, ◌+◌, ◌≤◌}
 use mathlib.Core.Path.{◌≡◌}
-use mathlib.Core.Bool.{Bool, true, false}
+use mathlib.Core.Bool.{true}
 use mathlib.Core.List.{List, [], ◌∷◌}
 use lib.Dec.{leb}
 use lib.ListN.{length}
-use borrow.Author.Tests.{lt-leb, le-leb, leb-true}
+use borrow.Author.Tests.{leb-true}
 use Rattle.fields.specs.Number.{u16_at, u32_at}
 use Rattle.fields.specs.Bytes.{stands_at}
 use Rattle.fields.proofs.Bools.{and-inv}
 use Rattle.values.specs.Records.{value_narrow, is_value_name, is_data_size, is_old_value, is_value}
-
-module _ (r : List ℕ) where
-  pub short : length r < 20 → is_old_value r ≡ false
-  unfolding is_old_value
-  short p = rw (lt-leb 20 (length r) p)
-
-  module _ (long : 20 ≤ length r) where
-    pub other-signature : stands_at r 0 (118 ∷ 107 ∷ []) ≡ false → is_old_value r ≡ false
-    unfolding is_old_value
-    other-signature p = rw (le-leb 20 (length r) long, p)
-
-    module _ (signed : stands_at r 0 (118 ∷ 107 ∷ []) ≡ true) where
-      pub cut : length r < 20 + u16_at r 2 → is_old_value r ≡ false
-      unfolding is_old_value
-      cut p = rw (le-leb 20 (length r) long, signed, lt-leb (20 + u16_at r 2) (length r) p)
-
-      pub by_name : 20 + u16_at r 2 ≤ length r → (len : ℕ) (narrow : Bool) → len ≡ u16_at r 2 → narrow ≡ value_narrow r
-          → is_old_value r ≡ is_value_name len narrow
-      unfolding is_old_value
-      by_name room len narrow is flag = rw (le-leb 20 (length r) long, signed, le-leb (20 + u16_at r 2) (length r) room, ← is, ← flag)
-
-  -- the data size is tested last
-  pub not-old : is_old_value r ≡ false → is_value r ≡ false
-  unfolding is_value
-  not-old p = rw p
-
-  pub by_size : is_old_value r ≡ true → is_value r ≡ is_data_size (u32_at r 4)
-  unfolding is_value
-  by_size p = rw p
 
 -- what a value record is, but for its data
 pub record Old (r : List ℕ) : Type 0 where
@@ -74,3 +45,7 @@ kept r e =
     let a = and-inv (is_old_value r) _ e in
     let o = old r a.0 in
     record { old_value = a.0; long = o.long; room = o.room; name = o.name; size = a.1 }
+
+-- its fixed part
+pub value_long : (r : List ℕ) → is_value r ≡ true → 20 ≤ length r
+value_long r e = (kept r e).long

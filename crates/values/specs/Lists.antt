@@ -1,9 +1,7 @@
 -- "Value list: offsets." The values of a key, in order, with their data.
-use Rattle.std.specs.Prelude.{ℕ, ◌*◌, cond, List, [], eqb}
+use Rattle.std.specs.Prelude.{ℕ, ◌*◌, cond, List, [], eqb, Ok}
 use Rattle.fields.specs.declared.Offset.{Offset}
-use Rattle.fields.specs.declared.Verdict.{Verdict}
-use Rattle.fields.specs.declared.Verdict.TheVariants.{Sound}
-use Rattle.fields.specs.Faults.{nowhere, ◌next◌, fault_over}
+use Rattle.fields.specs.Faults.{nowhere, ◌next◌, fault_over, Verdict}
 use Rattle.cells.specs.declared.Rule.{Rule}
 use Rattle.cells.specs.Named.{data_at}
 use Rattle.records.specs.declared.Key.{Key}
@@ -19,7 +17,7 @@ values_of d k = cond (eqb k.values 0) [] (offsets_at (data_at d k.value_list) 0 
 
 -- the list's cell, and its room for all elements: 12 at the list's cell
 unfoldable pub value_list_fault : Rule → List ℕ → List ℕ → Key → Verdict
-value_list_fault rule d m k = cond (eqb k.values 0) Sound (room_fault rule d m k.value_list (4 * k.values))
+value_list_fault rule d m k = cond (eqb k.values 0) (Ok tt) (room_fault rule d m k.value_list (4 * k.values))
 
 -- where the elements of a value list stand; value count 0 has none
 unfoldable pub value_entries : Key → Entries

@@ -1,23 +1,20 @@
 -- "Value `vk`: name length at 2 (at most 16,383 characters, even bytes if UTF-16), data size at 4, data offset at 8, type at 12, flags at 16
 -- (0x0001: one byte per character), name at 20." Below, r is the data of a cell.
-use Rattle.std.specs.Prelude.{ℕ, ◌+◌, ◌-◌, Bool, cond, ◌&&◌, List, [], ◌∷◌, leb, ltb, length}
+use Rattle.std.specs.Prelude.{ℕ, ◌+◌, ◌-◌, Bool, cond, ◌&&◌, List, [], ◌∷◌, leb, ltb, length, Err, Ok, Result}
 use Rattle.fields.specs.declared.Fault.TheVariants.{Record}
 use Rattle.fields.specs.declared.Offset.{Offset}
-use Rattle.fields.specs.declared.Verdict.{Verdict}
-use Rattle.fields.specs.declared.Verdict.TheVariants.{Sound, Flawed}
 use Rattle.fields.specs.Number.{u16_at, u32_at}
 use Rattle.fields.specs.Bytes.{stands_at}
-use Rattle.fields.specs.Faults.{flaw, unless, ◌next◌}
+use Rattle.fields.specs.Faults.{flaw, unless, ◌next◌, Verdict}
 use Rattle.cells.specs.declared.Rule.{Rule}
 use Rattle.cells.specs.Named.{cell_fault, data_at}
 use Rattle.names.specs.Codes.{characters_in}
 use Rattle.records.specs.Keys.{is_flagged, is_whole}
 use Rattle.records.specs.Offsets.{offset_at}
 use Rattle.values.specs.declared.Value.{Value}
-use Rattle.values.specs.declared.Valued.{Valued}
-use Rattle.values.specs.declared.Valued.TheVariants as valued_as
 use Rattle.values.specs.declared.ValueData.{ValueData}
 use Rattle.values.specs.declared.ValueData.TheVariants.{Inline, OneCell, Segments}
+use Rattle.fields.specs.declared.Flaw.{Flaw}
 
 abbrev pub value_narrow : List ℕ → Bool
 value_narrow r = is_flagged (u16_at r 16) 1
@@ -82,6 +79,6 @@ unfoldable pub value_of : List ℕ → ℕ → Offset → Value
 value_of d minor v = fields_of (data_at d v) minor v
 
 -- the value, where its tests are sound
-abbrev pub valued : Verdict → Value → Valued
-valued Sound x = valued_as.Whole x
-valued (Flawed f) x = valued_as.Flawed f
+abbrev pub valued : Verdict → Value → Result Value Flaw
+valued (Ok tt) x = Ok x
+valued (Err f) x = Err f

@@ -1,12 +1,10 @@
 -- The data of a value: the tests of its cells, and its bytes.
-use Rattle.std.specs.Prelude.{ℕ, zero, suc, ◌+◌, ◌-◌, ◌*◌, ◌/◌, Bool, cond, ◌&&◌, List, [], ◌∷◌, ◌++◌, eqb, leb, ltb, length, take, drop}
+use Rattle.std.specs.Prelude.{ℕ, zero, suc, ◌+◌, ◌-◌, ◌*◌, ◌/◌, Bool, cond, ◌&&◌, List, [], ◌∷◌, ◌++◌, eqb, leb, ltb, length, take, drop, Ok}
 use Rattle.fields.specs.declared.Fault.TheVariants.{Record}
 use Rattle.fields.specs.declared.Offset.{Offset}
-use Rattle.fields.specs.declared.Verdict.{Verdict}
-use Rattle.fields.specs.declared.Verdict.TheVariants.{Sound}
 use Rattle.fields.specs.Number.{u16_at}
 use Rattle.fields.specs.Bytes.{stands_at}
-use Rattle.fields.specs.Faults.{flaw, unless, ◌next◌, fault_over}
+use Rattle.fields.specs.Faults.{flaw, unless, ◌next◌, fault_over, Verdict}
 use Rattle.cells.specs.declared.Rule.{Rule}
 use Rattle.cells.specs.Named.{cell_fault, data_at}
 use Rattle.records.specs.Offsets.{offset_at}
@@ -65,8 +63,8 @@ segments_fault rule d m o size =
 
 -- "size 0 reads nothing"
 unfoldable pub data_fault : Rule → List ℕ → List ℕ → ValueData → Verdict
-data_fault rule d m (Inline v len) = Sound
-data_fault rule d m (OneCell o len) = cond (eqb len 0) Sound (room_fault rule d m o len)
+data_fault rule d m (Inline v len) = Ok tt
+data_fault rule d m (OneCell o len) = cond (eqb len 0) (Ok tt) (room_fault rule d m o len)
 data_fault rule d m (Segments o len) = segments_fault rule d m o len
 
 -- the bytes: what a segment holds, and what a value's record names; inline data "lie at 8" of the record

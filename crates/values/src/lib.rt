@@ -12,29 +12,29 @@ ghost use Rattle.values.specs.Segments.{room_fault, segments_for, is_db, segment
 ghost use Rattle.values.specs.Parts.{part_of};
 ghost use Rattle.values.specs.Lists.{value_list_fault, value_entries, whole_value_fault, values_fault};
 
-use cells::{Found, Rule};
-use fields::{Fault, Flaw, Offset, Verdict};
+use cells::Rule;
+use fields::{Fault, Flaw, Offset};
 
 // "at most 16,383 characters, even bytes if UTF-16"
+#[tactic(auto, unfolding(crate::specs::Records::is_value_name))]
 fn is_value_name(len: usize, narrow: bool) -> bool
     ensures { result ≡ is_value_name len narrow }
 {
-    if !records::is_whole(len, narrow) {
-        return false;
-    }
-    names::characters(len, narrow) <= 16383
+    records::is_whole(len, narrow) && names::characters(len, narrow) <= 16383
 }
 
 const TOP_BIT: u32 = 0x8000_0000;
 
 // "Top bit of the size set: length at most 4, bytes lie at 8. Otherwise at most 1,048,576"
+#[tactic(auto, unfolding(crate::specs::Records::is_data_size))]
 fn is_data_size(size: u32) -> bool
     ensures { result ≡ is_data_size size }
 {
     if TOP_BIT <= size {
-        return size - TOP_BIT <= 4;
+        size - TOP_BIT <= 4
+    } else {
+        size <= 1_048_576
     }
-    size <= 1_048_576
 }
 
 // "flags at 16 (0x0001: one byte per character)"
@@ -46,30 +46,23 @@ pub fn is_narrow(r: &[u8]) -> bool
 }
 
 // Whether bytes start with a value record: 20 bytes and the name, whatever it says of its data.
+#[tactic(auto, unfolding(crate::specs::Records::is_old_value))]
 pub fn is_old_value(r: &[u8]) -> bool
     ensures { result ≡ is_old_value r.now }
 {
-    if r.len() < 20 {
-        return false;
-    }
-    if !fields::stands_at(r, 0, b"vk") {
+    if r.len() < 20 || !fields::stands_at(r, 0, b"vk") {
         return false;
     }
     let len = fields::u16_at(r, 2) as usize;
-    if r.len() < 20 + len {
-        return false;
-    }
-    is_value_name(len, is_narrow(r))
+    20 + len <= r.len() && is_value_name(len, is_narrow(r))
 }
 
 // Whether a cell's data hold a value record: with a data size that may be.
+#[tactic(auto, unfolding(crate::specs::Records::is_value), using(crate::proofs::Tests::old))]
 fn is_value(r: &[u8]) -> bool
     ensures { result ≡ is_value r.now }
 {
-    if !is_old_value(r) {
-        return false;
-    }
-    is_data_size(fields::u32_at(r, 4))
+    is_old_value(r) && is_data_size(fields::u32_at(r, 4))
 }
 
 // "data are inline, in one cell or in segments": value data as an enum with three cases carrying offset and length, read by view and copy. Each names a
@@ -89,26 +82,19 @@ pub struct Value {
     pub name: records::Name,
 }
 
-#[derive(Clone, Copy)]
-pub enum Valued {
-    Whole(Value),
-    Flawed(Flaw),
-}
-
 // "each segment but the last holds 16,344 bytes"
 const SEGMENT_SIZE: usize = 16344;
 
 // "Over 16,344 with minor 4 or 5: the cell holds `db`"
+#[tactic(auto, unfolding(crate::specs::Records::is_segmented))]
 fn is_segmented(minor: u32, size: u32) -> bool
     ensures { result ≡ is_segmented minor size }
 {
-    if size as usize <= SEGMENT_SIZE {
-        return false;
-    }
-    4 <= minor
+    SEGMENT_SIZE < size as usize && 4 <= minor
 }
 
 // Where the data lie, by the record of the value at an offset.
+#[tactic(auto, unfolding(crate::specs::Records::content_of))]
 fn content_of(r: &[u8], minor: u32, v: Offset) -> ValueData
     requires { 12 ≤ length r.now }
     ensures { result ≡ content_of r.now minor v }
@@ -122,63 +108,56 @@ fn content_of(r: &[u8], minor: u32, v: Offset) -> ValueData
     }
     let cell = Offset(fields::u32_at(r, 8));
     if is_segmented(minor, size) {
-        return ValueData::Segments { cell, len: size };
+        ValueData::Segments { cell, len: size }
+    } else {
+        ValueData::OneCell { cell, len: size }
     }
-    ValueData::OneCell { cell, len: size }
 }
 
 // The fields of the record of the value at an offset.
+#[tactic(auto, unfolding(crate::specs::Records::fields_of))]
 fn fields_of(r: &[u8], minor: u32, v: Offset) -> Value
     requires { 20 ≤ length r.now }
     ensures { result ≡ fields_of r.now minor v }
 {
-    let content = content_of(r, minor, v);
-    let name = records::Name {
-        cell: v,
-        at: 20,
-        len: fields::u16_at(r, 2) as usize,
-        narrow: is_narrow(r),
-    };
     Value {
         kind: fields::u32_at(r, 12),
-        content,
-        name,
+        content: content_of(r, minor, v),
+        name: records::Name {
+            cell: v,
+            at: 20,
+            len: fields::u16_at(r, 2) as usize,
+            narrow: is_narrow(r),
+        },
     }
 }
 
 // The value at an offset, parsed once: its cell, then its record.
-pub fn value_at(bins: &[u8], map: &[u8], rule: Rule, minor: u32, v: Offset) -> Valued
+#[tactic(auto, using(crate::proofs::Valued_at::value_ways, cells::proofs::Naming::inside, crate::proofs::Tests::value_long))]
+pub fn value_at(bins: &[u8], map: &[u8], rule: Rule, minor: u32, v: Offset) -> Result<Value, Flaw>
     ensures { result ≡ valued (value_fault rule bins.now map.now v) (value_of bins.now minor v) }
 {
-    match cells::find_cell(bins, map, rule, v) {
-        Found::Flawed(f) => Valued::Flawed(f),
-        Found::Named(c) => {
-            let r = cells::cell_data(bins, c);
-            if !is_value(r) {
-                return Valued::Flawed(Flaw {
-                    fault: Fault::Record,
-                    place: v,
-                });
-            }
-            Valued::Whole(fields_of(r, minor, v))
-        }
+    let c = cells::find_cell(bins, map, rule, v)?;
+    let r = cells::cell_data(bins, c);
+    if !is_value(r) {
+        return Err(Flaw {
+            fault: Fault::Record,
+            place: v,
+        });
     }
+    Ok(fields_of(r, minor, v))
 }
 
 // An offset names a cell with room for so many bytes: 11, or 12 at that cell.
-fn room_flaw(bins: &[u8], map: &[u8], rule: Rule, o: Offset, n: usize) -> Verdict
+#[tactic(auto, using(crate::proofs::Rooms::room_ways))]
+fn room_flaw(bins: &[u8], map: &[u8], rule: Rule, o: Offset, n: usize) -> Result<(), Flaw>
     ensures { result ≡ room_fault rule bins.now map.now o n }
 {
-    match cells::find_cell(bins, map, rule, o) {
-        Found::Flawed(f) => Verdict::Flawed(f),
-        Found::Named(c) => {
-            let len = c.len;
-            if len < n {
-                return fields::flawed(Fault::Record, o);
-            }
-            Verdict::Sound
-        }
+    let c = cells::find_cell(bins, map, rule, o)?;
+    if c.len < n {
+        return fields::flawed(Fault::Record, o);
     }
+    Ok(())
 }
 
 // Offsets that stand one after the other from the start of a cell's data on: the elements of a value list or of a segment list.
@@ -188,23 +167,13 @@ pub struct Entries {
     pub count: usize,
 }
 
-#[derive(Clone, Copy)]
-pub enum Entered {
-    Whole(Entries),
-    Flawed(Flaw),
-}
-
 // The list whose cell an offset names, with room for so many elements.
-fn list_at(bins: &[u8], map: &[u8], rule: Rule, o: Offset, count: u32) -> Entered
+fn list_at(bins: &[u8], map: &[u8], rule: Rule, o: Offset, count: u32) -> Result<Entries, Flaw>
     ensures { result ≡ entered (room_fault rule bins.now map.now o (4 * count)) (entries_at o count) }
 {
-    match room_flaw(bins, map, rule, o, 4 * (count as usize)) {
-        Verdict::Flawed(f) => Entered::Flawed(f),
-        Verdict::Sound => Entered::Whole(Entries {
-            cell: o,
-            count: count as usize,
-        }),
-    }
+    let count = count as usize;
+    room_flaw(bins, map, rule, o, 4 * count)?;
+    Ok(Entries { cell: o, count })
 }
 
 // Element i of a list.
@@ -224,163 +193,144 @@ pub struct Segment {
 }
 
 // "count is size / 16,344 rounded up"
+#[tactic(auto, unfolding(crate::specs::Segments::segments_for))]
 fn segments_for(size: u32) -> u32
     ensures { result ≡ segments_for size }
 {
-    ((size as usize + (SEGMENT_SIZE - 1)) / SEGMENT_SIZE) as u32
+    (size as usize).div_ceil(SEGMENT_SIZE) as u32
 }
 
 // "each segment but the last holds 16,344 bytes", of so many that are left
+#[tactic(auto, unfolding(crate::specs::Segments::segment_length))]
 fn segment_length(left: usize) -> usize
     ensures { result ≡ segment_length left }
 {
-    if SEGMENT_SIZE < left {
-        SEGMENT_SIZE
-    } else {
-        left
-    }
+    left.min(SEGMENT_SIZE)
 }
 
 // "the cell holds `db`, segment count at 2, offset of the segment list at 4"
+#[tactic(auto, unfolding(crate::specs::Segments::is_db))]
 fn is_db(r: &[u8], size: u32) -> bool
     ensures { result ≡ is_db r.now size }
 {
-    if r.len() < 8 {
-        return false;
-    }
-    if !fields::stands_at(r, 0, b"db") {
-        return false;
-    }
-    fields::u16_at(r, 2) as u32 == segments_for(size)
+    8 <= r.len()
+        && fields::stands_at(r, 0, b"db")
+        && u32::from(fields::u16_at(r, 2)) == segments_for(size)
 }
 
 // "`db` cell and record, segment list's cell and room"
-fn segment_list(bins: &[u8], map: &[u8], rule: Rule, o: Offset, size: u32) -> Entered
+#[tactic(auto, using(crate::proofs::Segment_faults::db_ways, cells::proofs::Naming::inside))]
+fn segment_list(bins: &[u8], map: &[u8], rule: Rule, o: Offset, size: u32) -> Result<Entries, Flaw>
     ensures { result ≡ entered (segment_list_fault rule bins.now map.now o size) (entries_at (segment_list bins.now o) (segments_for size)) }
 {
-    match cells::find_cell(bins, map, rule, o) {
-        Found::Flawed(f) => Entered::Flawed(f),
-        Found::Named(c) => {
-            let r = cells::cell_data(bins, c);
-            if !is_db(r, size) {
-                return Entered::Flawed(Flaw {
-                    fault: Fault::Record,
-                    place: o,
-                });
-            }
-            let list = Offset(fields::u32_at(r, 4));
-            list_at(bins, map, rule, list, segments_for(size))
-        }
+    let c = cells::find_cell(bins, map, rule, o)?;
+    let r = cells::cell_data(bins, c);
+    if !is_db(r, size) {
+        return Err(Flaw {
+            fault: Fault::Record,
+            place: o,
+        });
     }
+    list_at(
+        bins,
+        map,
+        rule,
+        Offset(fields::u32_at(r, 4)),
+        segments_for(size),
+    )
 }
 
 // ".. then the segments in order, each 11 then 12"
-fn each_segment_flaw(bins: &[u8], map: &[u8], rule: Rule, e: Entries, size: usize) -> Verdict
+fn each_segment_flaw(
+    bins: &[u8],
+    map: &[u8],
+    rule: Rule,
+    e: Entries,
+    size: usize,
+) -> Result<(), Flaw>
     requires { Room bins.now e }
     ensures { result ≡ fault_over (segment_fault rule bins.now map.now) (segments_in bins.now e size) }
 {
-    let count = e.count;
     let mut left = size;
-    let mut i: usize = 0;
-    while i < count {
+    for i in 0..e.count {
         let n = segment_length(left);
-        let s = entry(bins, e, i);
-        match room_flaw(bins, map, rule, s, n) {
-            Verdict::Flawed(f) => {
-                return Verdict::Flawed(f);
-            }
-            Verdict::Sound => {}
-        }
+        room_flaw(bins, map, rule, entry(bins, e, i), n)?;
         left -= n;
-        i += 1;
     }
-    Verdict::Sound
+    Ok(())
 }
 
-fn segments_flaw(bins: &[u8], map: &[u8], rule: Rule, o: Offset, size: u32) -> Verdict
+#[tactic(auto, using(crate::proofs::Segment_faults::segments_ways))]
+fn segments_flaw(bins: &[u8], map: &[u8], rule: Rule, o: Offset, size: u32) -> Result<(), Flaw>
     ensures { result ≡ segments_fault rule bins.now map.now o size }
 {
-    match segment_list(bins, map, rule, o, size) {
-        Entered::Flawed(f) => Verdict::Flawed(f),
-        Entered::Whole(e) => each_segment_flaw(bins, map, rule, e, size as usize),
-    }
+    let e = segment_list(bins, map, rule, o, size)?;
+    each_segment_flaw(bins, map, rule, e, size as usize)
 }
 
 // The data's own 11 and 12. "size 0 reads nothing"
-pub fn data_flaw(bins: &[u8], map: &[u8], rule: Rule, x: ValueData) -> Verdict
+#[tactic(auto, unfolding(crate::specs::Segments::data_fault))]
+pub fn data_flaw(bins: &[u8], map: &[u8], rule: Rule, x: ValueData) -> Result<(), Flaw>
     ensures { result ≡ data_fault rule bins.now map.now x }
 {
     match x {
-        ValueData::Inline { cell: _, len: _ } => Verdict::Sound,
-        ValueData::OneCell { cell, len } => {
-            if len == 0 {
-                return Verdict::Sound;
-            }
-            room_flaw(bins, map, rule, cell, len as usize)
-        }
+        ValueData::Inline { .. } | ValueData::OneCell { len: 0, .. } => Ok(()),
+        ValueData::OneCell { cell, len } => room_flaw(bins, map, rule, cell, len as usize),
         ValueData::Segments { cell, len } => segments_flaw(bins, map, rule, cell, len),
     }
 }
 
 // A value's record, then its data. The check wants no name and no type, so they are not gathered.
-fn whole_value_flaw(bins: &[u8], map: &[u8], rule: Rule, minor: u32, v: Offset) -> Verdict
+#[tactic(auto, using(crate::proofs::Valued_at::whole_ways, cells::proofs::Naming::inside, crate::proofs::Tests::value_long))]
+fn whole_value_flaw(bins: &[u8], map: &[u8], rule: Rule, minor: u32, v: Offset) -> Result<(), Flaw>
     ensures { result ≡ whole_value_fault rule bins.now map.now minor v }
 {
-    match cells::find_cell(bins, map, rule, v) {
-        Found::Flawed(f) => Verdict::Flawed(f),
-        Found::Named(c) => {
-            let r = cells::cell_data(bins, c);
-            if !is_value(r) {
-                return fields::flawed(Fault::Record, v);
-            }
-            data_flaw(bins, map, rule, content_of(r, minor, v))
-        }
+    let c = cells::find_cell(bins, map, rule, v)?;
+    let r = cells::cell_data(bins, c);
+    if !is_value(r) {
+        return fields::flawed(Fault::Record, v);
     }
+    data_flaw(bins, map, rule, content_of(r, minor, v))
 }
 
 // The value list of a key: its cell, and its room for all elements. Value count 0 reads nothing.
-pub fn value_list(bins: &[u8], map: &[u8], rule: Rule, k: records::Key) -> Entered
+#[tactic(auto, unfolding(crate::specs::Lists::value_list_fault, crate::specs::Lists::value_entries))]
+pub fn value_list(bins: &[u8], map: &[u8], rule: Rule, k: records::Key) -> Result<Entries, Flaw>
     ensures { result ≡ entered (value_list_fault rule bins.now map.now k) (value_entries k) }
 {
-    let count = k.values;
-    let list = k.value_list;
-    if count == 0 {
-        return Entered::Whole(Entries {
+    if k.values == 0 {
+        return Ok(Entries {
             cell: Offset(0),
             count: 0,
         });
     }
-    list_at(bins, map, rule, list, count)
+    list_at(bins, map, rule, k.value_list, k.values)
 }
 
 // "values in order with their data": a value's record, then its data, then the next value.
-fn each_value_flaw(bins: &[u8], map: &[u8], rule: Rule, minor: u32, e: Entries) -> Verdict
+fn each_value_flaw(bins: &[u8], map: &[u8], rule: Rule, minor: u32, e: Entries) -> Result<(), Flaw>
     requires { Room bins.now e }
     ensures { result ≡ fault_over (whole_value_fault rule bins.now map.now minor) (entries_of bins.now e) }
 {
-    let count = e.count;
-    let mut seen: usize = 0;
-    while seen < count {
-        let v = entry(bins, e, seen);
-        match whole_value_flaw(bins, map, rule, minor, v) {
-            Verdict::Flawed(f) => {
-                return Verdict::Flawed(f);
-            }
-            Verdict::Sound => {}
-        }
-        seen += 1;
+    for i in 0..e.count {
+        whole_value_flaw(bins, map, rule, minor, entry(bins, e, i))?;
     }
-    Verdict::Sound
+    Ok(())
 }
 
 // The check's stage of a key's values.
-pub fn values_flaw(bins: &[u8], map: &[u8], rule: Rule, minor: u32, k: records::Key) -> Verdict
+#[tactic(auto, using(crate::proofs::LawsLists::values_ways))]
+pub fn values_flaw(
+    bins: &[u8],
+    map: &[u8],
+    rule: Rule,
+    minor: u32,
+    k: records::Key,
+) -> Result<(), Flaw>
     ensures { result ≡ values_fault rule bins.now map.now minor k }
 {
-    match value_list(bins, map, rule, k) {
-        Entered::Flawed(f) => Verdict::Flawed(f),
-        Entered::Whole(e) => each_value_flaw(bins, map, rule, minor, e),
-    }
+    let e = value_list(bins, map, rule, k)?;
+    each_value_flaw(bins, map, rule, minor, e)
 }
 
 // A part of a cell's data: so many bytes from a position on.
@@ -393,6 +343,7 @@ pub struct Part {
 
 // Where data in one piece lie, for a view and for a copy: "bytes lie at 8" of the value's record, or at the start of their cell, where segmented data
 // have their `db`.
+#[tactic(auto, unfolding(crate::specs::Parts::part_of))]
 pub fn part_of(x: ValueData) -> Part
     ensures { result ≡ part_of x }
 {
@@ -402,12 +353,7 @@ pub fn part_of(x: ValueData) -> Part
             at: 8,
             len: len as usize,
         },
-        ValueData::OneCell { cell, len } => Part {
-            cell,
-            at: 0,
-            len: len as usize,
-        },
-        ValueData::Segments { cell, len } => Part {
+        ValueData::OneCell { cell, len } | ValueData::Segments { cell, len } => Part {
             cell,
             at: 0,
             len: len as usize,
@@ -421,12 +367,10 @@ fn copy_part(bins: &[u8], p: Part, out: &mut [u8], to: usize)
     requires len_in_bounds_2 { to + p.len ≤ length out.old }
     ensures { out.new ≡ paste out.old to (drop p.at (data_at bins.now p.cell)) p.len }
 {
-    let n = p.len;
-    if n == 0 {
+    if p.len == 0 {
         return;
     }
-    let stop = to + n;
-    fields::copy_all(cells::part_in(bins, p.cell, p.at, n), &mut out[to..stop]);
+    out[to..to + p.len].copy_from_slice(cells::part_in(bins, p.cell, p.at, p.len));
 }
 
 // The segments' bytes, one after the other.
@@ -435,20 +379,16 @@ fn copy_segments(bins: &[u8], e: Entries, size: usize, out: &mut [u8])
     requires size_in_bounds { size ≤ length out.old }
     ensures { out.new ≡ joined_bytes bins.now (segments_in bins.now e size) ++ drop size out.old }
 {
-    let count = e.count;
     let mut left = size;
-    let mut i: usize = 0;
-    while i < count {
+    for i in 0..e.count {
         let n = segment_length(left);
-        let s = entry(bins, e, i);
         let p = Part {
-            cell: s,
+            cell: entry(bins, e, i),
             at: 0,
             len: n,
         };
         copy_part(bins, p, out, size - left);
         left -= n;
-        i += 1;
     }
 }
 
@@ -470,11 +410,12 @@ pub fn copy_data(bins: &[u8], x: ValueData, out: &mut [u8])
     ensures { out.new ≡ bytes_of bins.now x ++ drop (length_of x) out.old }
 {
     match x {
-        ValueData::Inline { cell: _, len: _ } => copy_part(bins, part_of(x), out, 0),
-        ValueData::OneCell { cell: _, len: _ } => copy_part(bins, part_of(x), out, 0),
-        ValueData::Segments { cell, len } => {
-            let e = segments_at(bins, cell, len);
-            copy_segments(bins, e, len as usize, out);
-        }
+        ValueData::Inline { .. } | ValueData::OneCell { .. } => copy_part(bins, part_of(x), out, 0),
+        ValueData::Segments { cell, len } => copy_segments(
+            bins,
+            segments_at(bins, cell, len),
+            len as usize,
+            out,
+        ),
     }
 }

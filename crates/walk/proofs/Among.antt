@@ -11,7 +11,6 @@ use lib.ListN.{length, get_or, drop, length-append, get_or-append}
 use lib.Seq.{drop-cons, drop-nil, drop-append_seam}
 use borrow.Author.Tests.{eqb-false, leb-true, leb-false, ltb-true, ltb-false, lt-leb}
 use Rattle.fields.specs.declared.Offset.{Offset}
-use Rattle.fields.specs.declared.Verdict.TheVariants.{Sound}
 use Rattle.fields.specs.Faults.{nowhere}
 use Rattle.fields.proofs.Loops.{drop_all}
 use Rattle.cells.specs.declared.Rule.TheVariants.{Header}
@@ -28,10 +27,10 @@ use Rattle.tree.specs.WellFormed.{KeyStands}
 use Rattle.search.proofs.Finds.{list-head, leaves-good}
 use Rattle.search.proofs.Refusals.{in-leaves}
 use Rattle.walk.specs.declared.Mark.{Mark}
-use Rattle.walk.specs.declared.Next.{Next}
-use Rattle.walk.specs.declared.Next.TheVariants.{Comes, End}
 use Rattle.walk.specs.Answers.{mark_after, next_of, next_in, next_below}
 use Rattle.walk.proofs.Ways.{after_more, after_last}
+use Rattle.fields.specs.declared.Flaw.{Flaw}
+use Rattle.std.specs.Prelude.{None, Ok, Option, Result, Some}
 
 -- the elements of leaf j, and those of all leaves from a mark on
 abbrev pub elements_in : List ℕ → List Offset → ℕ → List Child
@@ -49,11 +48,11 @@ pub record Inside (d : List ℕ) (ls : List Offset) (m : Mark) : Type 0 where
   pub inside : m.leaf < length ls → m.element < length (elements_in d ls m.leaf)
 
 -- what comes next
-pub data NextIs (d : List ℕ) (ls : List Offset) (m : Mark) : Next → Type 0 where
-  no_more : left d ls m ≡ [] → NextIs d ls m End
-  one_more : (c : Child) (m' : Mark) → left d ls m ≡ c ∷ left d ls m' → Memᴰ c (children_in d ls) → Inside d ls m' → NextIs d ls m (Comes c.at m')
+pub data NextIs (d : List ℕ) (ls : List Offset) (m : Mark) : Result (Option (Offset × Mark)) Flaw → Type 0 where
+  no_more : left d ls m ≡ [] → NextIs d ls m (Ok None)
+  one_more : (c : Child) (m' : Mark) → left d ls m ≡ c ∷ left d ls m' → Memᴰ c (children_in d ls) → Inside d ls m' → NextIs d ls m (Ok (Some (c.at, m')))
 
-module _ (d : List ℕ) (ls : List Offset) (good : (l : Offset) → Memᴰ l ls → leaf_fault Header d [] l ≡ Sound) where
+module _ (d : List ℕ) (ls : List Offset) (good : (l : Offset) → Memᴰ l ls → leaf_fault Header d [] l ≡ Ok tt) where
   -- at the first element of a leaf
   pub inside-first : (j : ℕ) → Inside d ls (record { leaf = j; element = 0 })
   inside-first j =
@@ -131,11 +130,11 @@ module _ (d : List ℕ) (ls : List Offset) (good : (l : Offset) → Memᴰ l ls 
 -- below a key that stands
 module _ (d : List ℕ) (hive : Hive) (tiles : BinsTile d 0) (o : Offset) (s : KeyStands d hive.minor o) where
   -- its leaves are good
-  pub below-good : (l : Offset) → Memᴰ l (leaves_below d (key_of d o)) → leaf_fault Header d [] l ≡ Sound
+  pub below-good : (l : Offset) → Memᴰ l (leaves_below d (key_of d o)) → leaf_fault Header d [] l ≡ Ok tt
   unfolding leaves_below
   below-good l = by (eqb (key_of d o).subkeys 0) refl
     where
-      by : (t : Bool) → eqb (key_of d o).subkeys 0 ≡ t → Memᴰ l (leaves_below d (key_of d o)) → leaf_fault Header d [] l ≡ Sound
+      by : (t : Bool) → eqb (key_of d o).subkeys 0 ≡ t → Memᴰ l (leaves_below d (key_of d o)) → leaf_fault Header d [] l ≡ Ok tt
       by true e i = absurd (Memᴰ.not-nil (rw e at i))
       by false e i = leaves-good d hive tiles (key_of d o).list (s.lists (eqb-false _ _ e)) l (rw e at i)
 

@@ -14,12 +14,10 @@ use lib.Seq.{sets, length-sets, get_or-set_same, get_or-set_other}
 use borrow.Author.Tests.{ltb-true, ltb-false}
 use Rattle.fields.specs.declared.Offset.{Offset}
 use Rattle.fields.specs.declared.Refusal.{Refusal}
-use Rattle.fields.specs.declared.Verdict.TheVariants.{Sound}
 use Rattle.base.specs.Block.{bins_data, base_fault}
 use Rattle.base.proofs.Laws.{facts-base}
 use Rattle.cells.specs.declared.Rule.TheVariants.{Header}
 use Rattle.records.specs.declared.Child.{Child}
-use Rattle.records.specs.declared.Called.TheVariants as name_as
 use Rattle.records.specs.Keys.{key_fault, key_of, called}
 use Rattle.records.specs.Listed.{joined, keys_in}
 use Rattle.records.specs.Lists.{leaves_below, children_below, children}
@@ -27,28 +25,28 @@ use Rattle.tree.specs.Tree.{levels, hive_of, keys_of}
 use Rattle.tree.specs.WellFormed.{KeyStands, TreeStands, key, CleanAndWellFormed}
 use Rattle.search.proofs.Finds.{key-good}
 use Rattle.listing.specs.Members.{entry_of}
-use Rattle.walk.specs.declared.Offer.{Offer}
 use Rattle.walk.specs.declared.Mark.{Mark}
-use Rattle.walk.specs.declared.Next.{Next}
-use Rattle.walk.specs.declared.Next.TheVariants.{Comes, End}
-use Rattle.walk.specs.declared.Walked.{Walked}
-use Rattle.walk.specs.declared.Walked.TheVariants.{Opens, Closes, Over, Refused}
+use Rattle.walk.specs.declared.Walked.TheVariants.{Opens, Closes}
 use Rattle.walk.specs.Answers.{key_at, mark_at, next_below, step_at, answer_of, levels_after, step_answer, step_levels, begin_answer, begin_levels}
 use Rattle.walk.specs.Events.{events_over, events_in, events_of, opened, children_left, coming, depth_after, steps_from, walk_of}
 use Rattle.walk.proofs.Ways.{enter-on, open-on, at-end, at_on, in-over, in_on, step-on, root-on, begin-on}
 use Rattle.walk.proofs.Among.{Inside, NextIs, no_more, one_more, inside-first, below-good, next-stands}
+use Rattle.fields.specs.declared.Flaw.{Flaw}
+use Rattle.std.specs.Prelude.{Err, None, Ok, Option, Result, Some}
+use Rattle.walk.specs.declared.Offer.{Offer}
+use Rattle.walk.specs.declared.Walked.{Walked}
 
 -- ---- the events of a tree, whatever stands in it: each key opens once, in pre-order, and closes
 
-opened-append : (xs ys : List Walked) → opened (xs ++ ys) ≡ opened xs ++ opened ys
+opened-append : (xs ys : List (Result (Option Walked) Refusal)) → opened (xs ++ ys) ≡ opened xs ++ opened ys
 unfolding opened
 opened-append [] ys = refl
-opened-append (Opens e ∷ xs) ys = ap (λ (os : List Offset). e.at ∷ os) (opened-append xs ys)
-opened-append (Closes k ∷ xs) ys = opened-append xs ys
-opened-append (Over ∷ xs) ys = opened-append xs ys
-opened-append (Refused r ∷ xs) ys = opened-append xs ys
+opened-append (Ok (Some (Opens e)) ∷ xs) ys = ap (λ (os : List Offset). e.at ∷ os) (opened-append xs ys)
+opened-append (Ok (Some (Closes k)) ∷ xs) ys = opened-append xs ys
+opened-append ((Ok None) ∷ xs) ys = opened-append xs ys
+opened-append (Err r ∷ xs) ys = opened-append xs ys
 
-opened-over : (f : Offset → List Walked) (g : Offset → List Offset) → ((o : Offset) → opened (f o) ≡ g o) → (cs : List Child)
+opened-over : (f : Offset → List (Result (Option Walked) Refusal)) (g : Offset → List Offset) → ((o : Offset) → opened (f o) ≡ g o) → (cs : List Child)
     → opened (events_over f cs) ≡ joined g cs
 unfolding events_over opened joined
 opened-over f g e [] = refl
@@ -60,9 +58,9 @@ opened_in d zero at = refl
 opened_in d (suc n) at =
     let xs = events_over (events_in d n) (children d at) in
     ap (λ (os : List Offset). at ∷ os)
-    (opened-append xs (Closes at ∷ []) ∙ append-nil (opened xs) ∙ opened-over (events_in d n) (keys_in d n) (opened_in d n) (children d at))
+    (opened-append xs (Ok (Some (Closes at)) ∷ []) ∙ append-nil (opened xs) ∙ opened-over (events_in d n) (keys_in d n) (opened_in d n) (children d at))
 
-counted-over : (f : Offset → List Walked) (g : Offset → List Offset) → ((o : Offset) → length (f o) ≡ 2 * length (g o)) → (cs : List Child)
+counted-over : (f : Offset → List (Result (Option Walked) Refusal)) (g : Offset → List Offset) → ((o : Offset) → length (f o) ≡ 2 * length (g o)) → (cs : List Child)
     → length (events_over f cs) ≡ 2 * length (joined g cs)
 unfolding events_over joined
 counted-over f g e [] = refl
@@ -78,7 +76,7 @@ unfolding events_in keys_in
 counted-in d zero at = refl
 counted-in d (suc n) at =
     let xs = events_over (events_in d n) (children d at) in
-    let a = length-append xs (Closes at ∷ []) in
+    let a = length-append xs (Ok (Some (Closes at)) ∷ []) in
     let b = counted-over (events_in d n) (keys_in d n) (counted-in d n) (children d at) in
     omega arith
 
@@ -142,24 +140,24 @@ coming-same d ws ws' (suc n) f =
     rw (f (place n) (omega arith), f (place n + 1) (omega arith), f (place n + 2) (omega arith), coming-same d ws ws' n (λ i p. f i (omega arith)))
 
 module _ (d ws : List ℕ) (n : ℕ) where
-  close-coming : children_left d (key_at ws (suc n)) (mark_at ws (suc n)) ≡ [] → coming d ws (suc n) ≡ Closes (key_at ws (suc n)) ∷ coming d ws n
+  close-coming : children_left d (key_at ws (suc n)) (mark_at ws (suc n)) ≡ [] → coming d ws (suc n) ≡ Ok (Some (Closes (key_at ws (suc n)))) ∷ coming d ws n
   unfolding coming events_over
   close-coming e = rw e
 
   module _ (ws' : List ℕ) (c : Child) (m : Mark) (b : ℕ) (lv : levels - suc n ≡ suc b) where
-    inner : List Walked
+    inner : List (Result (Option Walked) Refusal)
     inner = events_over (events_in d b) (children d c.at)
 
-    rest : List Walked
+    rest : List (Result (Option Walked) Refusal)
     rest = events_over (events_in d (suc b)) (children_left d (key_at ws (suc n)) m)
 
     before : children_left d (key_at ws (suc n)) (mark_at ws (suc n)) ≡ c ∷ children_left d (key_at ws (suc n)) m
         → coming d ws (suc n)
-        ≡ Opens (entry_of c.at (key_of d c.at).name) ∷ (((inner ++ (Closes c.at ∷ [])) ++ rest) ++ (Closes (key_at ws (suc n)) ∷ coming d ws n))
+        ≡ Ok (Some (Opens (entry_of c.at (key_of d c.at).name))) ∷ (((inner ++ (Ok (Some (Closes c.at)) ∷ [])) ++ rest) ++ (Ok (Some (Closes (key_at ws (suc n)))) ∷ coming d ws n))
     unfolding coming events_over events_in inner rest
     before e = rw (lv, e)
 
-    after : Moved ws ws' n c.at m → coming d ws' (suc (suc n)) ≡ inner ++ (Closes c.at ∷ (rest ++ (Closes (key_at ws (suc n)) ∷ coming d ws n)))
+    after : Moved ws ws' n c.at m → coming d ws' (suc (suc n)) ≡ inner ++ (Ok (Some (Closes c.at)) ∷ (rest ++ (Ok (Some (Closes (key_at ws (suc n)))) ∷ coming d ws n)))
     unfolding coming children_below inner rest
     after mv =
         let r : levels - suc (suc n) ≡ b = omega arith in
@@ -176,11 +174,11 @@ module _ (d ws : List ℕ) (n : ℕ) where
         )
 
     open-coming : children_left d (key_at ws (suc n)) (mark_at ws (suc n)) ≡ c ∷ children_left d (key_at ws (suc n)) m → Moved ws ws' n c.at m
-        → coming d ws (suc n) ≡ Opens (entry_of c.at (key_of d c.at).name) ∷ coming d ws' (suc (suc n))
+        → coming d ws (suc n) ≡ Ok (Some (Opens (entry_of c.at (key_of d c.at).name))) ∷ coming d ws' (suc (suc n))
     open-coming e mv =
-        let z = Closes (key_at ws (suc n)) ∷ coming d ws n in
-        let s : ((inner ++ (Closes c.at ∷ [])) ++ rest) ++ z ≡ inner ++ (Closes c.at ∷ (rest ++ z)) = simp append_assoc in
-        before e ∙ ap (λ (xs : List Walked). Opens (entry_of c.at (key_of d c.at).name) ∷ xs) (s ∙ sym (after mv))
+        let z = Ok (Some (Closes (key_at ws (suc n)))) ∷ coming d ws n in
+        let s : ((inner ++ (Ok (Some (Closes c.at)) ∷ [])) ++ rest) ++ z ≡ inner ++ (Ok (Some (Closes c.at)) ∷ (rest ++ z)) = simp append_assoc in
+        before e ∙ ap (λ (xs : List (Result (Option Walked) Refusal)). Ok (Some (Opens (entry_of c.at (key_of d c.at).name))) ∷ xs) (s ∙ sym (after mv))
 
 -- ---- the invariant, and one step
 
@@ -200,8 +198,8 @@ module _ (h : List ℕ) where
   pub record Stepped (ws : List ℕ) (n : ℕ) : Type 0 where
     pub gives : coming (bins_data h) ws n ≡ step_answer h ws n ∷ coming (bins_data h) (step_levels h ws n) (depth_after (step_answer h ws n) n)
     pub stands : Standing (step_levels h ws n) (depth_after (step_answer h ws n) n)
-    pub fine : (r : Refusal) → step_answer h ws n ≡ Refused r → ⊥
-    pub on : step_answer h ws n ≡ Over → ⊥
+    pub fine : (r : Refusal) → step_answer h ws n ≡ Err r → ⊥
+    pub on : step_answer h ws n ≡ Ok None → ⊥
 
   -- an open key is told by its words
   open-same : (ws ws' : List ℕ) (n : ℕ) → get_or ws' (place n) 0 ≡ get_or ws (place n) 0 → get_or ws' (place n + 1) 0 ≡ get_or ws (place n + 1) 0
@@ -209,7 +207,7 @@ module _ (h : List ℕ) where
   open-same ws ws' n a b c o = record { below = o.below; level = o.level; tree = rw a o.tree; mark = rw (a, b, c) o.mark }
 
 module _ (h : List ℕ) (w : CleanAndWellFormed h) where
-  base : base_fault h ≡ Sound
+  base : base_fault h ≡ Ok tt
   base = facts-base h w.is-clean w.inside
 
   key-stands : (m : ℕ) {o : Offset} → TreeStands (bins_data h) (hive_of h) m o → KeyStands (bins_data h) (hive_of h).minor o
@@ -225,7 +223,7 @@ module _ (h : List ℕ) (w : CleanAndWellFormed h) where
   child-stands m (key s a ch tree) c i = tree c i
 
   whole : (m : ℕ) {o : Offset} → TreeStands (bins_data h) (hive_of h) m o
-      → called (key_fault Header (bins_data h) [] o) (key_of (bins_data h) o).name ≡ name_as.Whole (key_of (bins_data h) o).name
+      → called (key_fault Header (bins_data h) [] o) (key_of (bins_data h) o).name ≡ Ok (key_of (bins_data h) o).name
   whole m {o} t = rw (key-good (bins_data h) (hive_of h) w.formed.tiled m o t)
 
   -- a key that opens stands at its first child
@@ -243,7 +241,7 @@ module _ (h : List ℕ) (w : CleanAndWellFormed h) where
       }
 
   -- from a step as it is said of the last open key
-  step_is : (ws : List ℕ) (n : ℕ) → 3 * suc n ≤ length ws → {s : Offer} → step_at (bins_data h) ws (suc n) ≡ s
+  step_is : (ws : List ℕ) (n : ℕ) → 3 * suc n ≤ length ws → {s : Result (Option Offer) Refusal} → step_at (bins_data h) ws (suc n) ≡ s
       → (step_answer h ws (suc n) ≡ answer_of s) × (step_levels h ws (suc n) ≡ levels_after ws (suc n) s)
   step_is ws n p {s} e =
       let a = step-on h ws (suc n) base in
@@ -258,18 +256,18 @@ module _ (h : List ℕ) (w : CleanAndWellFormed h) where
     room = let a = top.level in let b = st.words in omega arith
 
     closes : children_left (bins_data h) (key_at ws (suc n)) (mark_at ws (suc n)) ≡ []
-        → next_below (bins_data h) (key_of (bins_data h) (key_at ws (suc n))) (mark_at ws (suc n)) ≡ End → Stepped h ws (suc n)
+        → next_below (bins_data h) (key_of (bins_data h) (key_at ws (suc n))) (mark_at ws (suc n)) ≡ Ok None → Stepped h ws (suc n)
     closes e q =
         let s = step_is ws n room (at-end (bins_data h) ws (suc n) (key_at ws (suc n)) refl (key-good (bins_data h) (hive_of h) w.formed.tiled (suc top.below) (key_at ws (suc n)) top.tree) refl q) in
         let z : n ≡ suc n - 1 = omega arith in
         record {
           gives =
               rw (s.0, s.1)
-              (subst (λ (x : ℕ). coming (bins_data h) ws (suc n) ≡ Closes (key_at ws (suc n)) ∷ coming (bins_data h) ws x) z
+              (subst (λ (x : ℕ). coming (bins_data h) ws (suc n) ≡ Ok (Some (Closes (key_at ws (suc n)))) ∷ coming (bins_data h) ws x) z
               (close-coming (bins_data h) ws n e));
           stands = rw (s.0, s.1) (subst (λ (x : ℕ). Standing h ws x) z (record { words = st.words; each = λ i p. st.each i (omega arith) }));
-          fine = λ r f. let g : Closes (key_at ws (suc n)) ≡ Refused r = sym s.0 ∙ f in let y : ◌≡◌ {A = ℕ} 0 1 = cc in omega arith;
-          on = λ f. let g : Closes (key_at ws (suc n)) ≡ Over = sym s.0 ∙ f in let y : ◌≡◌ {A = ℕ} 0 1 = cc in omega arith;
+          fine = λ r f. let g : Ok (Some (Closes (key_at ws (suc n)))) ≡ Err r = sym s.0 ∙ f in let y : ◌≡◌ {A = ℕ} 0 1 = cc in omega arith;
+          on = λ f. let g : Ok (Some (Closes (key_at ws (suc n)))) ≡ (Ok None) = sym s.0 ∙ f in let y : ◌≡◌ {A = ℕ} 0 1 = cc in omega arith;
         }
 
     -- the levels after a child opened
@@ -310,7 +308,7 @@ module _ (h : List ℕ) (w : CleanAndWellFormed h) where
                   subst (λ (u : ℕ). Open h ws' u) z (first-open ws' (suc n) b c.at mv.at mv.first mv.none (omega arith) tree-below)
 
       opens-child : children_left (bins_data h) (key_at ws (suc n)) (mark_at ws (suc n)) ≡ c ∷ children_left (bins_data h) (key_at ws (suc n)) m
-          → next_below (bins_data h) (key_of (bins_data h) (key_at ws (suc n))) (mark_at ws (suc n)) ≡ Comes c.at m → Stepped h ws (suc n)
+          → next_below (bins_data h) (key_of (bins_data h) (key_at ws (suc n))) (mark_at ws (suc n)) ≡ Ok (Some (c.at, m)) → Stepped h ws (suc n)
       unfolding entry_of
       opens-child e q =
           let d = bins_data h in
@@ -326,13 +324,13 @@ module _ (h : List ℕ) (w : CleanAndWellFormed h) where
           let lv' : levels - suc n ≡ suc b = omega arith in
           let ws' = sets (sets ws (place n + 1) (m.leaf ∷ m.element ∷ [])) (3 * suc n) (c.at.0 ∷ 0 ∷ 0 ∷ []) in
           record {
-            gives = rw (s.0, s.1) (subst (λ (y : ℕ). coming d ws (suc n) ≡ Opens x ∷ coming d ws' y) z (open-coming d ws n ws' c m b lv' e mv));
+            gives = rw (s.0, s.1) (subst (λ (y : ℕ). coming d ws (suc n) ≡ Ok (Some (Opens x)) ∷ coming d ws' y) z (open-coming d ws n ws' c m b lv' e mv));
             stands = rw (s.0, s.1) (subst (λ (y : ℕ). Standing h ws' y) z (standing ws' mv));
-            fine = λ r f. let g' : Opens x ≡ Refused r = sym s.0 ∙ f in let y : ◌≡◌ {A = ℕ} 0 1 = cc in omega arith;
-            on = λ f. let g' : Opens x ≡ Over = sym s.0 ∙ f in let y : ◌≡◌ {A = ℕ} 0 1 = cc in omega arith;
+            fine = λ r f. let g' : Ok (Some (Opens x)) ≡ Err r = sym s.0 ∙ f in let y : ◌≡◌ {A = ℕ} 0 1 = cc in omega arith;
+            on = λ f. let g' : Ok (Some (Opens x)) ≡ (Ok None) = sym s.0 ∙ f in let y : ◌≡◌ {A = ℕ} 0 1 = cc in omega arith;
           }
 
-    by_next : {x : Next} → next_below (bins_data h) (key_of (bins_data h) (key_at ws (suc n))) (mark_at ws (suc n)) ≡ x
+    by_next : {x : Result (Option (Offset × Mark)) Flaw} → next_below (bins_data h) (key_of (bins_data h) (key_at ws (suc n))) (mark_at ws (suc n)) ≡ x
         → NextIs (bins_data h) (leaves_below (bins_data h) (key_of (bins_data h) (key_at ws (suc n)))) (mark_at ws (suc n)) x → Stepped h ws (suc n)
     unfolding children_below
     by_next q (no_more e) = closes e q
@@ -348,7 +346,7 @@ module _ (h : List ℕ) (w : CleanAndWellFormed h) where
         (mark_at ws (suc n)) top.mark)
 
   -- with no key open
-  pub step-over : (ws : List ℕ) → (step_answer h ws 0 ≡ Over) × (step_levels h ws 0 ≡ ws)
+  pub step-over : (ws : List ℕ) → (step_answer h ws 0 ≡ Ok None) × (step_levels h ws 0 ≡ ws)
   step-over ws =
       let a = step-on h ws 0 base in
       let b = in-over (bins_data h) ws 0 refl in
@@ -356,31 +354,31 @@ module _ (h : List ℕ) (w : CleanAndWellFormed h) where
 
   -- ---- the walk
 
-  overs : (x : ℕ) (ws : List ℕ) → steps_from h x ws 0 ≡ replicate x Over
+  overs : (x : ℕ) (ws : List ℕ) → steps_from h x ws 0 ≡ replicate x (Ok None)
   unfolding steps_from
   overs zero ws = refl
-  overs (suc x) ws = let o = step-over ws in rw (o.0, o.1) (ap (λ (rs : List Walked). Over ∷ rs) (overs x ws))
+  overs (suc x) ws = let o = step-over ws in rw (o.0, o.1) (ap (λ (rs : List (Result (Option Walked) Refusal)). (Ok None) ∷ rs) (overs x ws))
 
   no-coming : (ws : List ℕ) → coming (bins_data h) ws 0 ≡ []
   unfolding coming
   no-coming ws = refl
 
   steps : (m x : ℕ) (ws : List ℕ) (n : ℕ) → Standing h ws n → length (coming (bins_data h) ws n) ≡ m
-      → steps_from h (m + x) ws n ≡ coming (bins_data h) ws n ++ replicate x Over
+      → steps_from h (m + x) ws n ≡ coming (bins_data h) ws n ++ replicate x (Ok None)
   unfolding steps_from
   steps zero x ws zero st e =
-      ap (λ (y : ℕ). steps_from h y ws 0) (zero-add x) ∙ overs x ws ∙ ap (λ (rs : List Walked). rs ++ replicate x Over) (sym (no-coming ws))
+      ap (λ (y : ℕ). steps_from h y ws 0) (zero-add x) ∙ overs x ws ∙ ap (λ (rs : List (Result (Option Walked) Refusal)). rs ++ replicate x (Ok None)) (sym (no-coming ws))
   steps zero x ws (suc n) st e = absurd (let a = ap length (step_gives ws n st).gives in omega arith)
   steps (suc m) x ws zero st e = absurd (let a = ap length (no-coming ws) in omega arith)
   steps (suc m) x ws (suc n) st e =
       let s = step_gives ws n st in
       let a = ap length s.gives in
       ap (λ (y : ℕ). steps_from h y ws (suc n)) (suc-add m x)
-      ∙ ap (λ (rs : List Walked). step_answer h ws (suc n) ∷ rs)
+      ∙ ap (λ (rs : List (Result (Option Walked) Refusal)). step_answer h ws (suc n) ∷ rs)
       (steps m x (step_levels h ws (suc n)) (depth_after (step_answer h ws (suc n)) (suc n)) s.stands (omega arith))
-      ∙ ap (λ (rs : List Walked). rs ++ replicate x Over) (sym s.gives)
+      ∙ ap (λ (rs : List (Result (Option Walked) Refusal)). rs ++ replicate x (Ok None)) (sym s.gives)
 
-  quiet : (m : ℕ) (ws : List ℕ) (n : ℕ) → Standing h ws n → (r : Refusal) → Memᴰ (Refused r) (steps_from h m ws n) → ⊥
+  quiet : (m : ℕ) (ws : List ℕ) (n : ℕ) → Standing h ws n → (r : Refusal) → Memᴰ (Err r) (steps_from h m ws n) → ⊥
   unfolding steps_from
   quiet zero ws n st r i = Memᴰ.not-nil i
   quiet (suc m) ws zero st r i =
@@ -397,7 +395,7 @@ module _ (h : List ℕ) (w : CleanAndWellFormed h) where
     unfoldable pub begun : List ℕ
     begun = sets ws 0 (root.0 ∷ 0 ∷ 0 ∷ [])
 
-    begins : (begin_answer h ws ≡ Opens (entry_of root (key_of (bins_data h) root).name)) × (begin_levels h ws ≡ begun)
+    begins : (begin_answer h ws ≡ Ok (Some (Opens (entry_of root (key_of (bins_data h) root).name)))) × (begin_levels h ws ≡ begun)
     unfolding begun
     begins =
         let a = begin-on h ws base in
@@ -418,7 +416,7 @@ module _ (h : List ℕ) (w : CleanAndWellFormed h) where
               (set_at us ws 0 2 (place 0 + 2) (omega arith) (omega arith) (omega arith)) (omega arith) w.formed.tree);
         }
 
-    pub begun-coming : events_of h ≡ Opens (entry_of root (key_of (bins_data h) root).name) ∷ coming (bins_data h) begun 1
+    pub begun-coming : events_of h ≡ Ok (Some (Opens (entry_of root (key_of (bins_data h) root).name))) ∷ coming (bins_data h) begun 1
     unfolding events_in coming children_below begun
     begun-coming =
         let us = root.0 ∷ 0 ∷ 0 ∷ [] in
@@ -429,18 +427,18 @@ module _ (h : List ℕ) (w : CleanAndWellFormed h) where
         )
 
     -- "begin and then steps give exactly `events_of h` [..]; then Over"
-    pub events : (x : ℕ) → walk_of h (length (events_of h) + x) ws ≡ events_of h ++ replicate x Over
+    pub events : (x : ℕ) → walk_of h (length (events_of h) + x) ws ≡ events_of h ++ replicate x (Ok None)
     unfolding walk_of
     events x =
         let b = begins in
-        let e = Opens (entry_of root (key_of (bins_data h) root).name) in
+        let e = Ok (Some (Opens (entry_of root (key_of (bins_data h) root).name))) in
         let m = length (coming (bins_data h) begun 1) in
-        ap (λ (y : ℕ). walk_of h y ws) (ap (λ (rs : List Walked). length rs + x) begun-coming ∙ suc-add m x)
-        ∙ rw (b.0, b.1) (ap (λ (rs : List Walked). e ∷ rs) (steps m x begun 1 begun-stands refl))
-        ∙ ap (λ (rs : List Walked). rs ++ replicate x Over) (sym begun-coming)
+        ap (λ (y : ℕ). walk_of h y ws) (ap (λ (rs : List (Result (Option Walked) Refusal)). length rs + x) begun-coming ∙ suc-add m x)
+        ∙ rw (b.0, b.1) (ap (λ (rs : List (Result (Option Walked) Refusal)). e ∷ rs) (steps m x begun 1 begun-stands refl))
+        ∙ ap (λ (rs : List (Result (Option Walked) Refusal)). rs ++ replicate x (Ok None)) (sym begun-coming)
 
     -- "and never a refusal"
-    pub never-refused : (m : ℕ) (r : Refusal) → Memᴰ (Refused r) (walk_of h m ws) → ⊥
+    pub never-refused : (m : ℕ) (r : Refusal) → Memᴰ (Err r) (walk_of h m ws) → ⊥
     unfolding walk_of
     never-refused zero r i = Memᴰ.not-nil i
     never-refused (suc m) r i =

@@ -3,9 +3,8 @@
 // reads outside.
 #![tactic(auto)]
 
-ghost use Rattle.std.specs.Prelude.{◌≡◌, [], ◌∷◌, ◌+◌, ◌*◌, ◌≤◌, ◌<◌, length};
+ghost use Rattle.std.specs.Prelude.{◌≡◌, [], ◌∷◌, ◌+◌, ◌*◌, ◌≤◌, ◌<◌, length, Ok, Some};
 ghost use Rattle.std.proofs.lemmas.List.Edits.{sets};
-ghost use Rattle.fields.specs.declared.Verdict.TheVariants.{Sound};
 ghost use Rattle.fields.specs.Faults.{flaw, nowhere, refusal_of};
 ghost use Rattle.records.specs.Terms.{LeavesLie, leaves_named, ElementsLie, elements_of};
 ghost use Rattle.listing.specs.Members.{entry_of};
@@ -14,16 +13,14 @@ ghost use Rattle.records.specs.Keys.{key_fault, key_of};
 ghost use Rattle.walk.specs.Answers.{key_at, mark_after, next_of, next_in, next_below, entering, opening, step_at, step_in, answer_of, levels_after, step_answer, step_levels, root_fault, begun_where, begun_levels, begin_answer, begin_levels};
 
 use cells::Rule;
-use fields::{Fault, Flaw, Offset, Refusal, Verdict};
+use fields::{Fault, Flaw, Offset, Refusal};
 use listing::Entry;
-use records::{Called, Headed, Key, Leaf, Leafed, Leaves};
+use records::{Key, Leaf, Leaves};
 
 #[derive(Clone, Copy)]
 pub enum Walked {
     Opens(Entry),
     Closes(Offset),
-    Over,
-    Refused(Refusal),
 }
 
 // What a step would do: of a child that it opens, with the mark behind it; all else leaves the words.
@@ -31,8 +28,6 @@ pub enum Walked {
 pub enum Offer {
     Opens(Entry, Mark),
     Closes(Offset),
-    Over,
-    Refused(Refusal),
 }
 
 // What comes next of an open key: the number of a leaf of its list, and of an element of that leaf.
@@ -42,74 +37,67 @@ pub struct Mark {
     pub element: u32,
 }
 
-// The child that a mark stands at, and the mark behind it.
-#[derive(Clone, Copy)]
-pub enum Next {
-    Comes(Offset, Mark),
-    End,
-    Flawed(Flaw),
-}
-
 // The mark behind an element of a leaf with so many.
+#[tactic(auto, using(crate::proofs::Ways::leaf_ways))]
 fn mark_after(m: Mark, count: usize) -> Mark
     requires { (m.leaf < 65536) × (m.element < 65536) }
     ensures { result ≡ mark_after m count }
 {
     if m.element as usize + 1 < count {
-        return Mark {
+        Mark {
             leaf: m.leaf,
             element: m.element + 1,
-        };
-    }
-    Mark {
-        leaf: m.leaf + 1,
-        element: 0,
+        }
+    } else {
+        Mark {
+            leaf: m.leaf + 1,
+            element: 0,
+        }
     }
 }
 
-fn next_of(bins: &[u8], leaf: Leaf, m: Mark) -> Next
+#[tactic(auto, using(crate::proofs::Ways::leaf_ways))]
+fn next_of(bins: &[u8], leaf: Leaf, m: Mark) -> Result<Option<(Offset, Mark)>, Flaw>
     requires { (m.leaf < 65536) × (leaf.count < 65536) × ElementsLie bins.now leaf }
     ensures { result ≡ next_of (elements_of bins.now leaf) m }
 {
     let i = m.element as usize;
     if leaf.count <= i {
-        return Next::End;
+        return Ok(None);
     }
     let at = records::child_offset(bins, leaf, i);
-    Next::Comes(at, mark_after(m, leaf.count))
+    Ok(Some((at, mark_after(m, leaf.count))))
 }
 
 // Only the leaf that the mark names is read.
-fn next_in(bins: &[u8], ls: Leaves, m: Mark) -> Next
+#[tactic(auto, using(crate::proofs::Ways::leaf_ways))]
+fn next_in(bins: &[u8], ls: Leaves, m: Mark) -> Result<Option<(Offset, Mark)>, Flaw>
     requires { (ls.count < 65536) × LeavesLie bins.now ls }
     ensures { result ≡ next_in bins.now (leaves_named bins.now ls) m }
 {
     let j = m.leaf as usize;
     if ls.count <= j {
-        return Next::End;
+        return Ok(None);
     }
     let o = records::leaf_offset(bins, ls, j);
-    match records::leaf_at(bins, b"", Rule::Header, o) {
-        Leafed::Flawed(f) => Next::Flawed(f),
-        Leafed::Whole(leaf) => next_of(bins, leaf, m),
-    }
+    let leaf = records::leaf_at(bins, b"", Rule::Header, o)?;
+    next_of(bins, leaf, m)
 }
 
 // The subkey count is only asked whether it is 0, as in a search.
-fn next_below(bins: &[u8], k: Key, m: Mark) -> Next
+#[tactic(auto, using(crate::proofs::Ways::below_ways))]
+fn next_below(bins: &[u8], k: Key, m: Mark) -> Result<Option<(Offset, Mark)>, Flaw>
     ensures { result ≡ next_below bins.now k m }
 {
     if k.subkeys == 0 {
-        return Next::End;
+        return Ok(None);
     }
-    let list = k.list;
-    match records::head_at(bins, b"", Rule::Header, list) {
-        Headed::Flawed(f) => Next::Flawed(f),
-        Headed::Whole(ls) => next_in(bins, ls, m),
-    }
+    let ls = records::head_at(bins, b"", Rule::Header, k.list)?;
+    next_in(bins, ls, m)
 }
 
 // The words of a key that opens: nothing of it has come.
+#[tactic(auto, using(crate::proofs::Ways::put_three))]
 pub fn put_key(levels: &mut [u32], i: usize, o: Offset)
     requires { i + 3 ≤ length levels.old }
     ensures { levels.new ≡ sets levels.old i (o.0 ∷ 0 ∷ 0 ∷ []) }
@@ -119,6 +107,7 @@ pub fn put_key(levels: &mut [u32], i: usize, o: Offset)
     levels[i + 2] = 0;
 }
 
+#[tactic(auto, using(crate::proofs::Ways::put_two))]
 fn put_mark(levels: &mut [u32], i: usize, m: Mark)
     requires { i + 2 ≤ length levels.old }
     ensures { levels.new ≡ sets levels.old i (m.leaf ∷ m.element ∷ []) }
@@ -130,49 +119,58 @@ fn put_mark(levels: &mut [u32], i: usize, m: Mark)
 fn short(key: Offset) -> Refusal
     ensures { result ≡ refusal_of key (flaw Fault.OutputShort nowhere) }
 {
-    fields::refused(
+    Refusal {
+        fault: Fault::OutputShort,
+        place: Offset(0),
         key,
-        Flaw {
-            fault: Fault::OutputShort,
-            place: Offset(0),
-        },
-    )
+    }
 }
 
 // The words are divided by three and the depth is not multiplied, so that nothing wraps.
-fn enter(levels: &[u32], depth: usize, key: Offset, e: Entry, m: Mark) -> Offer
+#[tactic(auto, using(crate::proofs::Ways::enter_ways))]
+fn enter(
+    levels: &[u32],
+    depth: usize,
+    key: Offset,
+    e: Entry,
+    m: Mark,
+) -> Result<Option<Offer>, Refusal>
     ensures { result ≡ entering levels.now depth key e m }
 {
-    let at = e.at;
     if 513 <= depth {
-        return Offer::Refused(fields::refused(
-            at,
-            Flaw {
-                fault: Fault::Level,
-                place: at,
-            },
-        ));
+        return Err(Refusal {
+            fault: Fault::Level,
+            place: e.at,
+            key: e.at,
+        });
     }
     if levels.len() / 3 < depth + 1 {
-        return Offer::Refused(short(key));
+        return Err(short(key));
     }
-    Offer::Opens(e, m)
+    Ok(Some(Offer::Opens(e, m)))
 }
 
 // The child's own record is tested on behalf of the key that lists it.
-fn open(bins: &[u8], levels: &[u32], depth: usize, key: Offset, c: Offset, m: Mark) -> Offer
+#[tactic(auto, using(crate::proofs::Ways::enter_ways))]
+fn open(
+    bins: &[u8],
+    levels: &[u32],
+    depth: usize,
+    key: Offset,
+    c: Offset,
+    m: Mark,
+) -> Result<Option<Offer>, Refusal>
     ensures { result ≡ opening bins.now levels.now depth key c m }
 {
-    match records::name_at(bins, c) {
-        Called::Flawed(f) => Offer::Refused(fields::refused(key, f)),
-        Called::Whole(name) => enter(levels, depth, key, listing::entry_of(c, name), m),
-    }
+    let name = records::name_at(bins, c).map_err(|f| fields::refused(key, f))?;
+    enter(levels, depth, key, listing::entry_of(c, name), m)
 }
 
 // What a step would do at the last open key, of a caller who has tested its record.
-pub fn ahead_of(bins: &[u8], levels: &[u32], depth: usize) -> Offer
+#[tactic(auto, using(crate::proofs::Ways::step_ways))]
+pub fn ahead_of(bins: &[u8], levels: &[u32], depth: usize) -> Result<Option<Offer>, Refusal>
     requires depth_nonzero { (0 < depth) × (3 * depth ≤ length levels.now) }
-    requires depth_value { key_fault Header bins.now [] (key_at levels.now depth) ≡ Sound }
+    requires depth_value { key_fault Header bins.now [] (key_at levels.now depth) ≡ Ok tt }
     ensures { result ≡ step_at bins.now levels.now depth }
 {
     let i = 3 * (depth - 1);
@@ -182,34 +180,33 @@ pub fn ahead_of(bins: &[u8], levels: &[u32], depth: usize) -> Offer
         element: levels[i + 2],
     };
     let k = records::key_fields(bins, key);
-    match next_below(bins, k, m) {
-        Next::Flawed(f) => Offer::Refused(fields::refused(key, f)),
-        Next::End => Offer::Closes(key),
-        Next::Comes(c, after) => open(bins, levels, depth, key, c, after),
+    match next_below(bins, k, m).map_err(|f| fields::refused(key, f))? {
+        None => Ok(Some(Offer::Closes(key))),
+        Some((c, after)) => open(bins, levels, depth, key, c, after),
     }
 }
 
 // The same, with the key's own test before it.
-fn ahead_at(bins: &[u8], levels: &[u32], depth: usize) -> Offer
+#[tactic(auto, using(crate::proofs::Ways::step_ways))]
+fn ahead_at(bins: &[u8], levels: &[u32], depth: usize) -> Result<Option<Offer>, Refusal>
     requires { (0 < depth) × (3 * depth ≤ length levels.now) }
     ensures { result ≡ step_at bins.now levels.now depth }
 {
     let i = 3 * (depth - 1);
-    match records::name_at(bins, Offset(levels[i])) {
-        Called::Flawed(f) => Offer::Refused(fields::refused(Offset(fields::NO_KEY), f)),
-        Called::Whole(_) => ahead_of(bins, levels, depth),
-    }
+    records::name_at(bins, Offset(levels[i]))?;
+    ahead_of(bins, levels, depth)
 }
 
 // What a step would do, in a hive whose base block was tested: its answer without the move.
-fn ahead(bins: &[u8], levels: &[u32], depth: usize) -> Offer
+#[tactic(auto, using(crate::proofs::Ways::step_ways))]
+fn ahead(bins: &[u8], levels: &[u32], depth: usize) -> Result<Option<Offer>, Refusal>
     ensures { result ≡ step_in bins.now levels.now depth }
 {
     if depth == 0 {
-        return Offer::Over;
+        return Ok(None);
     }
     if levels.len() / 3 < depth {
-        return Offer::Refused(short(Offset(fields::NO_KEY)));
+        return Err(short(Offset(fields::NO_KEY)));
     }
     ahead_at(bins, levels, depth)
 }
@@ -217,62 +214,56 @@ fn ahead(bins: &[u8], levels: &[u32], depth: usize) -> Offer
 // The move: the mark behind a child, and the child's own words.
 pub fn go_below(levels: &mut [u32], depth: usize, e: Entry, m: Mark)
     requires { (0 < depth) × (3 * (depth + 1) ≤ length levels.old) }
-    ensures { levels.new ≡ levels_after levels.old depth (Offer.Opens e m) }
+    ensures { levels.new ≡ levels_after levels.old depth (Ok (Some (Offer.Opens e m))) }
 {
-    let at = e.at;
     put_mark(levels, 3 * (depth - 1) + 1, m);
-    put_key(levels, 3 * depth, at);
+    put_key(levels, 3 * depth, e.at);
 }
 
-fn step_in(bins: &[u8], levels: &mut [u32], depth: usize) -> Walked
+#[tactic(auto, using(crate::proofs::Moves::move_ways))]
+fn step_in(bins: &[u8], levels: &mut [u32], depth: usize) -> Result<Option<Walked>, Refusal>
     ensures value { result ≡ answer_of (step_in bins.now levels.old depth) }
     ensures levels_after { levels.new ≡ levels_after levels.old depth (step_in bins.now levels.old depth) }
 {
-    match ahead(bins, levels, depth) {
-        Offer::Refused(r) => Walked::Refused(r),
-        Offer::Over => Walked::Over,
-        Offer::Closes(k) => Walked::Closes(k),
-        Offer::Opens(e, m) => {
+    match ahead(bins, levels, depth)? {
+        None => Ok(None),
+        Some(Offer::Closes(k)) => Ok(Some(Walked::Closes(k))),
+        Some(Offer::Opens(e, m)) => {
             go_below(levels, depth, e, m);
-            Walked::Opens(e)
+            Ok(Some(Walked::Opens(e)))
         }
     }
 }
 
 // The next event of a walk: the words and the depth are as the last call left them, or as the caller pleases.
-pub fn step(hive: &[u8], levels: &mut [u32], depth: usize) -> Walked
+#[tactic(auto, unfolding(crate::specs::Answers::step_answer, crate::specs::Answers::step_levels, crate::specs::Answers::step_of))]
+pub fn step(hive: &[u8], levels: &mut [u32], depth: usize) -> Result<Option<Walked>, Refusal>
     ensures value { result ≡ step_answer hive.now levels.old depth }
     ensures levels_after { levels.new ≡ step_levels hive.now levels.old depth }
 {
-    match base::base_flaw(hive) {
-        Verdict::Flawed(f) => Walked::Refused(fields::refused(Offset(fields::NO_KEY), f)),
-        Verdict::Sound => step_in(base::bins_of(hive), levels, depth),
-    }
+    base::base_flaw(hive)?;
+    step_in(base::bins_of(hive), levels, depth)
 }
 
-fn begin_in(bins: &[u8], root: Offset, levels: &mut [u32]) -> Walked
+#[tactic(auto, using(crate::proofs::Ways::root_ways))]
+fn begin_in(bins: &[u8], root: Offset, levels: &mut [u32]) -> Result<Option<Walked>, Refusal>
     ensures value { result ≡ begun_where (root_fault bins.now levels.old root) (entry_of root (key_of bins.now root).name) }
     ensures levels_after { levels.new ≡ begun_levels levels.old root (root_fault bins.now levels.old root) }
 {
-    match records::name_at(bins, root) {
-        Called::Flawed(f) => Walked::Refused(fields::refused(Offset(fields::NO_KEY), f)),
-        Called::Whole(name) => {
-            if levels.len() < 3 {
-                return Walked::Refused(short(Offset(fields::NO_KEY)));
-            }
-            put_key(levels, 0, root);
-            Walked::Opens(listing::entry_of(root, name))
-        }
+    let name = records::name_at(bins, root)?;
+    if levels.len() < 3 {
+        return Err(short(Offset(fields::NO_KEY)));
     }
+    put_key(levels, 0, root);
+    Ok(Some(Walked::Opens(listing::entry_of(root, name))))
 }
 
 // The first event of a walk: the root opens.
-pub fn begin(hive: &[u8], levels: &mut [u32]) -> Walked
+#[tactic(auto, unfolding(crate::specs::Answers::begin_answer, crate::specs::Answers::begin_levels, crate::specs::Answers::begin_fault), using(fields::proofs::Firsts::on, fields::proofs::Firsts::stop))]
+pub fn begin(hive: &[u8], levels: &mut [u32]) -> Result<Option<Walked>, Refusal>
     ensures value { result ≡ begin_answer hive.now levels.old }
     ensures levels_after { levels.new ≡ begin_levels hive.now levels.old }
 {
-    match base::base_flaw(hive) {
-        Verdict::Flawed(f) => Walked::Refused(fields::refused(Offset(fields::NO_KEY), f)),
-        Verdict::Sound => begin_in(base::bins_of(hive), base::root_of(hive), levels),
-    }
+    base::base_flaw(hive)?;
+    begin_in(base::bins_of(hive), base::root_of(hive), levels)
 }

@@ -1,38 +1,22 @@
-use Rattle.base.proofs.Tests.{short, block, cut, by-sequences}
-use Rattle.fields.proofs.Firsts.{holds, fails}
-use mathlib.Core.Path.{sym, ◌∙◌}
-use native.Mathlib.Omega.{arith}
+use Rattle.std.proofs.Common.{arith, ◌∙◌, sym}
+use Rattle.std.proofs.lemmas.Grind.{common_steps}
+use Rattle.std.proofs.lemmas.Result.{err_from_is_err_and}
+use Rattle.base.proofs.Tests.{no_block, past_block}
 use Rattle.base.proofs.base_flaw.Goals as goal
 
-pub returns-then-hive-lt4096 : goal.returns-then-hive-lt4096
-returns-then-hive-lt4096 c =
-    c.flawed.ensures ∙ sym (short _ c.if-hive-lt4096.true)
+pub returns-in_err-block_flaw : goal.returns-in_err-block_flaw
+returns-in_err-block_flaw c =
+    let p = err_from_is_err_and c.from_residual.result c.from_residual.ensures.1 in
+    rw (p.1, p.2) (sym (no_block _ _ c.if-hive-lt4096.false (sym c.block_flaw.ensures ∙ c.in_err-block_flaw.was)))
 
 pub returns-then-hive-bins_size : goal.returns-then-hive-bins_size
 returns-then-hive-bins_size c =
-    c.flawed-then-hive-bins_size.ensures
-    ∙ sym
-    (cut _ c.if-hive-lt4096.false
-    (sym c.block_flaw.ensures ∙ c.in-Sound.is) (omega arith))
+    let e = past_block _ c.if-hive-lt4096.false (sym c.block_flaw.ensures ∙ c.in_ok-block_flaw.was) in grind (arith, common_steps)
 
 pub returns-then-not-sequences_equal : goal.returns-then-not-sequences_equal
 returns-then-not-sequences_equal c =
-    c.flawed-then-not-sequences_equal.ensures
-    ∙ sym
-    (by-sequences _ c.if-hive-lt4096.false
-    (sym c.block_flaw.ensures
-    ∙ c.in-Sound.is)
-    (omega arith)
-    ∙ fails _ (sym c.sequences_equal.ensures ∙ c.if-not-sequences_equal.true))
+    let e = past_block _ c.if-hive-lt4096.false (sym c.block_flaw.ensures ∙ c.in_ok-block_flaw.was) in grind (arith, common_steps)
 
-pub returns-in-Flawed : goal.returns-in-Flawed
-returns-in-Flawed c =
-    sym (block _ c.if-hive-lt4096.false (sym c.block_flaw.ensures ∙ c.in-Flawed.is))
-
-pub returns-else-not-sequences_equal : goal.returns-else-not-sequences_equal
-returns-else-not-sequences_equal c =
-    sym
-    (by-sequences _ c.if-hive-lt4096.false
-    (sym c.block_flaw.ensures ∙ c.in-Sound.is)
-    (omega arith)
-    ∙ holds _ (sym c.sequences_equal.ensures ∙ c.if-not-sequences_equal.false))
+pub returns : goal.returns
+returns c =
+    let e = past_block _ c.if-hive-lt4096.false (sym c.block_flaw.ensures ∙ c.in_ok-block_flaw.was) in grind (arith, common_steps)

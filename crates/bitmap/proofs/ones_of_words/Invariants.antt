@@ -1,10 +1,6 @@
+use Rattle.std.proofs.Common.{◌≡◌, ◌*◌}
 use Rattle.bitmap.specs.Bits.{bits_before}
-use Prim.Native.Nat.{◌-◌, ◌*◌, ◌%◌, ◌≤◌}
-use mathlib.Core.Path.{◌≡◌}
 use Rattle.bitmap.proofs.ones_of_words.Given as goal
 
-abbrev pub invariant-loop-j : goal.invariant-loop-j
-invariant-loop-j l = (l.j ≤ l.end) × (l.j % 8 ≡ 0) × (l.n ≡ bits_before l.map (8 * l.j))
-
-abbrev pub decreases-loop-j : goal.decreases-loop-j
-decreases-loop-j l = l.end - l.j
+abbrev pub invariant-loop-k : goal.invariant-loop-k
+invariant-loop-k l = l.n ≡ bits_before l.map (8 * (8 * l.k))

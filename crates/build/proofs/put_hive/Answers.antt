@@ -3,11 +3,6 @@ use Rattle.forest.specs.Parse.{forest_in}
 use Rattle.build.proofs.Calls.{planned, hive-put}
 use Rattle.build.proofs.put_hive.Goals as goal
 
-pub put_hive-requires : goal.put_hive-requires
-put_hive-requires c =
-    let a = c.args in
-    (forest_in a.stream.now, planned a.stream.now a.descriptor.now c.requires)
-
 pub returns : goal.returns
 returns c =
     let a = c.args in

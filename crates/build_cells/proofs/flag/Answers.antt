@@ -5,6 +5,6 @@ pub returns-then-told : goal.returns-then-told
 unfolding flag_of
 returns-then-told c = rw c.if-told.true
 
-pub returns : goal.returns
+pub returns-else-told : goal.returns-else-told
 unfolding flag_of
-returns c = rw c.if-told.false
+returns-else-told c = rw c.if-told.false

@@ -6,6 +6,6 @@ pub returns-then-narrow : goal.returns-then-narrow
 returns-then-narrow c =
     sym (low-length _ _ c.requires c.if-narrow.true)
 
-pub returns : goal.returns
-returns c =
+pub returns-else-narrow : goal.returns-else-narrow
+returns-else-narrow c =
     sym (whole_length _ _ c.requires c.if-narrow.false)

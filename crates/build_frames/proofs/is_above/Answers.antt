@@ -1,22 +1,18 @@
-use mathlib.Core.Path.{sym, ap, ◌∙◌}
+use Rattle.std.proofs.Common.{◌≡◌, refl}
+use Rattle.std.specs.declared.cmp.Ordering.{Ordering}
+use Rattle.std.specs.declared.cmp.Ordering.TheVariants.{Less, Equal, Greater}
+use Rattle.std.specs.Ordering.{is_lt}
 use Rattle.tree.specs.Tree.{is_before}
 use Rattle.build_frames.specs.Terms.{name_in}
 use Rattle.build_frames.proofs.is_above.Goals as goal
 
-pub returns-in-Before : goal.returns-in-Before
-unfolding name_in
-returns-in-Before c =
-    rw (← c.part_of.ensures, ← c.part_of-2.ensures)
-    (sym (ap is_before (sym c.compare_stored.ensures ∙ c.in-Before.is)))
+before : (o : Ordering) → is_lt o ≡ is_before o
+before Less = refl
+before Equal = refl
+before Greater = refl
 
-pub returns-in-Same : goal.returns-in-Same
+pub returns : goal.returns
 unfolding name_in
-returns-in-Same c =
-    rw (← c.part_of.ensures, ← c.part_of-2.ensures)
-    (sym (ap is_before (sym c.compare_stored.ensures ∙ c.in-Same.is)))
-
-pub returns-in-After : goal.returns-in-After
-unfolding name_in
-returns-in-After c =
-    rw (← c.part_of.ensures, ← c.part_of-2.ensures)
-    (sym (ap is_before (sym c.compare_stored.ensures ∙ c.in-After.is)))
+returns c =
+    let e = before c.compare_stored.result in
+    rw (← c.part_of.ensures, ← c.part_of-2.ensures) (cc)

@@ -1,12 +1,8 @@
 use native.Mathlib.Omega.{arith}
 use Prim.Native.Nat.{◌+◌}
-use mathlib.Core.Path.{refl, sym, ◌∙◌}
+use mathlib.Core.Path.{sym, ◌∙◌}
 use Rattle.build_frames.proofs.Names.{narrow-on, narrow-stop, narrow-end, four-on, four-stop}
 use Rattle.build_frames.proofs.is_narrow_text.Goals as goal
-
-pub loop-i-init : goal.loop-i-init
-loop-i-init c =
-    (omega arith, omega arith, refl)
 
 pub returns-then-high_of_four-ne0 : goal.returns-then-high_of_four-ne0
 returns-then-high_of_four-ne0 c =

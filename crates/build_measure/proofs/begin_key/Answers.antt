@@ -4,9 +4,6 @@ use Rattle.build_measure.proofs.Rows.{passed-few}
 use Rattle.build_measure.proofs.Sums.{list-few, cap-on}
 use Rattle.build_measure.proofs.begin_key.Goals as goal
 
-pub list_size-requires : goal.list_size-requires
-list_size-requires c = let x = c.requires.passed in omega (arith, x.room, x.inside)
-
 pub overflow_add-r : goal.overflow_add-r
 overflow_add-r c =
     let x = c.requires.passed in

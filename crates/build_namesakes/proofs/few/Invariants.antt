@@ -1,4 +1,3 @@
-use Prim.Native.Nat.{◌-◌}
 use mathlib.Core.Path.{◌≡◌}
 use Rattle.namesake_laws.proofs.Blocks.{Passed}
 use Rattle.build_namesakes.specs.Rows.{start_of, called}
@@ -6,6 +5,3 @@ use Rattle.build_namesakes.proofs.few.Given as goal
 
 abbrev pub invariant-loop-j : goal.invariant-loop-j
 invariant-loop-j l = (l.p ≡ start_of l.s l.at l.j) × Passed (called l.s l.at) l.j
-
-abbrev pub decreases-loop-j : goal.decreases-loop-j
-decreases-loop-j l = l.n - l.j

@@ -1,4 +1,3 @@
-use native.Mathlib.Omega.{arith}
 use Prim.Native.Nat.{◌-◌}
 use mathlib.Core.Path.{refl, sym, ◌∙◌}
 use lib.ListN.{get_or}
@@ -8,34 +7,9 @@ use Rattle.build_namesakes.specs.Terms.{starts_called}
 use Rattle.build_namesakes.proofs.Rows.{read-compared}
 use Rattle.build_namesakes.proofs.is_met.Goals as goal
 
-pub find-p-requires : goal.find-p-requires
-find-p-requires c =
-    c.requires.table
-
 pub loop-p-init : goal.loop-p-init
 loop-p-init c =
     let a = c.args in seek-start (starts_called a.s.now a.starts.now) _ _ _ _ _ c.requires.telling c.find-p.ensures
-
-pub offset_bounds-starts-p : goal.offset_bounds-starts-p
-offset_bounds-starts-p c = omega (arith, c.requires.room, c.loop-p.invariant.chain.within)
-
-pub bounds-starts-p : goal.bounds-starts-p
-bounds-starts-p c =
-    omega (
-      arith,
-      c.requires.room,
-      c.loop-p.invariant.chain.within,
-      c.loop-p-test.true,
-    )
-
-pub name_at-y-requires : goal.name_at-y-requires
-name_at-y-requires c =
-    c.requires.held (c.loop-p.p - 1)
-    (omega (arith, c.loop-p.invariant.chain.within, c.loop-p-test.true))
-
-pub is_namesake-requires : goal.is_namesake-requires
-is_namesake-requires c =
-    (c.name_at-y.ensures.1, c.requires.name)
 
 pub returns-then-is_namesake : goal.returns-then-is_namesake
 returns-then-is_namesake c =
@@ -43,37 +17,15 @@ returns-then-is_namesake c =
     let l = c.loop-p in
     let q = get_or a.starts.now (l.p - 1) 0 in
     sym (l.invariant.left ∙ hit (starts_called a.s.now a.starts.now) _ l.p c.loop-p-test.true
-    (read-compared a.s.now q q (name_in a.s.now a.x) c.name_at-y.ensures.0 refl c.is_namesake.ensures ∙ c.if-is_namesake.true))
-
-pub offset_bounds-older-p : goal.offset_bounds-older-p
-offset_bounds-older-p c =
-    omega (
-      arith,
-      c.requires.table.linked.links,
-      c.loop-p.invariant.chain.within,
-    )
-
-pub bounds-older-p : goal.bounds-older-p
-bounds-older-p c =
-    omega (
-      arith,
-      c.requires.table.linked.links,
-      c.loop-p.invariant.chain.within,
-      c.loop-p-test.true,
-    )
-
-pub overflow_cast-q : goal.overflow_cast-q
-overflow_cast-q c =
-    omega (
-      arith,
-      c.type_inv.older
-          (c.loop-p.p - 1),
-    )
+    (read-compared a.s.now q q (name_in a.s.now a.x) c.name_at.ensures.0 refl c.is_namesake.ensures ∙ c.if-is_namesake.true))
 
 pub find_from-p-requires : goal.find_from-p-requires
 find_from-p-requires c =
     let a = c.args in
-    let p = c.requires in record { linked = p.table.linked; on_chain = seek-chain (starts_called a.s.now a.starts.now) _ _ _ _ _ p.telling _ p.table.linked c.loop-p.invariant c.loop-p-test.true refl }
+    let p = c.requires in record {
+      linked = p.table.linked;
+      on_chain = seek-chain (starts_called a.s.now a.starts.now) _ _ _ _ _ p.telling _ p.table.linked c.loop-p.invariant c.loop-p-test.true refl;
+    }
 
 pub loop-p-smaller : goal.loop-p-smaller
 loop-p-smaller c =
@@ -89,7 +41,7 @@ loop-p-preserved c =
     let l = c.loop-p in
     let q = get_or a.starts.now (l.p - 1) 0 in
     seek-on (starts_called a.s.now a.starts.now) _ _ _ _ _ p.telling _ p.table.linked l.invariant c.loop-p-test.true
-    (read-compared a.s.now q q (name_in a.s.now a.x) c.name_at-y.ensures.0 refl c.is_namesake.ensures
+    (read-compared a.s.now q q (name_in a.s.now a.x) c.name_at.ensures.0 refl c.is_namesake.ensures
     ∙ c.if-is_namesake.false)
     refl c.find_from-p.ensures
 

@@ -1,4 +1,3 @@
-use Prim.Native.Nat.{◌-◌, ◌≤◌}
 use mathlib.Core.Path.{◌≡◌}
 use mathlib.Core.Bool.{false}
 use Rattle.namesake_laws.specs.Repeats.{met_in}
@@ -8,7 +7,4 @@ use Rattle.build_namesakes.proofs.is_repeat.Given as goal
 
 -- none of those passed has the name
 abbrev pub invariant-loop-i : goal.invariant-loop-i
-invariant-loop-i l = (l.i ≤ l.j) × (l.p ≡ start_of l.s l.at l.i) × (met_in (called l.s l.at) l.i (name_in l.s l.x) ≡ false)
-
-abbrev pub decreases-loop-i : goal.decreases-loop-i
-decreases-loop-i l = l.j - l.i
+invariant-loop-i l = (l.p ≡ start_of l.s l.at l._i) × (met_in (called l.s l.at) l._i (name_in l.s l.x) ≡ false)

@@ -1,14 +1,10 @@
 use native.Mathlib.Omega.{arith}
 use Prim.Native.Nat.{◌+◌, ◌-◌}
 use mathlib.Core.Path.{◌≡◌, refl, ap, ◌∙◌}
-use Rattle.namesake_laws.proofs.Blocks.{reach-first, reach-on, reach-end, block-later}
+use Rattle.namesake_laws.proofs.Blocks.{reach-first, reach-on, block-later}
 use Rattle.build_namesakes.specs.Rows.{start_of, called}
 use Rattle.build_namesakes.proofs.Rows.{start-here, start-jump, called-later, row-less, row-later, row-few}
 use Rattle.build_namesakes.proofs.many.Goals as goal
-
-pub block-best-requires : goal.block-best-requires
-block-best-requires c =
-    c.requires
 
 pub loop-b-init : goal.loop-b-init
 loop-b-init c =
@@ -24,10 +20,6 @@ position_of-p-requires c =
     let t = c.loop-b-test.true in
     row-less a.s.now l.p (row-later a.s.now a.at c.requires (omega arith) l.invariant.1) (omega arith)
 
-pub overflow_sub-best : goal.overflow_sub-best
-overflow_sub-best c =
-    omega (arith, c.loop-b-test.true)
-
 pub block-requires : goal.block-requires
 block-requires c =
     let a = c.args in
@@ -36,16 +28,6 @@ block-requires c =
     let t = c.loop-b-test.true in
     let e = start-jump a.s.now a.at 4096 l.b l.invariant.0 l.invariant.1 c.position_of-p.ensures in
     row-less a.s.now c.position_of-p.result (row-later a.s.now a.at c.requires (omega arith) e) (omega arith)
-
-pub overflow_add-best : goal.overflow_add-best
-overflow_add-best c =
-    omega (
-      arith,
-      c.block.ensures.within,
-      c.loop-b-test.true,
-      c.loop-b.invariant.2.within,
-      c.ranges.n,
-    )
 
 pub overflow_add-b : goal.overflow_add-b
 overflow_add-b c =
@@ -57,9 +39,6 @@ overflow_add-b c =
       c.loop-b-test.true,
       c.loop-b.invariant.2.within,
     )
-
-pub loop-b-smaller : goal.loop-b-smaller
-loop-b-smaller c = omega (arith, c.block.ensures.within, c.loop-b-test.true)
 
 pub loop-b-preserved : goal.loop-b-preserved
 loop-b-preserved c =
@@ -74,7 +53,3 @@ loop-b-preserved c =
       reach-on (called a.s.now a.at) _ 4096 l.invariant.2
           (block-later (called a.s.now a.at) (called a.s.now q.result) l.b (λ i. called-later a.s.now a.at l.b i e) 4096 (omega arith) c.block.ensures),
     )
-
-pub returns : goal.returns
-returns c =
-    let a = c.args in reach-end (called a.s.now a.at) _ c.loop-b.invariant.2 (omega (arith, c.loop-b-test.false))

@@ -9,9 +9,7 @@ pub loop-out-init : goal.loop-out-init
 loop-out-init t c = (c.requires.2.starts, omega arith, refl, starts-going _ _ _ _ _ _ _)
 
 pub is_opening-requires : goal.is_opening-requires
-is_opening-requires t c =
-    let g = c.loop-out.invariant in
-    (g.0, going-laid _ _ _ _ _ _ _ _ _ g.3 _ _ c.requires.2 c.requires.3)
+is_opening-requires t c = let g = c.loop-out.invariant in (g.0, going-laid _ _ _ _ _ _ _ _ _ g.3 _ _ c.requires.2 c.requires.3)
 
 pub start_key-w-requires : goal.start_key-w-requires
 start_key-w-requires t c =

@@ -1,11 +1,6 @@
-use mathlib.Core.Path.{refl}
 use native.Mathlib.Omega.{arith}
-use Rattle.build_write.proofs.Leaves.{starts-going, element-fits, goes_on, all_there}
+use Rattle.build_write.proofs.Leaves.{element-fits, goes_on, all_there}
 use Rattle.build_write.proofs.put_elements.Goals as goal
-
-pub loop-p-init : goal.loop-p-init
-loop-p-init c =
-    (refl, starts-going _ _ _ _)
 
 pub put_element-p-requires : goal.put_element-p-requires
 put_element-p-requires c =
@@ -26,12 +21,7 @@ loop-p-smaller c =
     let m = c.put_element-p.ensures x.2.0 x.2.1 x.2.2 x.2.3 in omega (arith, m.fewer)
 
 pub loop-p-preserved : goal.loop-p-preserved
-loop-p-preserved c = (
-  omega (arith, c.loop-p.invariant.0),
-  goes_on _ _ _ _ _ _ c.loop-p.invariant.1 c.loop-p-test.true _ _
-      c.put_element-p.ensures,
-)
+loop-p-preserved c = (omega (arith, c.loop-p.invariant.0), goes_on _ _ _ _ _ _ c.loop-p.invariant.1 c.loop-p-test.true _ _ c.put_element-p.ensures)
 
 pub returns : goal.returns
-returns c =
-    all_there _ _ _ _ _ _ c.loop-p.invariant.1 c.loop-p-test.false
+returns c = all_there _ _ _ _ _ _ c.loop-p.invariant.1 c.loop-p-test.false

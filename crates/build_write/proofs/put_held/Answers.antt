@@ -1,5 +1,5 @@
 use native.Mathlib.Omega.{arith}
-use Rattle.build_write.proofs.Values.{value_room, body-few, next-given, next-fits-in, next_low, data-room, held-end, held-put}
+use Rattle.build_write.proofs.Values.{value_room, next-given, next-fits-in, next_low, data-room, held-end, held-put}
 use Rattle.build_write.proofs.put_held.Goals as goal
 
 pub overflow_add-next : goal.overflow_add-next
@@ -41,9 +41,6 @@ put_data-requires c =
     c.requires.0.lies.name
     c.is_narrow-narrow.ensures) in
     record { body_len_bound = r.0; body_in_bounds = omega (arith, r.1) }
-
-pub data_size-requires : goal.data_size-requires
-data_size-requires c = body-few _ _ c.requires.0 _ _ c.requires.1 _ _ c.part_of.ensures c.part_of-body.ensures
 
 pub overflow_add-result : goal.overflow_add-result
 overflow_add-result c =

@@ -13,26 +13,13 @@ pub overflow_cast-k-3 : goal.overflow_cast-k-3
 overflow_cast-k-3 c = omega (arith, (known-few _ _ _ _ _ _ _ _ c.requires.4).0)
 
 pub overflow_cast-k-5 : goal.overflow_cast-k-5
-overflow_cast-k-5 c =
-    omega (arith, (known-bounds _ _ _ _ _ _ _ _ c.requires.4).0)
+overflow_cast-k-5 c = omega (arith, (known-bounds _ _ _ _ _ _ _ _ c.requires.4).0)
 
 pub overflow_cast-k-6 : goal.overflow_cast-k-6
-overflow_cast-k-6 c =
-    omega (arith, (known-bounds _ _ _ _ _ _ _ _ c.requires.4).1)
+overflow_cast-k-6 c = omega (arith, (known-bounds _ _ _ _ _ _ _ _ c.requires.4).1)
 
 pub overflow_cast-k-7 : goal.overflow_cast-k-7
-overflow_cast-k-7 c =
-    omega (
-      arith,
-      (known-bounds _ _ _ _ _ _ _ _ c.requires.4).2,
-    )
-
-pub part_of-requires : goal.part_of-requires
-part_of-requires c = c.requires.4.lies.inside
-
-pub overflow_add-offset : goal.overflow_add-offset
-overflow_add-offset c =
-    omega (arith, c.requires.4.low)
+overflow_cast-k-7 c = omega (arith, (known-bounds _ _ _ _ _ _ _ _ c.requires.4).2)
 
 pub put_key-requires : goal.put_key-requires
 put_key-requires c =

@@ -12,10 +12,8 @@ is_value-requires c = going-laid _ _ _ _ _ _ c.loop-out.invariant.3 _ _ c.requir
 
 pub put_next-w-requires : goal.put_next-w-requires
 put_next-w-requires c =
-    let at-loop = c in
-    let at_entry_lem = at-loop.before.before.before in
-    next_fits _ _ _ _ _ _ at-loop.loop-out.invariant.3 (sym c.is_value.ensures ∙ c.loop-out-test.true) _ at-loop.loop-out.invariant.1
-    at_entry_lem.requires.0 at_entry_lem.requires.1 at_entry_lem.requires.2 (room_in at-loop.loop-out.invariant.2 at_entry_lem.requires.3)
+    next_fits _ _ _ _ _ _ c.loop-out.invariant.3 (sym c.is_value.ensures ∙ c.loop-out-test.true) _ c.loop-out.invariant.1
+    c.requires.0 c.requires.1 c.requires.2 (room_in c.loop-out.invariant.2 c.requires.3)
 
 pub loop-out-smaller : goal.loop-out-smaller
 loop-out-smaller c =

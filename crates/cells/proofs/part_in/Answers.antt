@@ -7,8 +7,8 @@ use Rattle.cells.proofs.part_in.Goals as goal
 pub overflow_add-start-2 : goal.overflow_add-start-2
 overflow_add-start-2 c = let h = part_room _ _ _ _ c.requires in search rules
 
-pub overflow_add-end : goal.overflow_add-end
-overflow_add-end c = let h = part_room _ _ _ _ c.requires in search rules
+pub overflow_add-result : goal.overflow_add-result
+overflow_add-result c = let h = part_room _ _ _ _ c.requires in search rules
 
 pub slice_bounds-result-end : goal.slice_bounds-result-end
 slice_bounds-result-end c = let h = part_room _ _ _ _ c.requires in search rules

@@ -1,21 +1,10 @@
-use Rattle.cells.proofs.Turns.{done, fault, TilesLeft, fits, walked, refused}
-use Rattle.cells.proofs.Total.{length-marks}
+use Rattle.std.proofs.lemmas.Result.{err_from_is_err_and}
+use Rattle.cells.proofs.Turns.{done, fault, fits, walked, refused}
 use Rattle.cells.specs.Map.{marks_all}
 use Rattle.cells.specs.Tiling.{survey_of}
-use mathlib.Core.Path.{refl, sym, ap, ◌∙◌}
-use lib.ListN.{length}
-use Prim.Native.Nat.{◌+◌}
+use mathlib.Core.Path.{refl, sym, ◌∙◌}
 use native.Mathlib.Omega.{arith}
-use Rattle.cells.proofs.tile_bins.Goals.{In-Counted}
 use Rattle.cells.proofs.tile_bins.Goals as goal
-
--- the turn after a good bin
-again : (c : In-Counted) →
-    TilesLeft c.args.bins.now c.args.map.now c.tile.new.map (c.loop-at.at + c.bin_size-n.result) (c.loop-at.count + 1)
-    (c.loop-at.used + c.in-Counted.u) (c.loop-at.free + c.in-Counted.f)
-again c =
-    rw c.tile.ensures.map_after
-    (walked c.loop-at.invariant c.loop-at-test.true c.bin_size-n.ensures c.if-n-eq0.false (sym c.tile.ensures.value ∙ c.in-Counted.is))
 
 pub loop-at-init : goal.loop-at-init
 loop-at-init c = record { before-end = omega arith; pages = omega arith; few = omega arith; small = omega arith; kept = refl; counts = refl; bits = refl }
@@ -41,33 +30,6 @@ tile-requires c = let l = c.loop-at.invariant in
     let g = fits l c.loop-at-test.true c.bin_size-n.ensures in
     record { order = omega arith; eights = omega arith; ends = omega arith; inside = omega arith; small = omega arith }
 
-pub shape_of-map-in-Flawed : goal.shape_of-map-in-Flawed
-shape_of-map-in-Flawed c =
-    ap length c.tile.ensures.map_after ∙ length-marks _ _ ∙ c.loop-at.invariant.kept
-
-pub returns-in-Flawed : goal.returns-in-Flawed
-returns-in-Flawed c =
-    let e = sym c.tile.ensures.value ∙ c.in-Flawed.is in
-    let r =
-    refused c.loop-at.invariant c.loop-at-test.true
-    c.bin_size-n.ensures c.if-n-eq0.false e in
-    record { value = sym r.0; map_after = c.tile.ensures.map_after ∙ sym r.1 }
-
-pub overflow_add-used : goal.overflow_add-used
-overflow_add-used c = let w = again (goal.at.overflow_add-used c).In-Counted in omega arith
-
-pub overflow_add-free : goal.overflow_add-free
-overflow_add-free c = let w = again (goal.at.overflow_add-free c).In-Counted in omega arith
-
-pub overflow_add-count : goal.overflow_add-count
-overflow_add-count c = let w = again (goal.at.overflow_add-count c).In-Counted in omega arith
-
-pub loop-at-smaller : goal.loop-at-smaller
-loop-at-smaller c = let w = again (goal.at.loop-at-smaller c).In-Counted in let ne = c.if-n-eq0.false in omega arith
-
-pub loop-at-preserved : goal.loop-at-preserved
-loop-at-preserved c = again (goal.at.loop-at-preserved c).In-Counted
-
 pub shape_of-map : goal.shape_of-map
 shape_of-map c =
     c.loop-at.invariant.kept
@@ -77,3 +39,24 @@ unfolding survey_of marks_all
 returns c = let l = c.loop-at in
     let e = done c.args.bins.now l.at c.loop-at-test.false in
     record { value = sym (l.invariant.counts ∙ rw e); map_after = sym (l.invariant.bits ∙ rw e) }
+
+pub returns-in_err-u : goal.returns-in_err-u
+returns-in_err-u c =
+    let p = err_from_is_err_and c.from_residual.result c.from_residual.ensures.1 in
+    let r = refused c.loop-at.invariant c.loop-at-test.true c.bin_size-n.ensures c.if-n-eq0.false (sym c.tile.ensures.value ∙ c.in_err-u.was) in
+    record { value = rw (p.1, p.2) (sym r.0); map_after = c.tile.ensures.map_after ∙ sym r.1 }
+
+pub overflow_add-used : goal.overflow_add-used
+overflow_add-used c =
+    let w = walked c.loop-at.invariant c.loop-at-test.true c.bin_size-n.ensures c.if-n-eq0.false (sym c.tile.ensures.value ∙ c.in_ok-u.was) in
+    omega arith
+
+pub overflow_add-free : goal.overflow_add-free
+overflow_add-free c =
+    let w = walked c.loop-at.invariant c.loop-at-test.true c.bin_size-n.ensures c.if-n-eq0.false (sym c.tile.ensures.value ∙ c.in_ok-u.was) in
+    omega arith
+
+pub loop-at-preserved : goal.loop-at-preserved
+loop-at-preserved c =
+    rw c.tile.ensures.map_after
+    (walked c.loop-at.invariant c.loop-at-test.true c.bin_size-n.ensures c.if-n-eq0.false (sym c.tile.ensures.value ∙ c.in_ok-u.was))

@@ -1,5 +1,4 @@
-use native.Mathlib.Omega.{arith}
-use Prim.Native.Nat.{ℕ, ◌-◌}
+use Prim.Native.Nat.{ℕ}
 use mathlib.Core.List.{List}
 use mathlib.Core.Path.{◌≡◌, sym, ◌∙◌}
 use Rattle.chains.specs.Chains.{find_in}
@@ -14,9 +13,6 @@ pub returns-then-keys-q : goal.returns-then-keys-q
 returns-then-keys-q c =
     let o = c.loop-q in
     sym (o.invariant.1 ∙ find-here _ _ _ _ _ c.requires.linked o.q c.loop-q-test.true c.if-keys-q.true)
-
-pub overflow_cast-q : goal.overflow_cast-q
-overflow_cast-q c = omega (arith, c.type_inv.older (c.loop-q.q - 1))
 
 pub loop-q-smaller : goal.loop-q-smaller
 loop-q-smaller c =

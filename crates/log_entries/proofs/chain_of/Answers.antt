@@ -8,7 +8,7 @@ use Rattle.log_entries.proofs.chain_of.Goals as goal
 
 pub loop-chain-init : goal.loop-chain-init
 loop-chain-init c =
-    none_passed _ _ (omega arith) (omega arith) c.u32_at-n.ensures
+    none_passed _ _ (omega arith) (omega arith) (c.from-n.ensures ∙ c.u32_at.ensures)
 
 pub is_entry-requires : goal.is_entry-requires
 is_entry-requires c =

@@ -1,4 +1,3 @@
-use Prim.Native.Nat.{◌-◌}
 use mathlib.Core.Path.{◌≡◌}
 use Rattle.names.specs.Codes.{codes}
 use Rattle.names.specs.Comparison.{compare}
@@ -9,6 +8,3 @@ use Rattle.names.proofs.compare_stored.Given as goal
 abbrev pub invariant-loop-i : goal.invariant-loop-i
 invariant-loop-i l =
     compare (codes l.a_narrow l.a) (codes l.b_narrow l.b) ≡ left (codes l.a_narrow l.a) (codes l.b_narrow l.b) l.i
-
-abbrev pub decreases-loop-i : goal.decreases-loop-i
-decreases-loop-i l = l.shared - l.i

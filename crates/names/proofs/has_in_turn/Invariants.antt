@@ -1,4 +1,3 @@
-use Prim.Native.Nat.{◌-◌}
 use mathlib.Core.Path.{◌≡◌}
 use lib.ListN.{drop}
 use Rattle.names.specs.Codes.{codes, has_code, backslash}
@@ -7,6 +6,3 @@ use Rattle.names.proofs.has_in_turn.Given as goal
 -- what is left decides
 abbrev pub invariant-loop-i : goal.invariant-loop-i
 invariant-loop-i l = has_code backslash (codes l.narrow l.s) ≡ has_code backslash (drop l.i (codes l.narrow l.s))
-
-abbrev pub decreases-loop-i : goal.decreases-loop-i
-decreases-loop-i l = l.end - l.i

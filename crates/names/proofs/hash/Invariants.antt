@@ -1,4 +1,3 @@
-use Prim.Native.Nat.{◌-◌}
 use mathlib.Core.Path.{◌≡◌}
 use lib.ListN.{drop}
 use Rattle.names.specs.Codes.{codes}
@@ -9,6 +8,3 @@ use Rattle.names.proofs.hash.Given as goal
 -- the hash so far, mixed with what is left, is the whole hash
 abbrev pub invariant-loop-i : goal.invariant-loop-i
 invariant-loop-i l = hash_of (codes l.narrow l.s) ≡ mixed_all l.h (uppers (drop l.i (codes l.narrow l.s)))
-
-abbrev pub decreases-loop-i : goal.decreases-loop-i
-decreases-loop-i l = l.end - l.i

@@ -1,4 +1,4 @@
-use Prim.Native.Nat.{◌≤◌, ◌-◌}
+use Prim.Native.Nat.{◌≤◌}
 use mathlib.Core.Path.{◌≡◌}
 use Rattle.names.specs.Comparison.{compare}
 use Rattle.names.proofs.Turns.{left}
@@ -7,6 +7,3 @@ use Rattle.names.proofs.past_alike.Given as goal
 -- what is left decides
 abbrev pub invariant-loop-i : goal.invariant-loop-i
 invariant-loop-i l = (l.i ≤ l.end) × (compare l.a l.b ≡ left l.a l.b l.i)
-
-abbrev pub decreases-loop-i : goal.decreases-loop-i
-decreases-loop-i l = l.end - l.i

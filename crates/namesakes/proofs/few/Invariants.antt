@@ -1,4 +1,3 @@
-use Prim.Native.Nat.{◌-◌}
 use Rattle.namesake_laws.proofs.Blocks.{Passed}
 use Rattle.values.specs.Entries.{entries_of}
 use Rattle.namesakes.specs.Terms.{called}
@@ -6,6 +5,3 @@ use Rattle.namesakes.proofs.few.Given as goal
 
 abbrev pub invariant-loop-j : goal.invariant-loop-j
 invariant-loop-j l = Passed (called l.bins (entries_of l.bins l.e)) l.j
-
-abbrev pub decreases-loop-j : goal.decreases-loop-j
-decreases-loop-j l = l.end - l.j

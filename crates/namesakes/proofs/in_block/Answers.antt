@@ -67,21 +67,6 @@ take_in-n-requires c =
     let p = c.requires.empty in
     record { chained = k.table; keys_in_bounds = (omega (arith, k.keys-same, k.older-same, p.links), omega (arith, k.keys-same, p.few)) }
 
-pub overflow_add-j : goal.overflow_add-j
-overflow_add-j c =
-    omega (
-      arith,
-      c.ranges.best,
-      c.loop-j-test.true,
-    )
-
-pub loop-j-smaller : goal.loop-j-smaller
-loop-j-smaller c =
-    omega (
-      arith,
-      c.loop-j-test.true,
-    )
-
 pub loop-j-preserved : goal.loop-j-preserved
 loop-j-preserved c =
     let a = c.args in

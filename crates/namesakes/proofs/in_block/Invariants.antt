@@ -1,4 +1,3 @@
-use Prim.Native.Nat.{◌-◌}
 use Rattle.namesake_laws.proofs.Scans.{Scanning}
 use Rattle.values.specs.Entries.{entries_of}
 use Rattle.namesakes.specs.Terms.{called}
@@ -7,6 +6,3 @@ use Rattle.namesakes.proofs.in_block.Given as goal
 abbrev pub invariant-loop-j : goal.invariant-loop-j
 invariant-loop-j l =
     Scanning (called l.bins (entries_of l.bins l.e)) l.s l.initial.keys l.initial.older l.initial.heads l.keys l.older l.heads l.j l.n
-
-abbrev pub decreases-loop-j : goal.decreases-loop-j
-decreases-loop-j l = l.best - l.j

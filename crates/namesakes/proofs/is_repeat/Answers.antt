@@ -14,14 +14,14 @@ name_of-x-requires c =
 
 pub loop-i-init : goal.loop-i-init
 loop-i-init c =
-    (omega arith, none-met _ _ refl)
+    none-met _ _ refl
 
-pub name_of-y-requires : goal.name_of-y-requires
-name_of-y-requires c = record { names_lie = c.requires.names_lie; i_lt_count = omega (arith, c.requires.j_lt_count, c.loop-i-test.true) }
+pub name_of-requires : goal.name_of-requires
+name_of-requires c = record { names_lie = c.requires.names_lie; i_lt_count = omega (arith, c.requires.j_lt_count, c.loop-i-test.true) }
 
 pub is_namesake-requires : goal.is_namesake-requires
 is_namesake-requires c = (
-  rw c.name_of-y.ensures
+  rw c.name_of.ensures
       (c.requires.names_lie.lie _
       (omega (arith, c.requires.j_lt_count, c.loop-i-test.true))),
   rw c.name_of-x.ensures
@@ -36,32 +36,18 @@ returns-then-is_namesake c =
     let vs = entries_of a.bins.now a.e in
     sym (ap (met_in (called a.bins.now vs) a.j) (sym (read_name a.bins.now vs a.j x.ensures))
     ∙ met-here (called a.bins.now vs) (codes_of a.bins.now x.result) a.j l.i c.loop-i-test.true
-    (read-compared a.bins.now vs l.i _ c.name_of-y.ensures c.is_namesake.ensures ∙ c.if-is_namesake.true))
-
-pub overflow_add-i : goal.overflow_add-i
-overflow_add-i c = omega (arith, c.ranges.j, c.loop-i-test.true)
-
-pub loop-i-smaller : goal.loop-i-smaller
-loop-i-smaller c =
-    omega (arith, c.loop-i-test.true)
+    (read-compared a.bins.now vs l.i _ c.name_of.ensures c.is_namesake.ensures ∙ c.if-is_namesake.true))
 
 pub loop-i-preserved : goal.loop-i-preserved
 loop-i-preserved c =
-    let l = c.loop-i in
     let a = c.args in
-    let vs = entries_of a.bins.now a.e in (
-      omega (arith, c.loop-i-test.true),
-      met-on (called a.bins.now vs) _ l.i l.invariant.1
-          (read-compared a.bins.now vs l.i _ c.name_of-y.ensures c.is_namesake.ensures ∙ c.if-is_namesake.false),
-    )
+    met-on (called a.bins.now (entries_of a.bins.now a.e)) _ c.loop-i.i c.loop-i.invariant
+    (read-compared a.bins.now (entries_of a.bins.now a.e) c.loop-i.i _ c.name_of.ensures c.is_namesake.ensures ∙ c.if-is_namesake.false)
 
 pub returns : goal.returns
 returns c =
     let l = c.loop-i in
     let a = c.args in
-    let x = c.name_of-x in
     let vs = entries_of a.bins.now a.e in
-    let p = l.invariant.0 in
-    let q = c.loop-i-test.false in
-    let e : l.i ≡ a.j = omega arith in
-    sym (ap (met_in (called a.bins.now vs) a.j) (sym (read_name a.bins.now vs a.j x.ensures)) ∙ rw e at l.invariant.1)
+    let e : l.i ≡ a.j = omega (arith, c.loop-i-test.false) in
+    sym (ap (met_in (called a.bins.now vs) a.j) (sym (read_name a.bins.now vs a.j c.name_of-x.ensures)) ∙ rw e at l.invariant)

@@ -1,4 +1,3 @@
-use Prim.Native.Nat.{◌-◌, ◌≤◌}
 use mathlib.Core.Path.{◌≡◌}
 use mathlib.Core.Bool.{false}
 use Rattle.namesake_laws.specs.Repeats.{met_in}
@@ -9,7 +8,4 @@ use Rattle.namesakes.proofs.is_repeat.Given as goal
 
 -- none of those passed has the name
 abbrev pub invariant-loop-i : goal.invariant-loop-i
-invariant-loop-i l = (l.i ≤ l.j) × (met_in (called l.bins (entries_of l.bins l.e)) l.i (codes_of l.bins l.x) ≡ false)
-
-abbrev pub decreases-loop-i : goal.decreases-loop-i
-decreases-loop-i l = l.j - l.i
+invariant-loop-i l = met_in (called l.bins (entries_of l.bins l.e)) l.i (codes_of l.bins l.x) ≡ false

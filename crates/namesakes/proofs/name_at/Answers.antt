@@ -1,5 +1,5 @@
 use native.Mathlib.Omega.{arith}
-use mathlib.Core.Path.{ap}
+use mathlib.Core.Path.{ap, ◌∙◌}
 use lib.ListN.{length}
 use Rattle.records.proofs.LawsRecord.{front-room}
 use Rattle.namesakes.proofs.Readings.{name-front}
@@ -12,4 +12,4 @@ pub is_narrow-requires : goal.is_narrow-requires
 is_narrow-requires c = omega (arith, ap length c.part_in-r.ensures, front-room _ _ 20 c.requires)
 
 pub returns : goal.returns
-returns c = name-front _ _ _ c.part_in-r.ensures _ _ c.u16_at.ensures c.is_narrow.ensures
+returns c = name-front _ _ _ c.part_in-r.ensures _ _ (c.from.ensures ∙ c.u16_at.ensures) c.is_narrow.ensures

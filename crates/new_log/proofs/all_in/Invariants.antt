@@ -1,4 +1,3 @@
-use Prim.Native.Nat.{◌-◌}
 use mathlib.Core.Path.{◌≡◌}
 use mathlib.Core.Bool.{true}
 use Rattle.sectors.specs.Logged.{in_below}
@@ -7,6 +6,3 @@ use Rattle.new_log.proofs.all_in.Given as goal
 
 abbrev pub invariant-loop-base : goal.invariant-loop-base
 invariant-loop-base l = in_below (is_logged l.log) (logged l.log) l.base l.hive ≡ true
-
-abbrev pub decreases-loop-base : goal.decreases-loop-base
-decreases-loop-base l = l.n - l.base

@@ -1,34 +1,12 @@
 use Rattle.log_versions.specs.Versions.{versions}
 use Rattle.log_versions.specs.Terms.{rest}
-use Rattle.log_versions.proofs.Walked.{fewer}
 use Rattle.new_log.specs.Windows.{always}
-use Rattle.new_log.proofs.Windows.{Left, begins, goes, ends}
+use Rattle.new_log.proofs.Windows.{Left, goes, ends}
 use native.Mathlib.Omega.{arith}
 use Prim.Native.Nat.{ℕ}
 use mathlib.Core.List.{List}
 use mathlib.Core.Path.{sym, subst}
 use Rattle.new_log.proofs.mark_window.Goals as goal
-
-pub first-c-requires : goal.first-c-requires
-first-c-requires c =
-    c.requires
-
-pub loop-c-init : goal.loop-c-init
-loop-c-init c =
-    let s = c in
-    let l = s.args.log.now in
-    (begins always s.args.base s.args.map.now (versions l) (rest l c.first-c.result) c.first-c.ensures.all, c.first-c.ensures.stands)
-
-pub next-c-requires : goal.next-c-requires
-next-c-requires c =
-    let at-if1 = c in
-    (at-if1.loop-c-test.true, at-if1.loop-c.invariant.1)
-
-pub loop-c-smaller : goal.loop-c-smaller
-loop-c-smaller c =
-    let earlier = c in
-    let k = earlier in
-    fewer k.args.log.now k.loop-c.c c.next-c.result c.next-c.ensures
 
 pub loop-c-preserved : goal.loop-c-preserved
 loop-c-preserved c =
@@ -43,10 +21,6 @@ loop-c-preserved c =
           (goes always s.args.base m₀ (versions l) k.loop-c.map (rest l v) (record { page = v.page; place = v.place }) (rest l d) c.next-c.ensures.split k.loop-c.invariant.0),
       c.next-c.ensures.stands,
     )
-
-pub shape_of-map : goal.shape_of-map
-shape_of-map c =
-    c.loop-c.invariant.0.long
 
 pub returns : goal.returns
 returns c =

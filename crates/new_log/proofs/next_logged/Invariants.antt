@@ -1,12 +1,8 @@
-use Rattle.log_versions.specs.Versions.{is_logged}
-use Rattle.new_log.specs.Layout.{page_count}
-use Prim.Native.Nat.{ℕ, ◌-◌, ◌≤◌, ◌<◌}
+use Prim.Native.Nat.{ℕ, ◌≤◌, ◌<◌}
 use mathlib.Core.Bool.{false}
 use mathlib.Core.Path.{◌≡◌}
+use Rattle.log_versions.specs.Versions.{is_logged}
 use Rattle.new_log.proofs.next_logged.Given as goal
 
 abbrev pub invariant-loop-base : goal.invariant-loop-base
-invariant-loop-base l = (l.n ≡ page_count l.log) × (l.from ≤ l.base) × ((q : ℕ) → l.from ≤ q → q < l.base → is_logged l.log q ≡ false)
-
-abbrev pub decreases-loop-base : goal.decreases-loop-base
-decreases-loop-base l = l.n - l.base
+invariant-loop-base l = (l.from ≤ l.base) × ((q : ℕ) → l.from ≤ q → q < l.base → is_logged l.log q ≡ false)

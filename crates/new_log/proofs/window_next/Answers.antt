@@ -1,36 +1,32 @@
-use Rattle.log_entries.specs.declared.Chain.{Chain}
-use Rattle.new_log.proofs.Counts.{no_bits, next-at, next-nothing}
-use lib.ListN.{length-replicate}
+use Prim.Native.Nat.{ℕ, ◌/◌, ◌<◌, ◌+◌, ◌*◌}
 use native.Mathlib.Omega.{arith}
-use Prim.Native.Nat.{ℕ, ◌/◌}
-use mathlib.Core.Path.{sym, ap, ◌∙◌}
+use mathlib.Core.Path.{◌≡◌, sym, ap, ◌∙◌}
+use lib.ListN.{length-replicate}
+use Rattle.std.specs.Prelude.{Some}
+use Rattle.bitmap.specs.Bits.{next_among}
+use Rattle.log_entries.specs.declared.Chain.{Chain}
+use Rattle.log_versions.specs.Versions.{is_logged}
+use Rattle.new_log.proofs.Counts.{no_bits, next-at, next-nothing}
+use Rattle.new_log.proofs.window_next.Goals.{In_ok-k}
 use Rattle.new_log.proofs.window_next.Goals as goal
 
-pub mark_window-requires : goal.mark_window-requires
-mark_window-requires c =
-    c.requires.chain_value
+-- the page that is found
+at : (c : In_ok-k) → (c.in_ok-k.k < 8 * 16384) × (next_among (8 * 16384) (is_logged c.args.log.now) c.args.base ≡ Some (c.args.base + c.in_ok-k.k))
+at c =
+    next-at c.args.log.now c.args.base 16384 c.mark_window.ensures (length-replicate {A = ℕ} 16384 0) (no_bits 16384) _
+    (sym c.next_marked.ensures ∙ c.in_ok-k.was)
+
+pub returns-in_err-k : goal.returns-in_err-k
+returns-in_err-k c =
+    c.from_residual.ensures
+    ∙ sym
+    (next-nothing c.args.log.now c.args.base 16384 c.mark_window.ensures (length-replicate {A = ℕ} 16384 0) (no_bits 16384)
+    (sym c.next_marked.ensures ∙ c.in_err-k.was))
 
 pub overflow_add-result : goal.overflow_add-result
 overflow_add-result c =
-    let s = c in
-    let f =
-    next-at s.args.log.now s.args.base 16384 c.mark_window.ensures
-    (length-replicate {A = ℕ} 16384 0) (no_bits 16384) _ (sym c.next_marked.ensures ∙ c.in-At.is) in
-    omega (arith, f.0, s.requires.base_bound, ap (λ (e : Chain). e.largest / 512) s.requires.chain_value)
+    omega
+    (arith, (at (goal.at.overflow_add-result c).In_ok-k).0, c.requires.base_bound, ap (λ (e : Chain). e.largest / 512) c.requires.chain_value)
 
-pub returns-in-At : goal.returns-in-At
-returns-in-At c =
-    let at-next-marked = c in
-    let at-mark-window = at-next-marked in
-    let s = at-mark-window in
-    sym
-    (next-at s.args.log.now s.args.base 16384 at-mark-window.mark_window.ensures (length-replicate {A = ℕ} 16384 0) (no_bits 16384) _
-    (sym at-next-marked.next_marked.ensures ∙ c.in-At.is)).1
-
-pub returns-in-Nothing : goal.returns-in-Nothing
-returns-in-Nothing c =
-    let at-mark-window = c in
-    let s = at-mark-window in
-    sym
-    (next-nothing s.args.log.now s.args.base 16384 at-mark-window.mark_window.ensures (length-replicate {A = ℕ} 16384 0) (no_bits 16384)
-    (sym c.next_marked.ensures ∙ c.in-Nothing.is))
+pub returns : goal.returns
+returns c = sym (at c).1

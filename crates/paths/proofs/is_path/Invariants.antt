@@ -1,10 +1,5 @@
 use Rattle.paths.proofs.Passes.{Passed}
-use lib.ListN.{length}
-use Prim.Native.Nat.{◌-◌}
 use Rattle.paths.proofs.is_path.Given as goal
 
-abbrev pub invariant-loop-i : goal.invariant-loop-i
-invariant-loop-i l = Passed l.path l.units l.cuts l.i
-
-abbrev pub decreases-loop-i : goal.decreases-loop-i
-decreases-loop-i l = length l.path - l.i
+abbrev pub invariant-loop-u : goal.invariant-loop-u
+invariant-loop-u l = Passed l.path l.units l.cuts l.u-index

@@ -1,11 +1,6 @@
+use Rattle.std.proofs.Common.{arith}
 use Rattle.paths.proofs.Parts.{part_cut, part-on, part-over}
-use mathlib.Core.Path.{refl}
-use native.Mathlib.Omega.{arith}
 use Rattle.paths.proofs.part_end.Goals as goal
-
-pub loop-i-init : goal.loop-i-init
-loop-i-init c =
-    (c.requires, refl)
 
 pub returns-then-path-i-eq-BACKSLASH : goal.returns-then-path-i-eq-BACKSLASH
 returns-then-path-i-eq-BACKSLASH c = part_cut _ _ _ c.loop-i.invariant.1 c.loop-i-test.true c.if-path-i-eq-BACKSLASH.true
@@ -15,4 +10,6 @@ loop-i-preserved c = (omega arith, part-on _ _ _ c.loop-i.invariant.1 c.loop-i-t
 
 pub returns : goal.returns
 returns c =
-    part-over _ _ _ c.loop-i.invariant.1 c.loop-i-test.false
+    let i = c.loop-i.invariant.0 in
+    let e = part-over _ _ _ c.loop-i.invariant.1 c.loop-i-test.false in
+    omega arith

@@ -1,31 +1,22 @@
-use Rattle.recovery.proofs.Ways.{logged-sound, flawed-log}
-use Rattle.recovery.specs.Calls.{next_of, next_tested, next_answer}
-use Rattle.recovery.specs.declared.NextPage.TheVariants.{Refused}
-use Rattle.logs.specs.Logs.{read_of, log_fault, counted_of, next_logged}
-use Rattle.fields.specs.declared.Verdict.{Verdict}
-use mathlib.Core.Path.{sym, ap, ◌∙◌}
+use Rattle.logs.proofs.Laws.{head_of, bins-sized, logged-below, next-least}
+use Rattle.recovery.proofs.Ways.{logged-sound}
+use native.Mathlib.Omega.{arith}
+use Rattle.logs.specs.Logs.{log_fault}
+use Rattle.std.specs.Prelude.{Ok}
+use mathlib.Core.Path.{◌≡◌, sym, ◌∙◌}
 use Rattle.recovery.proofs.next_page.Goals as goal
 
-pub next_of-requires : goal.next_of-requires
-next_of-requires c =
+pub next_logged-requires-clause-log_value : goal.next_logged-requires-clause-log_value
+next_logged-requires-clause-log_value c =
+    head_of _ (logged-sound _ _ _ _ _ (sym c.log_test.ensures ∙ c.in_ok-read.was)).0
+
+pub logged_place-requires-clause-page_value : goal.logged_place-requires-clause-page_value
+logged_place-requires-clause-page_value c =
+    (next-least c.args.log.now c.args.from _ (sym c.next_logged.ensures ∙ c.in-Some.is)).marked
+
+pub page_place-requires : goal.page_place-requires
+page_place-requires c =
     let l = c.args.log.now in
-    let e = logged-sound (log_fault l) (read_of l) c.in-Logged.read (counted_of l) _ (sym c.log_test.ensures ∙ c.in-Logged.is) in
-    record { log_value = e.0; read_value = sym e.1 }
-
-pub returns-in-Flawed : goal.returns-in-Flawed
-unfolding next_answer
-returns-in-Flawed c =
-    let at-log-test = c in
-    let s = c in
-    let l = s.args.log.now in
-    let e = flawed-log (log_fault l) (read_of l) (counted_of l) c.in-Flawed.f (sym at-log-test.log_test.ensures ∙ c.in-Flawed.is) in
-    ap Refused c.refused.ensures ∙ sym (ap (λ (v : Verdict). next_tested v (next_of l (next_logged l s.args.from))) e)
-
-pub returns-in-Logged : goal.returns-in-Logged
-unfolding next_answer
-returns-in-Logged c =
-    let at-log-test = c in
-    let s = c in
-    let l = s.args.log.now in
-    let e = (logged-sound (log_fault l) (read_of l) c.in-Logged.read (counted_of l) _ (sym at-log-test.log_test.ensures ∙ c.in-Logged.is)).0 in
-    c.next_of.ensures ∙ sym (ap (λ (v : Verdict). next_tested v (next_of l (next_logged l s.args.from))) e)
+    let ok : log_fault l ≡ Ok tt = (logged-sound _ _ _ _ _ (sym c.log_test.ensures ∙ c.in_ok-read.was)).0 in
+    let m = (next-least l c.args.from _ (sym c.next_logged.ensures ∙ c.in-Some.is)).marked in
+    omega (arith, logged-below l ok _ m, (bins-sized l (head_of l ok)).limit)

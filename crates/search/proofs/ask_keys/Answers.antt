@@ -1,8 +1,7 @@
+use Rattle.std.proofs.Common.{sym, ap, ◌∙◌}
 use Rattle.search.specs.declared.Turn.TheVariants.{Stop}
-use Rattle.search.proofs.Asks.{first-is}
-use mathlib.Core.Path.{sym, ap, ◌∙◌}
+use Rattle.search.proofs.Asks.{first-is, first-found}
 use Rattle.search.proofs.ask_keys.Goals as goal
-use Rattle.search.proofs.ask_keys.Goals.{in-Right, in-Stop+in-Found, in-Stop+in-Missing}
 
 pub returns-in-Left : goal.returns-in-Left
 returns-in-Left c =
@@ -10,17 +9,22 @@ returns-in-Left c =
     (first-is c.args.bins.now c.args.name.now c.args.leaf c.requires.count_nonzero c.child_offset-first.ensures
     c.ask_key.ensures c.in-Left.is)
 
-pub returns-in-Flawed : goal.returns-in-Flawed
-returns-in-Flawed c =
+pub returns-in-Stop-Err : goal.returns-in-Stop-Err
+returns-in-Stop-Err c =
     sym
     (first-is c.args.bins.now c.args.name.now c.args.leaf c.requires.count_nonzero c.child_offset-first.ensures
-    c.ask_key.ensures (c.in-Stop.is ∙ ap Stop c.in-Flawed.is))
+    c.ask_key.ensures (c.in-Stop-Err.is ∙ ap Stop c.in-Stop-Err.field-0-is))
 
-pub returns : goal.returns
-returns c =
-    c.ask_last.ensures ∙ sym
-    (elim c.match-ask_key.branch [
-      | in-Right w ↦ first-is c.args.bins.now c.args.name.now c.args.leaf c.requires.count_nonzero c.child_offset-first.ensures c.ask_key.ensures w.in-Right.is
-      | in-Stop+in-Found w ↦ first-is c.args.bins.now c.args.name.now c.args.leaf c.requires.count_nonzero c.child_offset-first.ensures c.ask_key.ensures (w.in-Stop.is ∙ ap Stop w.in-Found.is)
-      | in-Stop+in-Missing w ↦ first-is c.args.bins.now c.args.name.now c.args.leaf c.requires.count_nonzero c.child_offset-first.ensures c.ask_key.ensures (w.in-Stop.is ∙ ap Stop w.in-Missing.is)
-    ])
+pub returns-in-Right : goal.returns-in-Right
+returns-in-Right c =
+    c.ask_last-in-Right.ensures
+    ∙ sym
+    (first-is c.args.bins.now c.args.name.now c.args.leaf c.requires.count_nonzero c.child_offset-first.ensures
+    c.ask_key.ensures c.in-Right.is)
+
+pub returns-in-Stop-Ok : goal.returns-in-Stop-Ok
+returns-in-Stop-Ok c =
+    c.ask_last.ensures
+    ∙ sym
+    (first-is c.args.bins.now c.args.name.now c.args.leaf c.requires.count_nonzero c.child_offset-first.ensures
+    c.ask_key.ensures (c.in-Stop-Ok.is ∙ ap Stop c.in-Stop-Ok.field-0-is) ∙ first-found _ _)

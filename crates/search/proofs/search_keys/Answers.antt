@@ -1,46 +1,31 @@
+use Rattle.std.proofs.Common.{Ok, refl, sym, ap, ◌∙◌, arith}
+use Rattle.std.proofs.lemmas.Result.{err_from_is_err_and}
 use Rattle.records.specs.Terms.{no_child}
 use Rattle.records.proofs.LawsElements.{elements-length, element-at}
 use Rattle.search.proofs.Turns.{turn-found, turn-faulty, turn_on, turn_end}
-use Rattle.search.proofs.Searches.{key-by}
-use mathlib.Core.Path.{refl, sym, ◌∙◌}
-use native.Mathlib.Omega.{arith}
+use Rattle.search.proofs.Ways.{key-by}
 use Rattle.search.proofs.search_keys.Goals as goal
 
-pub loop-i-init : goal.loop-i-init
-loop-i-init c =
-    (omega arith, refl, refl)
-
-pub returns-in-Found : goal.returns-in-Found
-returns-in-Found c =
+pub returns-in_err-o : goal.returns-in_err-o
+returns-in_err-o c =
     let l = c.loop-i in
-    let a = c.args in
-    sym
-    (turn-found _ _ l.i _ l.invariant.2 _ (omega (arith, elements-length a.bins.now a.leaf)) (element-at _ _ _ (omega arith) refl)
-    (sym (key-by _ _ _ _ c.child_offset-at.ensures)
-    ∙ sym c.key_named.ensures
-    ∙ c.in-Found.is))
+    let n = elements-length c.args.bins.now c.args.leaf in
+    let p = err_from_is_err_and c.from_residual.result c.from_residual.ensures.1 in
+    rw (p.1, p.2) (sym (turn-faulty _ _ l.i _ l.invariant _ (omega arith) (element-at _ _ _ (omega arith) refl) (sym (key-by _ _ _ _ c.child_offset-at.ensures) ∙ sym c.key_named.ensures ∙ c.in_err-o.was)))
 
-pub returns-in-Flawed : goal.returns-in-Flawed
-returns-in-Flawed c =
+pub returns-in-Some : goal.returns-in-Some
+returns-in-Some c =
     let l = c.loop-i in
-    let a = c.args in
-    sym
-    (turn-faulty _ _ l.i _ l.invariant.2 _ (omega (arith, elements-length a.bins.now a.leaf)) (element-at _ _ _ (omega arith) refl)
-    (sym (key-by _ _ _ _ c.child_offset-at.ensures)
-    ∙ sym c.key_named.ensures
-    ∙ c.in-Flawed.is))
+    let n = elements-length c.args.bins.now c.args.leaf in
+    sym (turn-found _ _ l.i _ l.invariant _ (omega arith) (element-at _ _ _ (omega arith) refl) (sym (key-by _ _ _ _ c.child_offset-at.ensures) ∙ sym c.key_named.ensures ∙ c.in_ok-o.was ∙ ap Ok c.in-Some.is))
 
 pub loop-i-preserved : goal.loop-i-preserved
 loop-i-preserved c =
     let l = c.loop-i in
-    let a = c.args in (
-      omega arith,
-      l.invariant.1,
-      turn_on _ _ l.i _ l.invariant.2 _ (omega (arith, elements-length a.bins.now a.leaf)) (element-at _ _ _ (omega arith) refl)
-          (sym (key-by _ _ _ _ c.child_offset-at.ensures) ∙ sym c.key_named.ensures ∙ c.in-Missing.is),
-    )
+    let n = elements-length c.args.bins.now c.args.leaf in
+    turn_on _ _ l.i _ l.invariant _ (omega arith) (element-at _ _ _ (omega arith) refl) (sym (key-by _ _ _ _ c.child_offset-at.ensures) ∙ sym c.key_named.ensures ∙ c.in_ok-o.was ∙ ap Ok c.in_default.is)
 
 pub returns : goal.returns
 returns c =
-    let l = c.loop-i in
-    let a = c.args in sym (turn_end _ _ l.i no_child l.invariant.2 (omega (arith, elements-length a.bins.now a.leaf)))
+    let n = elements-length c.args.bins.now c.args.leaf in
+    sym (turn_end _ _ c.loop-i.i no_child c.loop-i.invariant (omega arith))

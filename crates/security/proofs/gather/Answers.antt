@@ -38,7 +38,10 @@ insert-requires c =
     let g = o.invariant in
     let p = c.requires.empty in
     let l = c.loop-n-test.true in
-    record { chained = g.table; n_in_bounds = (l, omega (arith, l, g.keys-same, g.older-same, p.links), omega (arith, l, g.keys-same, p.few)) }
+    record {
+      chained = g.table;
+      n_in_bounds = (omega (arith, l, g.keys-same), omega (arith, l, g.keys-same, g.older-same, p.links), omega (arith, l, g.keys-same, p.few));
+    }
 
 pub shape_of-keys : goal.shape_of-keys
 shape_of-keys c =
@@ -63,14 +66,14 @@ returns-then-not-is_joined c =
       chained = g.table;
     }
 
-pub returns-then-next-first : goal.returns-then-next-first
-returns-then-next-first c =
+pub returns-then-item-first : goal.returns-then-item-first
+returns-then-item-first c =
     let o = c.loop-n in
     let g = o.invariant in
     let below : o.n < length c.args.keys.now = omega (arith, c.loop-n-test.true, g.keys-same) in
     let joined : is_joined c.args.bins.now c.args.map.now o.at ≡ true = sym c.is_joined.ensures ∙ c.if-not-is_joined.false in
     let i = c.insert.ensures in
-    let e = closes_by _ _ _ c.item_at-item.ensures c.if-next-first.true in
+    let e = closes_by _ _ _ c.item_at-item.ensures c.if-item-first.true in
     record {
       value = going-closed _ _ _ _ _ _ _ _ _ _ _ _ g below joined e;
       holds_from = rw i.keys_after (going-holds _ _ _ _ _ _ _ _ _ _ _ _ g below joined);
@@ -87,11 +90,12 @@ loop-n-preserved c =
     let r = c.item_at-item.ensures in
     rw r
     (going_on _ _ _ _ _ _ _ _ _ _ _ _ g below joined _ _ _ i.keys_after i.chained_2 (search rules) (search rules) (search rules)
-    (goes_by _ _ _ r c.if-next-first.false))
+    (goes_by _ _ _ r c.if-item-first.false))
 
 pub returns : goal.returns
 returns c =
     let o = c.loop-n in
     let g = o.invariant in
-    let l : length c.args.keys.now ≤ o.n = omega (arith, c.loop-n-test.false, g.keys-same) in
-    record { value = going-full _ _ _ _ _ _ _ _ _ _ _ _ g l; holds_from = g.holds; chained = g.table }
+    let l : length c.args.keys.now ≤ o.n = omega (arith, c.loop-n-test.false) in
+    let z : length o.keys ≡ o.n = omega (arith, g.keys-same, g.inside) in
+    record { value = rw z (going-full _ _ _ _ _ _ _ _ _ _ _ _ g l); holds_from = rw z g.holds; chained = rw z g.table }

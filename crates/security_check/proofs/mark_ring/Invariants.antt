@@ -1,9 +1,5 @@
-use Rattle.std.proofs.Common.{◌-◌, length}
 use Rattle.security_check.proofs.Marking.{Marking}
 use Rattle.security_check.proofs.mark_ring.Given as goal
 
 abbrev pub invariant-loop-met : goal.invariant-loop-met
-invariant-loop-met l = Marking l.bins l.first l.initial.map l.map l.at l.met
-
-abbrev pub decreases-loop-met : goal.decreases-loop-met
-decreases-loop-met l = length l.bins - l.met
+invariant-loop-met l = Marking l.bins l.first l.initial.map l.map l.at l._met

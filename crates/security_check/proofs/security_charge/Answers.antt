@@ -1,48 +1,40 @@
-use Rattle.std.proofs.Common.{sym, refl, ◌∙◌}
-use Rattle.security_pass.proofs.Rooms.{key-room}
-use Rattle.security_check.proofs.Answers.{rung-of, ring-flawed, ring-summed, no_item, at-fault, by-keys, all-on}
+use Rattle.std.proofs.Common.{◌≡◌, ℕ, Ok, Err, Result, MatchResult, rules, sym, ◌∙◌, arith}
+use Rattle.fields.specs.declared.Flaw.{Flaw}
+use Rattle.fields.specs.declared.Offset.{Offset}
+use Rattle.fields.specs.declared.Refusal.{Refusal}
+use Rattle.fields.specs.Faults.{refusal_of, Verdict}
+use Rattle.security_check.specs.Terms.{summed}
+use Rattle.security_check.proofs.Answers.{ring-flawed, ring-summed, no_item, at-fault, by-keys, all-on}
 use Rattle.security_check.proofs.security_charge.Goals as goal
 
-pub security_of-first-requires : goal.security_of-first-requires
-security_of-first-requires c =
-    key-room c.requires.legible
+pub returns-then-not-is_item-clause-value : goal.returns-then-not-is_item-clause-value
+returns-then-not-is_item-clause-value c = c.refused_at.ensures ∙ no_item _ _ _ _ c.security_of-first.ensures (sym c.is_item.ensures ∙ c.if-not-is_item.true)
 
-pub returns-then-not-is_item : goal.returns-then-not-is_item
-returns-then-not-is_item c = record {
-  value = c.refused_at.ensures
-      ∙ no_item _ _ _ _ c.security_of-first.ensures
-      (sym c.is_item.ensures ∙ c.if-not-is_item.true);
-  map_unchanged = refl;
-}
+-- what is refused with a key was a flaw of the ring
+keyed : (key : Offset) (v : Verdict) (n : ℕ) (a : Result ℕ Flaw) {b : Result ℕ Refusal} {r : Refusal} → a ≡ summed v n
+    → MatchResult a (λ n. b ≡ Ok n) (λ f. b ≡ Err (refusal_of key f)) → b ≡ Err r → (f : Flaw) × (v ≡ Err f) × (r ≡ refusal_of key f)
+keyed key v n (Ok s) q h e = absurd (let z : ◌≡◌ {A = ℕ} 0 1 = cc in omega arith)
+keyed key v n (Err f) q h e = (f, ring-flawed v n q, cc)
 
-pub ring_sum-requires : goal.ring_sum-requires
-ring_sum-requires c =
-    let p = c.requires in
-    record { first_value = sym c.is_item.ensures ∙ c.if-not-is_item.false; walkable = record { legible = p.legible; few = rw (← p.total) p.few } }
-
-pub returns-then-n-keys : goal.returns-then-n-keys
-returns-then-n-keys c =
-    let p = c.requires in
+pub returns-in_err-n-clause-value : goal.returns-in_err-n-clause-value
+returns-in_err-n-clause-value c =
     let i = sym c.is_item.ensures ∙ c.if-not-is_item.false in
-    let s = ring-summed _ _ (sym c.in-Sum.is ∙ c.ring_sum.ensures) in
-    record { value = all-on _ _ _ _ c.security_of-first.ensures i s.0 (rw (← p.total) p.few) p.total s.1 c.if-n-keys.true; map_unchanged = refl }
+    let h : MatchResult c.ring_sum.result (λ n. c.map_err.result ≡ Ok n) (λ f. c.map_err.result ≡ Err (refusal_of c.args.root f)) = search rules in
+    let k = keyed c.args.root _ _ _ c.ring_sum.ensures h c.in_err-n.was in
+    let a = at-fault _ _ _ _ c.security_of-first.ensures i {f = k.0} k.1 k.2 in
+    search rules
 
-pub seek_off-requires : goal.seek_off-requires
-seek_off-requires c =
+pub returns-then-n-keys-clause-value : goal.returns-then-n-keys-clause-value
+returns-then-n-keys-clause-value c =
     let p = c.requires in
     let i = sym c.is_item.ensures ∙ c.if-not-is_item.false in
-    let s = ring-summed _ _ (sym c.in-Sum.is ∙ c.ring_sum.ensures) in
-    record { rung = rung-of _ _ i s.0; fact = p.room; legible = p.legible; complete = p.complete }
+    let t : c.ring_sum.result ≡ Ok c.in_ok-n.n = search rules in
+    let s = ring-summed _ _ (rw t at c.ring_sum.ensures) in
+    all-on _ _ _ _ c.security_of-first.ensures i s.0 (rw (← p.total) p.few) p.total s.1 c.if-n-keys.true
 
-pub returns-in-Flawed : goal.returns-in-Flawed
-returns-in-Flawed c =
+pub returns-clause-value : goal.returns-clause-value
+returns-clause-value c =
     let i = sym c.is_item.ensures ∙ c.if-not-is_item.false in
-    let f = ring-flawed _ _ (sym c.in-Flawed.is ∙ c.ring_sum.ensures) in
-    record { value = at-fault _ _ _ _ c.security_of-first.ensures i f c.refused.ensures; map_unchanged = refl }
-
-pub returns-else-n-keys : goal.returns-else-n-keys
-returns-else-n-keys c =
-    let i = sym c.is_item.ensures ∙ c.if-not-is_item.false in
-    let s = ring-summed _ _ (sym c.in-Sum.is ∙ c.ring_sum.ensures) in
-    let o = c.seek_off.ensures in
-    record { value = o.value ∙ by-keys _ _ _ _ c.security_of-first.ensures i s.0; map_unchanged = o.map_unchanged }
+    let t : c.ring_sum.result ≡ Ok c.in_ok-n.n = search rules in
+    let s = ring-summed _ _ (rw t at c.ring_sum.ensures) in
+    c.seek_off.ensures.value ∙ by-keys _ _ _ _ c.security_of-first.ensures i s.0

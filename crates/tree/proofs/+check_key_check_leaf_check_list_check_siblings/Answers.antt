@@ -1,64 +1,35 @@
 -- The proof of the cycle of calls {check_key, check_leaf, check_list, check_siblings}. Assumes nothing.
 use Rattle.std.proofs.Common.{sym, refl, ◌∙◌, arith}
+use Rattle.std.proofs.lemmas.Result.{err_from_is_err_and}
 use Rattle.cells.specs.declared.Rule.TheVariants.{Map}
-use Rattle.records.specs.Keys.{key_fault, key_of}
 use Rattle.records.specs.Terms.{leaves_named}
-use Rattle.records.proofs.LawsAnswer.{keyed-whole, keyed-flawed}
-use Rattle.records.proofs.LawsKey.{name-room}
 use Rattle.records.proofs.LawsPlaces.{leaf-tested, leaf-some, elements_lie, leaves-lie, named-length}
 use Rattle.records.proofs.LawsElements.{elements-are}
 use Rattle.records.proofs.Elements.{leaf-there, leaf-in, no-children, head-sound, head-room, as-list, each-sound}
 use Rattle.tree.specs.Terms.{row_children}
-use Rattle.tree.proofs.Charges.{own-parts}
+use Rattle.tree.proofs.Charges.{key-parts}
 use Rattle.tree.proofs.Rows.{row-length, leaf-row, leaf-children}
-use Rattle.tree.proofs.Subtrees.{key-record, key-own, level-left, key-on, end-nil, leaf-stop, leaf-on, leaf-end, leaves-stop, leaves-on, leaves-end, key_fits, leaf-fits}
+use Rattle.tree.proofs.Subtrees.{key-refused, level-left, key-on, end-nil, leaf-stop, leaf-on, leaf-end, leaves-stop, leaves-on, leaves-end, key_fits, leaf-fits}
 use Rattle.tree.proofs.+check_key_check_leaf_check_list_check_siblings.Goals as goal
 
 -- check_key
-pub check_key-key_tests-requires-clause-name_lies : goal.check_key-key_tests-requires-clause-name_lies
-check_key-key_tests-requires-clause-name_lies t c =
-    let a = c.args in
-    let w =
-    keyed-whole (key_fault Map a.bins.now a.map.now a.c.at) (key_of a.bins.now a.c.at)
-    (sym c.key_at.ensures ∙ c.in-Whole.is) in
-    rw w.1 (name-room Map _ _ _ w.0)
-
 pub check_key-overflow_sub-levels : goal.check_key-overflow_sub-levels
-check_key-overflow_sub-levels t c = level-left _ _ _ _ _ _ _ (sym c.key_tests.ensures ∙ c.in-Sound.is)
+check_key-overflow_sub-levels t c = level-left _ _ _ _ _ _ c.in_ok-k.ensures.1
 
 pub check_key-check_list-requires : goal.check_key-check_list-requires
 check_key-check_list-requires t c =
-    let l = level-left _ _ _ _ _ _ _ (sym c.key_tests.ensures ∙ c.in-Sound.is) in
-    let o = own-parts _ _ _ _ _ _ _ (sym c.key_tests.ensures ∙ c.in-Sound.is) in
-    (omega arith, o.lists)
+    let l = level-left _ _ _ _ _ _ c.in_ok-k.ensures.1 in
+    let p = key-parts _ _ _ _ _ _ c.in_ok-k.ensures.1 in
+    (omega arith, rw c.in_ok-k.ensures.0 p.1.lists)
 
-pub check_key-returns-in-Flawed : goal.check_key-returns-in-Flawed
-check_key-returns-in-Flawed t c =
-    let a = c.args in
-    sym
-    (key-record _ _ _ _ _ _ _
-    (keyed-flawed (key_fault Map a.bins.now a.map.now a.c.at) (key_of a.bins.now a.c.at)
-    (sym c.key_at.ensures ∙ c.in-Flawed.is))
-    c.holder.ensures c.refused.ensures)
+pub check_key-returns-in_err-k : goal.check_key-returns-in_err-k
+check_key-returns-in_err-k t c =
+    let p = err_from_is_err_and c.from_residual.result c.from_residual.ensures.1 in
+    rw (p.1, p.2) (sym (key-refused _ _ _ _ _ _ _ c.in_err-k.ensures))
 
-pub check_key-returns-in-Flawed-key_tests : goal.check_key-returns-in-Flawed-key_tests
-check_key-returns-in-Flawed-key_tests t c =
-    let a = c.args in
-    let w =
-    keyed-whole (key_fault Map a.bins.now a.map.now a.c.at) (key_of a.bins.now a.c.at)
-    (sym c.key_at.ensures ∙ c.in-Whole.is) in
-    sym
-    (key-own _ _ _ _ _ _ _ _ w.1 w.0 (sym c.key_tests.ensures ∙ c.in-Flawed-key_tests.is) c.refused-in-Flawed-key_tests.ensures)
-
-pub check_key-returns-in-Sound : goal.check_key-returns-in-Sound
-check_key-returns-in-Sound t c =
-    let a = c.args in
-    let w =
-    keyed-whole (key_fault Map a.bins.now a.map.now a.c.at) (key_of a.bins.now a.c.at)
-    (sym c.key_at.ensures ∙ c.in-Whole.is) in
-    c.check_list.ensures
-    ∙ sym
-    (key-on _ _ _ _ _ _ _ _ _ w.1 w.0 (sym c.key_tests.ensures ∙ c.in-Sound.is) c.tally-u.ensures)
+pub check_key-returns : goal.check_key-returns
+check_key-returns t c =
+    c.check_list.ensures ∙ sym (key-on _ _ _ _ _ _ _ _ _ c.in_ok-k.ensures.0 c.in_ok-k.ensures.1 c.tally.ensures)
 
 -- check_leaf
 pub check_leaf-leaf_fields-leaf-requires : goal.check_leaf-leaf_fields-leaf-requires
@@ -77,21 +48,23 @@ check_leaf-returns t c =
     rw (elements-are _ _ q, ← s) c.check_siblings.ensures
 
 -- check_siblings
-pub check_siblings-returns-in-Refused : goal.check_siblings-returns-in-Refused
-check_siblings-returns-in-Refused t c =
+pub check_siblings-returns-in_err-t : goal.check_siblings-returns-in_err-t
+check_siblings-returns-in_err-t t c =
     let a = c.args in
     let o = c.loop-i in
     let n = row-length a.bins.now a.row o.invariant.1 in
-    sym
-    (leaf-stop _ _ _ _ _ _ _ (row_children a.bins.now a.row) o.i _ _ o.invariant.3 _ (omega arith)
-    c.row_child-c.ensures (sym c.check_key-w.ensures ∙ c.in-Refused.is))
+    let p = err_from_is_err_and c.from_residual.result c.from_residual.ensures.1 in
+    let q =
+    leaf-stop _ _ _ _ _ _ _ (row_children a.bins.now a.row) o.i _ _ o.invariant.3 _ (omega arith)
+    c.row_child-c.ensures (sym c.check_key.ensures ∙ c.in_err-t.was) in
+    rw (p.1, p.2, q)
 
 pub check_siblings-loop-i-preserved : goal.check_siblings-loop-i-preserved
 check_siblings-loop-i-preserved t c =
     let a = c.args in
     let o = c.loop-i in
     let n = row-length a.bins.now a.row o.invariant.1 in
-    let w = sym c.check_key-w.ensures ∙ c.in-Counted.is in (
+    let w = sym c.check_key.ensures ∙ c.in_ok-t.was in (
       omega arith,
       o.invariant.1,
       key_fits _ _ _ _ a.key _ _ _ w,
@@ -124,27 +97,28 @@ check_list-loop-j-init t c =
       refl,
     )
 
-pub check_list-check_leaf-w-requires : goal.check_list-check_leaf-w-requires
-check_list-check_leaf-w-requires t c =
+pub check_list-check_leaf-requires : goal.check_list-check_leaf-requires
+check_list-check_leaf-requires t c =
     let o = c.loop-j in (
       omega arith,
       (o.invariant.2 _ (leaf-in _ _ o.invariant.1 o.j c.loop-j-test.true c.leaf_offset-o.ensures), o.invariant.3),
     )
 
-pub check_list-returns-in-Refused : goal.check_list-returns-in-Refused
-check_list-returns-in-Refused t c =
+pub check_list-returns-in_err-t : goal.check_list-returns-in_err-t
+check_list-returns-in_err-t t c =
     let a = c.args in
     let o = c.loop-j in
     let n = named-length a.bins.now c.leaves_fields-ls.result o.invariant.1 in
+    let p = err_from_is_err_and c.from_residual.result c.from_residual.ensures.1 in
     rw
-    (as-list _ _ _ c.requires c.if-k-eq0.false c.leaves_fields-ls.ensures)
+    (p.1, p.2, as-list _ _ _ c.requires c.if-k-eq0.false c.leaves_fields-ls.ensures)
     (sym
     (leaves-stop _ _ _ _ _ _ _ (leaves_named a.bins.now c.leaves_fields-ls.result) o.j _ _ o.invariant.4 _ (omega arith)
     (leaf-there _ _ o.invariant.1 o.j c.loop-j-test.true c.leaf_offset-o.ensures)
-    (sym c.check_leaf-w.ensures ∙ c.in-Refused.is)))
+    (sym c.check_leaf.ensures ∙ c.in_err-t.was)))
 
-pub check_list-last_of-last-requires : goal.check_list-last_of-last-requires
-check_list-last_of-last-requires t c =
+pub check_list-last_of-requires : goal.check_list-last_of-requires
+check_list-last_of-requires t c =
     let o = c.loop-j in
     o.invariant.2 _ (leaf-in _ _ o.invariant.1 o.j c.loop-j-test.true c.leaf_offset-o.ensures)
 
@@ -154,15 +128,15 @@ check_list-loop-j-preserved t c =
     let o = c.loop-j in
     let n = named-length a.bins.now c.leaves_fields-ls.result o.invariant.1 in
     let s = o.invariant.2 _ (leaf-in _ _ o.invariant.1 o.j c.loop-j-test.true c.leaf_offset-o.ensures) in
-    let w = sym c.check_leaf-w.ensures ∙ c.in-Counted.is in (
+    let w = sym c.check_leaf.ensures ∙ c.in_ok-t.was in (
       omega arith,
       o.invariant.1,
       o.invariant.2,
-      rw c.last_of-last.ensures (leaf-fits _ _ _ _ a.key _ _ _ (leaf-some Map _ _ _ s) w),
+      rw c.last_of.ensures (leaf-fits _ _ _ _ a.key _ _ _ (leaf-some Map _ _ _ s) w),
       leaves-on _ _ _ _ _ _ _ (leaves_named a.bins.now c.leaves_fields-ls.result)
           o.j _ _ o.invariant.4 _ _ (omega arith)
           (leaf-there _ _ o.invariant.1 o.j c.loop-j-test.true c.leaf_offset-o.ensures)
-          (leaf-some Map _ _ _ s) c.last_of-last.ensures w,
+          (leaf-some Map _ _ _ s) c.last_of.ensures w,
     )
 
 pub check_list-returns : goal.check_list-returns

@@ -1,39 +1,17 @@
-use Rattle.tree.proofs.Roots.{root-row, root-lies, walk_refused, walk-counted}
 use Rattle.std.proofs.Common.{sym, ◌∙◌}
+use Rattle.std.proofs.lemmas.Result.{err_from_is_err_and}
+use Rattle.tree.proofs.Roots.{root-row, walk_refused, walk-counted}
 use Rattle.tree.proofs.check_tree.Goals as goal
 
-pub minor_of-minor-requires : goal.minor_of-minor-requires
-minor_of-minor-requires c =
-    c.requires.base
+pub returns-in_err-n : goal.returns-in_err-n
+returns-in_err-n c =
+    let a = c.args in
+    let e = root-row a.hive.now a.map.now c.minor_of-minor.ensures c.root_of-root.ensures c.bins_of.ensures in
+    let p = err_from_is_err_and c.from_residual.result c.from_residual.ensures.1 in
+    rw (p.1, p.2) (sym (walk_refused _ _ c.requires _ (sym e ∙ sym c.check_siblings.ensures ∙ c.in_err-n.was)))
 
-pub root_of-root-requires : goal.root_of-root-requires
-root_of-root-requires c =
-    c.requires.base
-
-pub bins_of-requires : goal.bins_of-requires
-bins_of-requires c =
-    c.requires.base
-
-pub check_siblings-requires : goal.check_siblings-requires
-check_siblings-requires c =
-    record { row_lies = root-lies _ _; arrival_fits = tt }
-
-pub returns-in-Refused : goal.returns-in-Refused
-returns-in-Refused c =
-    let at-root-of = c in
-    let at_entry_lem = at-root-of.before.before.before.before in
-    let a = at_entry_lem.args in
-    let e =
-    root-row a.hive.now a.map.now at-root-of.minor_of-minor.ensures at-root-of.root_of-root.ensures
-    c.bins_of.ensures in
-    sym (walk_refused _ _ at_entry_lem.requires _ (sym e ∙ sym c.check_siblings.ensures ∙ c.in-Refused.is))
-
-pub returns-in-Counted : goal.returns-in-Counted
-returns-in-Counted c =
-    let at-root-of = c in
-    let at_entry_lem = at-root-of.before.before.before.before in
-    let a = at_entry_lem.args in
-    let e =
-    root-row a.hive.now a.map.now at-root-of.minor_of-minor.ensures at-root-of.root_of-root.ensures
-    c.bins_of.ensures in
-    sym (walk-counted _ _ at_entry_lem.requires _ (sym e ∙ sym c.check_siblings.ensures ∙ c.in-Counted.is))
+pub returns : goal.returns
+returns c =
+    let a = c.args in
+    let e = root-row a.hive.now a.map.now c.minor_of-minor.ensures c.root_of-root.ensures c.bins_of.ensures in
+    sym (walk-counted _ _ c.requires _ (sym e ∙ sym c.check_siblings.ensures ∙ c.in_ok-n.was))

@@ -14,25 +14,26 @@ pub leaf_fields-leaf-requires : goal.leaf_fields-leaf-requires
 leaf_fields-leaf-requires c = let t = leaf-tested Map _ _ _ c.requires in omega (arith, t.holds.room)
 
 pub overflow_sub-leaf : goal.overflow_sub-leaf
-overflow_sub-leaf c = let s = c in
-    let n = leaf-some Map _ _ _ s.requires in
-    let k = leaf-count s.args.bins.now s.args.o in
+overflow_sub-leaf c =
+    let n = leaf-some Map _ _ _ c.requires in
+    let k = leaf-count c.args.bins.now c.args.o in
     rw c.leaf_fields-leaf.ensures (omega arith)
 
-pub child_of-c-requires : goal.child_of-c-requires
-child_of-c-requires c = let s = c in
-    let n = leaf-some Map _ _ _ s.requires in
-    let k = leaf-count s.args.bins.now s.args.o in
-    rw c.leaf_fields-leaf.ensures (omega arith, elements_lie Map _ _ _ s.requires)
+pub child_offset-requires : goal.child_offset-requires
+child_offset-requires c =
+    let n = leaf-some Map _ _ _ c.requires in
+    let k = leaf-count c.args.bins.now c.args.o in
+    rw c.leaf_fields-leaf.ensures (omega arith, elements_lie Map _ _ _ c.requires)
 
 pub returns : goal.returns
 unfolding last_of
-returns c = let s = c in
-    let d = s.args.bins.now in
-    let o = s.args.o in
-    let n = leaf-some Map _ _ _ s.requires in
+returns c =
+    let d = c.args.bins.now in
+    let o = c.args.o in
+    let n = leaf-some Map _ _ _ c.requires in
     let k = leaf-count d o in
-    ap (λ (x : Child). x.at)
-    (c.child_of-c.ensures ∙ ap (λ (l : Leaf). child_named d l (l.count - 1)) c.leaf_fields-leaf.ensures
+    c.child_offset.ensures
+    ∙ ap (λ (x : Child). x.at)
+    (ap (λ (l : Leaf). child_named d l (l.count - 1)) c.leaf_fields-leaf.ensures
     ∙ child-at d o ((leaf_of d o).count - 1) _ (omega arith)
     ∙ ap (λ (i : ℕ). get_or (leaf_children (data_at d o)) (i - 1) no_child) k)

@@ -1,5 +1,4 @@
-use mathlib.Core.Path.{◌≡◌}
-use Prim.Native.Nat.{◌≤◌, ◌-◌}
+use Rattle.std.proofs.Common.{◌≡◌, ◌-◌}
 use Rattle.cells.specs.Named.{data_at}
 use Rattle.fields.specs.Faults.{fault_over}
 use Rattle.values.specs.Segments.{segment_fault, segments_from, segments_in}
@@ -7,10 +6,5 @@ use Rattle.values.proofs.each_segment_flaw.Given as goal
 
 abbrev pub invariant-loop-i : goal.invariant-loop-i
 invariant-loop-i l =
-    (l.i ≤ l.e.count) × (l.count ≡ l.e.count)
-    ×
-    (fault_over (segment_fault l.rule l.bins l.map) (segments_in l.bins l.e l.size) ≡ fault_over (segment_fault l.rule l.bins l.map)
-    (segments_from (data_at l.bins l.e.cell) l.i l.left (l.e.count - l.i)))
-
-abbrev pub decreases-loop-i : goal.decreases-loop-i
-decreases-loop-i l = l.count - l.i
+    fault_over (segment_fault l.rule l.bins l.map) (segments_in l.bins l.e l.size)
+    ≡ fault_over (segment_fault l.rule l.bins l.map) (segments_from (data_at l.bins l.e.cell) l.i l.left (l.e.count - l.i))

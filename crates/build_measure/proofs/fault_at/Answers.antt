@@ -1,6 +1,0 @@
-use mathlib.Core.Path.{refl}
-use Rattle.build_measure.proofs.fault_at.Goals as goal
-
-pub returns : goal.returns
-returns c =
-    (refl, refl)

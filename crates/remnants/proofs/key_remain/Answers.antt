@@ -1,8 +1,0 @@
-use native.Mathlib.Omega.{arith}
-use Rattle.remnants.specs.Remnants.{remain_of}
-use Rattle.remnants.proofs.key_remain.Goals as goal
-
-pub returns : goal.returns
-unfolding remain_of
-returns c =
-    record { value = rw (c.part_place.ensures, c.u16_at-len.ensures, c.is_flagged.ensures, c.u16_at.ensures); len_bound = omega arith }
