@@ -13,7 +13,7 @@ use Rattle.fields.specs.Number.{size_at}
 use Rattle.fields.proofs.Bools.{and_both}
 use Rattle.base.specs.Block.{sector, bins_of, bins_data}
 use Rattle.base.proofs.Laws.{base-facts}
-use Rattle.cells.specs.declared.Rule.TheVariants.{Map, Header}
+use Rattle.cells.specs.Rule.{Map, Header}
 use Rattle.cells.specs.declared.Tally.{Tally}
 use Rattle.cells.specs.Tiling.{tiling, layout, survey_of}
 use Rattle.bitmap.specs.Bits.{bit, zeros}

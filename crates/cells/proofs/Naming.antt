@@ -14,8 +14,7 @@ use Rattle.fields.specs.Number.{size_at}
 use Rattle.fields.specs.Faults.{flaw}
 use Rattle.fields.proofs.Bools.{and-inv}
 use Rattle.cells.specs.declared.Cell.{Cell}
-use Rattle.cells.specs.declared.Rule.{Rule}
-use Rattle.cells.specs.declared.Rule.TheVariants.{Map, Header}
+use Rattle.cells.specs.Rule.{Rule, Map, Header}
 use Rattle.cells.specs.Map.{is_marked}
 use Rattle.cells.specs.Named.{is_named, cell_at, by_header, cell_of, cell_fault, data_of, data_at}
 use Rattle.cells.specs.Terms.{length_named, length_by, Inside}

@@ -17,8 +17,8 @@ use Rattle.fields.proofs.Every.{Every, every-next, every-unless}
 use Rattle.base.specs.Block.{sector, bins_of, base_fault, bins_data}
 use Rattle.base.proofs.Refusals.{base-refuses, base-number}
 use Rattle.cells.specs.declared.Cell.{Cell}
-use Rattle.cells.specs.declared.Rule.{Rule}
-use Rattle.cells.specs.declared.Rule.TheVariants as rule
+use Rattle.cells.specs.Rule.{Rule}
+use Rattle.cells.specs.Rule as rule
 use Rattle.cells.specs.Tiling.{good_size, tiling, row_of, bin_size, layout, add_row, survey_of}
 use Rattle.cells.specs.Survey.{front_fault, tested, survey_answer}
 use Rattle.cells.specs.Named.{is_named, cell_at, by_header, cell_of, verdict_of, cell_fault}

@@ -7,3 +7,4 @@ pub mod Counts
 pub mod Free
 pub mod Refused
 pub mod Terms
+pub mod Rule

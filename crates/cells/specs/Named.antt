@@ -7,8 +7,7 @@ use Rattle.fields.specs.Number.{size_at}
 use Rattle.fields.specs.Faults.{flaw, Verdict}
 use Rattle.fields.specs.Position.{place_of}
 use Rattle.cells.specs.declared.Cell.{Cell}
-use Rattle.cells.specs.declared.Rule.{Rule}
-use Rattle.cells.specs.declared.Rule.TheVariants.{Map, Header}
+use Rattle.cells.specs.Rule.{Rule, Map, Header}
 use Rattle.cells.specs.Tiling.{good_size}
 use Rattle.cells.specs.Map.{is_marked}
 use Rattle.fields.specs.declared.Flaw.{Flaw}

@@ -7,8 +7,8 @@ use Rattle.fields.specs.Number.{size_at}
 use Rattle.fields.specs.Faults.{flaw, nowhere}
 use Rattle.base.specs.Block.{sector, bins_of, bins_data}
 use Rattle.base.specs.Refused.{OfBase}
-use Rattle.cells.specs.declared.Rule.{Rule}
-use Rattle.cells.specs.declared.Rule.TheVariants as rule
+use Rattle.cells.specs.Rule.{Rule}
+use Rattle.cells.specs.Rule as rule
 use Rattle.cells.specs.Named.{is_named}
 use Rattle.cells.specs.Tiled.{Good, CellsTile, Header, InUse}
 

@@ -5,8 +5,7 @@ use Rattle.base.specs.Block.{bins_limit}
 use Rattle.fields.specs.declared.Offset.{Offset}
 use Rattle.cells.specs.declared.Cell.{Cell}
 use Rattle.cells.specs.declared.Gap.{Gap}
-use Rattle.cells.specs.declared.Rule.{Rule}
-use Rattle.cells.specs.declared.Rule.TheVariants.{Map, Header}
+use Rattle.cells.specs.Rule.{Rule, Map, Header}
 use Rattle.cells.specs.Map.{is_marked}
 use Rattle.cells.specs.Named.{is_named, data_at, data_to}
 use Rattle.cells.specs.Tiling.{tiling, layout}

@@ -4,6 +4,7 @@
 #![tactic(auto)]
 
 ghost use Rattle.std.specs.Prelude.{◌≡◌, ◌+◌, ◌-◌, ◌*◌, ◌/◌, ◌%◌, ◌≤◌, ◌<◌, length};
+ghost use Rattle.cells.specs.Rule.{rule_of, lent};
 ghost use Rattle.fields.specs.Number.{u32_at};
 ghost use Rattle.cells.specs.Tiling.{good_size, tiling, row_of, bin_size, layout, survey_of};
 ghost use Rattle.cells.specs.Terms.{Bin, Pages, Data, Without, Stands, NextFree, length_named, length_by, Inside, PartIn};
@@ -241,29 +242,22 @@ pub fn is_marked(map: &[u8], o: Offset) -> bool
     at % 8 == 0 && bitmap::is_marked(map, at / 8)
 }
 
-// By which rule an offset names a cell: the check has a map, and lookup goes by the cell's own header.
-#[derive(Clone, Copy)]
-pub enum Rule {
-    Map,
-    Header,
-}
-
-// The same by a rule, in a register too.
+// The same, in a register too, for a caller who lends the map of the check; lookup lends none, and goes by the cell's own header.
 #[tactic(auto, unfolding(crate::specs::Terms::length_by))]
-fn named_length(bins: &[u8], map: &[u8], rule: Rule, o: Offset) -> usize
-    ensures { result ≡ length_by rule bins.now map.now o.0 }
+fn named_length(bins: &[u8], map: Option<&[u8]>, o: Offset) -> usize
+    ensures { result ≡ length_by (rule_of map.entry) bins.now (lent map.entry) o.0 }
 {
-    match rule {
-        Rule::Map if !is_marked(map, o) => 0,
+    match map {
+        Some(m) if !is_marked(m, o) => 0,
         _ => header_length(bins, o),
     }
 }
 
 // The cell in use that an offset names, or 11 at that offset.
-pub fn find_cell(bins: &[u8], map: &[u8], rule: Rule, o: Offset) -> Result<Cell, Flaw>
-    ensures { result ≡ cell_of rule bins.now map.now o }
+pub fn find_cell(bins: &[u8], map: Option<&[u8]>, o: Offset) -> Result<Cell, Flaw>
+    ensures { result ≡ cell_of (rule_of map.entry) bins.now (lent map.entry) o }
 {
-    let n = named_length(bins, map, rule, o);
+    let n = named_length(bins, map, o);
     if n == 0 {
         return Err(Flaw {
             fault: Fault::NoCell,

@@ -5,7 +5,7 @@ use mathlib.Core.List.{List, []}
 use Rattle.fields.specs.declared.Offset.{Offset}
 use Rattle.fields.specs.Faults.{no_key, Verdict}
 use Rattle.base.specs.Block.{sector, minor_of, bins_data, base_fault}
-use Rattle.cells.specs.declared.Rule.TheVariants.{Header}
+use Rattle.cells.specs.Rule.{Header}
 use Rattle.records.specs.Keys.{key_fault, key_of}
 use Rattle.values.specs.Records.{value_of}
 use Rattle.values.specs.Lists.{whole_value_fault}

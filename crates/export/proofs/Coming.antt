@@ -14,7 +14,7 @@ use Rattle.fields.proofs.Firsts.{sound}
 use Rattle.fields.proofs.Loops.{drop_all}
 use Rattle.base.specs.Block.{bins_limit, bins_data, base_fault}
 use Rattle.base.proofs.Laws.{facts-base, base-facts}
-use Rattle.cells.specs.declared.Rule.TheVariants.{Header}
+use Rattle.cells.specs.Rule.{Header}
 use Rattle.cells.proofs.Parts.{data-short}
 use Rattle.records.specs.declared.Child.{Child}
 use Rattle.records.specs.Keys.{key_fault, key_of}

@@ -16,7 +16,7 @@ use Rattle.fields.proofs.Every.{Every, every-unless, every-next}
 use Rattle.fields.proofs.Firsts.{stop}
 use Rattle.base.specs.Block.{bins_data, base_fault}
 use Rattle.base.proofs.Refusals.{base-refuses}
-use Rattle.cells.specs.declared.Rule.TheVariants.{Header}
+use Rattle.cells.specs.Rule.{Header}
 use Rattle.cells.proofs.Refusals.{Ruled, by-header}
 use Rattle.records.specs.Keys.{key_fault, key_of}
 use Rattle.records.proofs.Elements.{at_in}

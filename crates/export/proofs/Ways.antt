@@ -12,7 +12,7 @@ use Rattle.fields.specs.declared.Flaw.{Flaw}
 use Rattle.fields.specs.declared.Offset.{Offset}
 use Rattle.fields.specs.Faults.{nowhere, no_key, refusal_of, ◌next◌, Verdict}
 use Rattle.fields.proofs.Firsts.{on, stop, both, sound}
-use Rattle.cells.specs.declared.Rule.TheVariants.{Header}
+use Rattle.cells.specs.Rule.{Header}
 use Rattle.names.specs.Codes.{characters_in}
 use Rattle.records.specs.declared.Key.{Key}
 use Rattle.records.specs.Keys.{key_fault, key_of}

@@ -6,7 +6,7 @@ use Rattle.fields.specs.declared.Offset.{Offset}
 use Rattle.fields.specs.declared.Fault.TheVariants.{OutputShort}
 use Rattle.fields.specs.Faults.{flaw, unless, nowhere, no_key, refusal_of, ◌next◌, Verdict}
 use Rattle.base.specs.Block.{base_fault}
-use Rattle.cells.specs.declared.Rule.TheVariants.{Header}
+use Rattle.cells.specs.Rule.{Header}
 use Rattle.records.specs.Keys.{key_fault, key_of}
 use Rattle.values.specs.Records.{value_of}
 use Rattle.values.specs.Lists.{values_of, value_list_fault, whole_value_fault}

@@ -2,7 +2,7 @@
 use Rattle.std.specs.Prelude.{ℕ, zero, suc, ◌+◌, ◌*◌, ◌≤◌, ◌<◌, ◌≡◌, cond, List, [], ◌∷◌, eqb, leb, length, replicate, Err, None, Ok, Option, Result, Some}
 use Rattle.std.proofs.lemmas.List.Edits.{sets}
 use Rattle.fields.specs.declared.Offset.{Offset}
-use Rattle.cells.specs.declared.Rule.TheVariants.{Header}
+use Rattle.cells.specs.Rule.{Header}
 use Rattle.records.specs.Keys.{key_fault}
 use Rattle.stream.specs.Terms.{ValueLies}
 use Rattle.export.specs.declared.Cursor.{Cursor}

@@ -5,7 +5,7 @@
 ghost use Rattle.std.specs.Prelude.{◌≡◌, [], ◌++◌, true, ltb, ◌+◌, ◌-◌, ◌*◌, ◌≤◌, ◌<◌, length, drop, Ok};
 ghost use Rattle.std.proofs.lemmas.List.Edits.{sets};
 ghost use Rattle.fields.specs.Faults.{flaw, nowhere, refusal_of};
-ghost use Rattle.cells.specs.declared.Rule.TheVariants.{Header};
+ghost use Rattle.cells.specs.Rule.{Header};
 ghost use Rattle.cells.specs.Survey.{map_left};
 ghost use Rattle.records.specs.Keys.{key_fault, key_of};
 ghost use Rattle.stream.specs.Stream.{joined_frames};
@@ -16,7 +16,6 @@ ghost use Rattle.export.specs.Due.{bytes_due, past, comes, due_where, value_due,
 ghost use Rattle.export.specs.Answers.{short, step_answer, step_out, begin_answer, begin_levels, packed, run_answer, run_out, run_levels};
 ghost use Rattle.export.specs.Terms.{WhatLies, WhatGoes, turn_of, turn_bytes, turn_words, ended_of, ran_in, went, PassedLies, stepped_in, bytes_in};
 
-use cells::Rule;
 use fields::{Fault, Flaw, Offset, Refusal};
 use listing::Entry;
 use records::Key;
@@ -70,10 +69,8 @@ fn value_frame(
 ) -> Result<Option<Frame>, Refusal>
     ensures { result ≡ due_where key (whole_value_fault Header bins.now [] minor v) (comes bins.now (What.Value (value_of bins.now minor v)) key due) }
 {
-    let x = values::value_at(bins, b"", Rule::Header, minor, v).map_err(|f| fields::refused(
-        key, f,
-    ))?;
-    values::data_flaw(bins, b"", Rule::Header, x.content).map_err(|f| fields::refused(key, f))?;
+    let x = values::value_at(bins, None, minor, v).map_err(|f| fields::refused(key, f))?;
+    values::data_flaw(bins, None, x.content).map_err(|f| fields::refused(key, f))?;
     let len = stream::value_len(x);
     Ok(Some(Frame {
         what: What::Value(x),
@@ -95,7 +92,7 @@ fn value_due(
     requires { (k ≡ key_of bins.now key) × (i < k.values) }
     ensures { result ≡ value_due bins.now minor key i }
 {
-    let e = values::value_list(bins, b"", Rule::Header, k).map_err(|f| fields::refused(key, f))?;
+    let e = values::value_list(bins, None, k).map_err(|f| fields::refused(key, f))?;
     value_frame(bins, minor, key, values::entry(bins, e, i), i + 2)
 }
 

@@ -14,7 +14,7 @@ use Rattle.fields.specs.Faults.{flaw, nowhere, Verdict}
 use Rattle.fields.proofs.Firsts.{sound, holds}
 use Rattle.base.specs.Block.{sector, minor_of, bins_data, base_fault}
 use Rattle.base.proofs.Laws.{facts-base}
-use Rattle.cells.specs.declared.Rule.TheVariants.{Header}
+use Rattle.cells.specs.Rule.{Header}
 use Rattle.cells.specs.Named.{data_at}
 use Rattle.cells.specs.Tiled.{BinsTile}
 use Rattle.cells.proofs.Mapped.{header-sound}

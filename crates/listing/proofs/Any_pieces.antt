@@ -14,7 +14,7 @@ use Rattle.fields.proofs.Every.{Every, every-next}
 use Rattle.fields.proofs.Firsts.{both}
 use Rattle.base.specs.Block.{bins_data, base_fault}
 use Rattle.base.proofs.Refusals.{base-refuses}
-use Rattle.cells.specs.declared.Rule.TheVariants.{Header}
+use Rattle.cells.specs.Rule.{Header}
 use Rattle.cells.proofs.Parts.{place-room}
 use Rattle.cells.proofs.Refusals.{Ruled, by-header}
 use Rattle.records.specs.Keys.{security_of}

@@ -15,7 +15,7 @@ use Rattle.fields.specs.Faults.{nowhere, no_key, refusal_of, ◌next◌, Verdict
 use Rattle.fields.proofs.Firsts.{on, stop, both}
 use Rattle.fields.proofs.Loops.{drop_all}
 use Rattle.base.specs.Block.{sector, minor_of, bins_data, base_fault}
-use Rattle.cells.specs.declared.Rule.TheVariants.{Header}
+use Rattle.cells.specs.Rule.{Header}
 use Rattle.cells.specs.Named.{data_at, part_in}
 use Rattle.cells.proofs.Parts.{part_length, u64-part}
 use Rattle.records.specs.declared.Child.{Child}

@@ -12,7 +12,7 @@ use Rattle.fields.specs.Number.{u16_at, u32_at}
 use Rattle.fields.specs.Faults.{no_key, refusal_of, Verdict}
 use Rattle.fields.proofs.Firsts.{on, stop, both}
 use Rattle.base.specs.Block.{bins_data, base_fault}
-use Rattle.cells.specs.declared.Rule.TheVariants.{Header}
+use Rattle.cells.specs.Rule.{Header}
 use Rattle.cells.specs.Named.{data_at, part_in}
 use Rattle.cells.proofs.Parts.{part_length, u16-part}
 use Rattle.records.specs.declared.Key.{Key}

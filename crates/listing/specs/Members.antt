@@ -6,7 +6,7 @@ use Rattle.fields.specs.declared.Offset.{Offset}
 use Rattle.fields.specs.Number.{u64_at}
 use Rattle.fields.specs.Faults.{nowhere, no_key, refusal_of, ◌next◌, Verdict}
 use Rattle.base.specs.Block.{sector, minor_of, bins_data, base_fault}
-use Rattle.cells.specs.declared.Rule.TheVariants.{Header}
+use Rattle.cells.specs.Rule.{Header}
 use Rattle.cells.specs.Named.{data_at, part_place}
 use Rattle.records.specs.declared.Key.{Key}
 use Rattle.records.specs.declared.Name.{Name}

@@ -6,7 +6,7 @@ use Rattle.fields.specs.declared.Offset.{Offset}
 use Rattle.fields.specs.Number.{u16_at}
 use Rattle.fields.specs.Faults.{no_key, refusal_of, ◌next◌, Verdict}
 use Rattle.base.specs.Block.{bins_data, base_fault}
-use Rattle.cells.specs.declared.Rule.TheVariants.{Header}
+use Rattle.cells.specs.Rule.{Header}
 use Rattle.cells.specs.Named.{data_at, part_place}
 use Rattle.records.specs.Keys.{key_fault, security_of}
 use Rattle.records.specs.Offsets.{offset_at}

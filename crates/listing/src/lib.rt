@@ -4,7 +4,7 @@
 
 ghost use Rattle.std.specs.Prelude.{◌≡◌, [], ◌≤◌, ◌<◌, length};
 ghost use Rattle.fields.specs.Number.{u64_at};
-ghost use Rattle.cells.specs.declared.Rule.TheVariants.{Header};
+ghost use Rattle.cells.specs.Rule.{Header};
 ghost use Rattle.cells.specs.Named.{data_at};
 ghost use Rattle.records.specs.Keys.{key_fault, key_of};
 ghost use Rattle.records.specs.Terms.{LeavesLie, leaves_named};
@@ -14,7 +14,6 @@ ghost use Rattle.values.specs.Segments.{data_fault};
 ghost use Rattle.listing.specs.Members.{entry_of, member_where, nth_in, nth_below, subkey_below, subkey_in, subkey_answer, nth_of, value_below, value_in, value_answer, info_at, copy_at, out_at, facts_of, facts_where, facts_answer};
 ghost use Rattle.listing.specs.Pieces.{given_fault, class_length, class_piece, class_where, class_below, class_answer, descriptor_piece, security_where, security_below, security_answer};
 
-use cells::Rule;
 use fields::{Flaw, Offset, Place, Refusal};
 use lookup::Info;
 use records::{Key, Leaves, Name};
@@ -48,7 +47,7 @@ pub fn entry_of(o: Offset, n: Name) -> Entry
 fn key_entry(bins: &[u8], key: Offset, o: Offset) -> Result<Option<Entry>, Refusal>
     ensures { result ≡ member_where key (key_fault Header bins.now [] o) (entry_of o (key_of bins.now o).name) }
 {
-    let k = records::key_at(bins, b"", Rule::Header, o).map_err(|f| fields::refused(key, f))?;
+    let k = records::key_at(bins, None, o).map_err(|f| fields::refused(key, f))?;
     Ok(Some(entry_of(o, k.name)))
 }
 
@@ -61,7 +60,7 @@ fn nth_in(bins: &[u8], ls: Leaves, n: usize) -> Result<Option<Offset>, Flaw>
     let mut left = n;
     for j in 0..ls.count {
         let o = records::leaf_offset(bins, ls, j);
-        let leaf = records::leaf_at(bins, b"", Rule::Header, o)?;
+        let leaf = records::leaf_at(bins, None, o)?;
         if left < leaf.count {
             return Ok(Some(records::child_of(bins, leaf, left).at));
         }
@@ -78,7 +77,7 @@ fn nth_below(bins: &[u8], k: Key, n: usize) -> Result<Option<Offset>, Flaw>
     if k.subkeys == 0 {
         return Ok(None);
     }
-    let ls = records::head_at(bins, b"", Rule::Header, k.list)?;
+    let ls = records::head_at(bins, None, k.list)?;
     nth_in(bins, ls, n)
 }
 
@@ -97,7 +96,7 @@ fn subkey_below(bins: &[u8], key: Offset, k: Key, n: usize) -> Result<Option<Ent
 fn subkey_in(bins: &[u8], key: Offset, n: usize) -> Result<Option<Entry>, Refusal>
     ensures { result ≡ subkey_in bins.now key n }
 {
-    let k = records::key_at(bins, b"", Rule::Header, key)?;
+    let k = records::key_at(bins, None, key)?;
     subkey_below(bins, key, k, n)
 }
 
@@ -115,7 +114,7 @@ pub fn nth_subkey(hive: &[u8], key: Offset, n: usize) -> Result<Option<Entry>, R
 fn value_entry(bins: &[u8], minor: u32, key: Offset, v: Offset) -> Result<Option<Entry>, Refusal>
     ensures { result ≡ member_where key (value_fault Header bins.now [] v) (entry_of v (value_of bins.now minor v).name) }
 {
-    let read = values::value_at(bins, b"", Rule::Header, minor, v);
+    let read = values::value_at(bins, None, minor, v);
     let x = read.map_err(|f| fields::refused(key, f))?;
     Ok(Some(entry_of(v, x.name)))
 }
@@ -124,7 +123,7 @@ fn value_entry(bins: &[u8], minor: u32, key: Offset, v: Offset) -> Result<Option
 fn nth_of(bins: &[u8], k: Key, n: usize) -> Result<Option<Offset>, Flaw>
     ensures { result ≡ nth_of bins.now k n }
 {
-    let e = values::value_list(bins, b"", Rule::Header, k)?;
+    let e = values::value_list(bins, None, k)?;
     Ok((n < e.count).then(|| values::entry(bins, e, n)))
 }
 
@@ -148,7 +147,7 @@ fn value_below(
 fn value_in(bins: &[u8], minor: u32, key: Offset, n: usize) -> Result<Option<Entry>, Refusal>
     ensures { result ≡ value_in bins.now minor key n }
 {
-    let k = records::key_at(bins, b"", Rule::Header, key)?;
+    let k = records::key_at(bins, None, key)?;
     value_below(bins, minor, key, k, n)
 }
 
@@ -208,7 +207,7 @@ fn stamp_of(bins: &[u8], o: Offset) -> u64
 fn facts_in(bins: &[u8], o: Offset) -> Result<Facts, Refusal>
     ensures { result ≡ facts_where (key_fault Header bins.now [] o) (facts_of bins.now o) }
 {
-    let k = records::key_at(bins, b"", Rule::Header, o)?;
+    let k = records::key_at(bins, None, o)?;
     Ok(Facts {
         entry: entry_of(o, k.name),
         stamp: stamp_of(bins, o),
@@ -240,7 +239,7 @@ fn given_flaw(hive: &[u8], key: Offset) -> Result<(), Flaw>
     ensures { result ≡ given_fault hive.now key }
 {
     base::base_flaw(hive)?;
-    records::key_at(base::bins_of(hive), b"", Rule::Header, key)?;
+    records::key_at(base::bins_of(hive), None, key)?;
     Ok(())
 }
 
@@ -262,7 +261,7 @@ fn class_at(bins: &[u8], key: Offset, cell: Offset, len: u16) -> Result<Option<P
         cell,
         len: u32::from(len),
     };
-    values::data_flaw(bins, b"", Rule::Header, data).map_err(|f| fields::refused(key, f))?;
+    values::data_flaw(bins, None, data).map_err(|f| fields::refused(key, f))?;
     let len = usize::from(len);
     Ok(Some(Piece {
         at: cells::part_place(cell, 0, len),
@@ -297,7 +296,7 @@ pub fn key_class(hive: &[u8], key: Offset) -> Result<Option<Piece>, Refusal>
 fn security_at(bins: &[u8], key: Offset, o: Offset) -> Result<Piece, Refusal>
     ensures { result ≡ security_where key (descriptor_fault Header bins.now [] o) (descriptor_piece bins.now o) }
 {
-    let read = security::described_at(bins, b"", Rule::Header, o);
+    let read = security::described_at(bins, None, o);
     let i = read.map_err(|f| fields::refused(key, f))?;
     Ok(Piece {
         at: security::descriptor_place(o, i),

@@ -13,7 +13,7 @@ use Rattle.fields.specs.declared.Refusal.{Refusal}
 use Rattle.fields.specs.Faults.{flaw, nowhere, refusal_of, ◌next◌, Verdict}
 use Rattle.fields.proofs.Firsts.{both}
 use Rattle.base.specs.Block.{sector, minor_of, bins_data, base_fault}
-use Rattle.cells.specs.declared.Rule.TheVariants.{Header}
+use Rattle.cells.specs.Rule.{Header}
 use Rattle.cells.proofs.Parts.{place-room, place-bytes}
 use Rattle.values.specs.declared.ValueData.{ValueData}
 use Rattle.values.specs.declared.ValueData.TheVariants.{Inline, OneCell, Segments}

@@ -9,7 +9,7 @@ use Rattle.fields.specs.declared.Offset.{Offset}
 use Rattle.fields.specs.Faults.{flaw, nowhere, refusal_of, ◌next◌}
 use Rattle.fields.proofs.Firsts.{on}
 use Rattle.base.specs.Block.{sector, minor_of, bins_data}
-use Rattle.cells.specs.declared.Rule.TheVariants.{Header}
+use Rattle.cells.specs.Rule.{Header}
 use Rattle.records.specs.Keys.{key_of}
 use Rattle.values.specs.declared.ValueData.{ValueData}
 use Rattle.values.specs.declared.ValueData.TheVariants.{Inline, OneCell, Segments}

@@ -14,7 +14,7 @@ use Rattle.fields.specs.Faults.{flaw, nowhere, no_key, refusal_of, Because, ◌n
 use Rattle.fields.proofs.Every.{Every, every-sound, every-flaw, every-next}
 use Rattle.base.specs.Block.{sector, minor_of, bins_data, base_fault}
 use Rattle.base.proofs.Refusals.{base-refuses}
-use Rattle.cells.specs.declared.Rule.TheVariants.{Header}
+use Rattle.cells.specs.Rule.{Header}
 use Rattle.cells.proofs.Refusals.{Ruled, by-header}
 use Rattle.names.specs.Comparison.{same_name}
 use Rattle.records.specs.Keys.{key_fault, key_of, codes_of}

@@ -6,7 +6,7 @@ use Rattle.fields.specs.declared.Flaw.{Flaw}
 use Rattle.fields.specs.declared.Offset.{Offset}
 use Rattle.fields.specs.Faults.{no_key, refusal_of}
 use Rattle.base.specs.Block.{sector, minor_of, bins_data, base_fault}
-use Rattle.cells.specs.declared.Rule.TheVariants.{Header}
+use Rattle.cells.specs.Rule.{Header}
 use Rattle.records.specs.declared.Key.{Key}
 use Rattle.records.specs.Keys.{key_fault, key_of, keyed}
 use Rattle.records.proofs.LawsAnswer.{keyed-whole, keyed-flawed}

@@ -9,7 +9,7 @@ use Rattle.fields.specs.declared.Refusal.{Refusal}
 use Rattle.fields.specs.Faults.{flaw, nowhere, refusal_of, ◌next◌, Verdict}
 use Rattle.fields.proofs.Firsts.{on, stop}
 use Rattle.base.specs.Block.{sector, minor_of, bins_data}
-use Rattle.cells.specs.declared.Rule.TheVariants.{Header}
+use Rattle.cells.specs.Rule.{Header}
 use Rattle.values.specs.declared.Value.{Value}
 use Rattle.values.specs.Records.{value_fault, data_in, fields_of, value_of, valued}
 use Rattle.values.specs.Segments.{data_fault}

@@ -10,7 +10,7 @@ use Rattle.fields.specs.declared.Offset.{Offset}
 use Rattle.fields.specs.declared.Refusal.{Refusal}
 use Rattle.fields.specs.Faults.{flaw, nowhere, refusal_of}
 use Rattle.base.specs.Block.{sector, minor_of, bins_data, base_fault}
-use Rattle.cells.specs.declared.Rule.TheVariants.{Header}
+use Rattle.cells.specs.Rule.{Header}
 use Rattle.names.specs.Comparison.{same_name}
 use Rattle.records.specs.declared.Key.{Key}
 use Rattle.records.specs.Keys.{key_of, codes_of, NameIn}

@@ -7,7 +7,7 @@ use Rattle.fields.specs.declared.Place.{Place}
 use Rattle.fields.specs.declared.Fault.TheVariants.{NoKey, NoValue, Segmented, OutputShort}
 use Rattle.fields.specs.Faults.{flaw, nowhere, ◌next◌, refusal_of, Verdict}
 use Rattle.base.specs.Block.{sector, minor_of, bins_data}
-use Rattle.cells.specs.declared.Rule.TheVariants.{Header}
+use Rattle.cells.specs.Rule.{Header}
 use Rattle.cells.specs.Named.{part_place}
 use Rattle.records.specs.Keys.{key_of}
 use Rattle.values.specs.declared.Value.{Value}

@@ -7,7 +7,7 @@ use Rattle.fields.specs.declared.Offset.{Offset}
 use Rattle.fields.specs.Faults.{flaw, nowhere, no_key}
 use Rattle.base.specs.Block.{sector, minor_of, bins_data}
 use Rattle.base.specs.Refused.{OfBase}
-use Rattle.cells.specs.declared.Rule.TheVariants.{Header}
+use Rattle.cells.specs.Rule.{Header}
 use Rattle.records.specs.Keys.{key_of}
 use Rattle.values.specs.declared.ValueData.TheVariants.{Segments}
 use Rattle.values.specs.Records.{data_in}

@@ -2,7 +2,7 @@
 -- there is no map, and a cell is named by its own header.
 use Rattle.std.specs.Prelude.{ℕ, cond, List, [], None, Ok, Option, Result, Some}
 use Rattle.fields.specs.declared.Offset.{Offset}
-use Rattle.cells.specs.declared.Rule.TheVariants.{Header}
+use Rattle.cells.specs.Rule.{Header}
 use Rattle.names.specs.Comparison.{same_name}
 use Rattle.records.specs.declared.Key.{Key}
 use Rattle.records.specs.Keys.{codes_of}

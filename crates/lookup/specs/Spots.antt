@@ -5,7 +5,7 @@ use Rattle.fields.specs.declared.Fault.TheVariants.{NoValue}
 use Rattle.fields.specs.declared.Offset.{Offset}
 use Rattle.fields.specs.Faults.{flaw, nowhere, no_key, refusal_of, Verdict}
 use Rattle.base.specs.Block.{sector, minor_of, bins_data, base_fault}
-use Rattle.cells.specs.declared.Rule.TheVariants.{Header}
+use Rattle.cells.specs.Rule.{Header}
 use Rattle.records.specs.Keys.{key_fault, key_of}
 use Rattle.lookup.specs.declared.Spot.TheVariants.{Found, Missing}
 use Rattle.lookup.specs.Search.{lookup_value}

@@ -3,7 +3,7 @@
 
 ghost use Rattle.std.specs.Prelude.{◌≡◌, [], ◌+◌, length, Ok};
 ghost use Rattle.base.specs.Block.{bins_data, base_fault};
-ghost use Rattle.cells.specs.declared.Rule.TheVariants.{Header};
+ghost use Rattle.cells.specs.Rule.{Header};
 ghost use Rattle.values.specs.Entries.{entries_of};
 ghost use Rattle.values.specs.Terms.{Room, Lies};
 ghost use Rattle.values.specs.Records.{value_of};
@@ -16,7 +16,6 @@ ghost use Rattle.fields.specs.declared.Fault.TheVariants.{NoValue};
 ghost use Rattle.fields.specs.Faults.{flaw, nowhere, refusal_of};
 ghost use Rattle.lookup.specs.Answers.{in_key, value_look_by, info_of, view_fault, viewed_fault, info_where, info_by, info_answer, quick_info, view_by, view_answer, quick_view, view_start_by, view_start, quick_view_start, view_bytes_by, view_bytes, quick_view_bytes, copied_to, copy_by, copy_answer, quick_copy, written, copy_out_by, copy_out, quick_out};
 
-use cells::Rule;
 use fields::{Fault, Flaw, Offset, Place, Refusal};
 use paths::Way;
 use records::Key;
@@ -28,7 +27,7 @@ use values::{Entries, Value, ValueData};
 fn value_named(bins: &[u8], minor: u32, name: &[u16], v: Offset) -> Result<Option<Offset>, Flaw>
     ensures { result ≡ value_named bins.now minor name.now v }
 {
-    let x = values::value_at(bins, b"", Rule::Header, minor, v)?;
+    let x = values::value_at(bins, None, minor, v)?;
     Ok(records::is_called(bins, x.name, name).then_some(v))
 }
 
@@ -52,7 +51,7 @@ fn search_values(bins: &[u8], minor: u32, name: &[u16], e: Entries) -> Result<Op
 fn lookup_value(bins: &[u8], minor: u32, name: &[u16], k: Key) -> Result<Option<Offset>, Flaw>
     ensures { result ≡ lookup_value bins.now minor name.now k }
 {
-    let e = values::value_list(bins, b"", Rule::Header, k)?;
+    let e = values::value_list(bins, None, k)?;
     search_values(bins, minor, name, e)
 }
 
@@ -118,7 +117,7 @@ fn info_of(x: Value) -> Info
 fn info_where(bins: &[u8], key: Offset, x: Value) -> Result<Info, Refusal>
     ensures { result ≡ info_where key (data_fault Header bins.now [] x.content) (info_of x) }
 {
-    values::data_flaw(bins, b"", Rule::Header, x.content).map_err(|f| fields::refused(key, f))?;
+    values::data_flaw(bins, None, x.content).map_err(|f| fields::refused(key, f))?;
     Ok(info_of(x))
 }
 
@@ -127,7 +126,7 @@ fn info_where(bins: &[u8], key: Offset, x: Value) -> Result<Info, Refusal>
 pub fn whole_info(bins: &[u8], minor: u32, key: Offset, v: Offset) -> Result<Info, Refusal>
     ensures { result ≡ info_where key (whole_value_fault Header bins.now [] minor v) (info_of (value_of bins.now minor v)) }
 {
-    let read = values::value_at(bins, b"", Rule::Header, minor, v);
+    let read = values::value_at(bins, None, minor, v);
     let x = read.map_err(|f| fields::refused(key, f))?;
     info_where(bins, key, x)
 }
@@ -148,7 +147,7 @@ fn view_flaw(v: Offset, x: ValueData) -> Result<(), Flaw>
 fn view_at(bins: &[u8], minor: u32, key: Offset, v: Offset) -> Result<Info, Refusal>
     ensures { result ≡ info_where key (viewed_fault bins.now minor v) (info_of (value_of bins.now minor v)) }
 {
-    let read = values::value_at(bins, b"", Rule::Header, minor, v);
+    let read = values::value_at(bins, None, minor, v);
     let x = read.map_err(|f| fields::refused(key, f))?;
     view_flaw(v, x.content).map_err(|f| fields::refused(key, f))?;
     info_where(bins, key, x)
@@ -314,7 +313,7 @@ pub fn quick_child_of(hive: &[u8], key: Offset, name: &[u16]) -> Result<Offset, 
 fn spot_in(bins: &[u8], minor: u32, key: Offset, name: &[u16]) -> Result<Spot, Refusal>
     ensures { result ≡ spot_in bins.now minor key name.now }
 {
-    let k = records::key_at(bins, b"", Rule::Header, key)?;
+    let k = records::key_at(bins, None, key)?;
     in_key(key, lookup_value(bins, minor, name, k))
 }
 

@@ -15,7 +15,7 @@ use Rattle.fields.specs.Faults.{nowhere, flaw}
 use Rattle.fields.proofs.Bools.{never}
 use Rattle.fields.proofs.Firsts.{both}
 use Rattle.fields.proofs.Loops.{over-each}
-use Rattle.cells.specs.declared.Rule.{Rule}
+use Rattle.cells.specs.Rule.{Rule}
 use Rattle.names.specs.Comparison.{compare}
 use Rattle.names.proofs.By_code.{by_order}
 use Rattle.names.proofs.LawsOrder.{same-symmetric, same-transitive, name-same, same-name}

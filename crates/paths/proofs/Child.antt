@@ -10,7 +10,7 @@ use Rattle.fields.specs.declared.Offset.{Offset}
 use Rattle.fields.specs.Faults.{flaw, nowhere, refusal_of}
 use Rattle.base.specs.Block.{sector, bins_of, bins_data}
 use Rattle.base.proofs.Laws.{facts-base}
-use Rattle.cells.specs.declared.Rule.TheVariants.{Header}
+use Rattle.cells.specs.Rule.{Header}
 use Rattle.records.specs.Keys.{key_fault, key_of}
 use Rattle.tree.specs.Tree.{levels, hive_of, keys_of}
 use Rattle.tree.specs.WellFormed.{CleanAndWellFormed, TreeStands}

@@ -10,7 +10,7 @@ use Rattle.fields.specs.declared.Offset.{Offset}
 use Rattle.fields.specs.Faults.{refusal_of, Verdict}
 use Rattle.fields.proofs.Bools.{and-inv}
 use Rattle.fields.proofs.Loops.{drop_all}
-use Rattle.cells.specs.declared.Rule.TheVariants.{Header}
+use Rattle.cells.specs.Rule.{Header}
 use Rattle.records.specs.declared.Key.{Key}
 use Rattle.records.specs.Keys.{key_fault, key_of}
 use Rattle.search.specs.declared.How.{How}

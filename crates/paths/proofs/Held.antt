@@ -10,7 +10,7 @@ use borrow.Author.Tests.{le-leb}
 use Rattle.fields.specs.declared.Offset.{Offset}
 use Rattle.fields.proofs.Bools.{and_both}
 use Rattle.base.specs.Block.{bins_data}
-use Rattle.cells.specs.declared.Rule.TheVariants.{Header}
+use Rattle.cells.specs.Rule.{Header}
 use Rattle.cells.specs.Tiled.{BinsTile}
 use Rattle.names.specs.Comparison.{compare}
 use Rattle.names.proofs.LawsOrder.{same_length}

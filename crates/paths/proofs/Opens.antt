@@ -9,7 +9,7 @@ use Rattle.fields.specs.declared.Offset.{Offset}
 use Rattle.fields.specs.Faults.{flaw, nowhere, no_key, refusal_of}
 use Rattle.fields.proofs.Firsts.{on, stop, both, sound, held, holds, fails}
 use Rattle.base.specs.Block.{bins_data, base_fault}
-use Rattle.cells.specs.declared.Rule.TheVariants.{Header}
+use Rattle.cells.specs.Rule.{Header}
 use Rattle.records.specs.Keys.{key_fault}
 use Rattle.tree.specs.Tree.{hive_of}
 use Rattle.search.specs.declared.How.{How}

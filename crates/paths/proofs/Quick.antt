@@ -10,7 +10,7 @@ use lib.Seq.{get_or-take, get_or-drop}
 use borrow.Author.Tests.{ltb-true, ltb-false}
 use Rattle.fields.specs.declared.Offset.{Offset}
 use Rattle.base.specs.Block.{sector, bins_of, bins_data}
-use Rattle.cells.specs.declared.Rule.TheVariants.{Header}
+use Rattle.cells.specs.Rule.{Header}
 use Rattle.cells.specs.Tiled.{BinsTile}
 use Rattle.records.specs.declared.Child.{Child}
 use Rattle.records.specs.Keys.{key_fault, key_of}

@@ -11,7 +11,7 @@ use Rattle.fields.specs.Faults.{flaw, nowhere, no_key, refusal_of, Because, Verd
 use Rattle.fields.proofs.Every.{Every, every-unless, every-next}
 use Rattle.base.specs.Block.{bins_data, base_fault}
 use Rattle.base.proofs.Refusals.{base-refuses}
-use Rattle.cells.specs.declared.Rule.TheVariants.{Header}
+use Rattle.cells.specs.Rule.{Header}
 use Rattle.cells.proofs.Refusals.{Ruled, by-header}
 use Rattle.records.specs.declared.Child.{Child}
 use Rattle.records.specs.Keys.{key_fault, key_of}

@@ -13,7 +13,7 @@ use Rattle.fields.specs.declared.Refusal.{Refusal}
 use Rattle.fields.specs.Faults.{no_key, refusal_of, Verdict}
 use Rattle.fields.proofs.Bools.{and-inv}
 use Rattle.base.specs.Block.{bins_data, base_fault}
-use Rattle.cells.specs.declared.Rule.TheVariants.{Header}
+use Rattle.cells.specs.Rule.{Header}
 use Rattle.names.specs.Codes.{has_code, backslash}
 use Rattle.records.specs.Keys.{key_fault, key_of}
 use Rattle.tree.specs.Tree.{hive_of}

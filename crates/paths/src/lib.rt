@@ -2,14 +2,13 @@
 #![tactic(auto)]
 
 ghost use Rattle.std.specs.Prelude.{◌≡◌, true, [], ◌+◌, ◌≤◌, length, drop, Ok};
-ghost use Rattle.cells.specs.declared.Rule.TheVariants.{Header};
+ghost use Rattle.cells.specs.Rule.{Header};
 ghost use Rattle.records.specs.Keys.{key_fault};
 ghost use Rattle.paths.specs.Paths.{first_part, parts_of, is_path};
 ghost use Rattle.paths.specs.Descent.{descend_by, lookup_key_by};
 ghost use Rattle.paths.specs.Answers.{ask_fault, key_look_by, key_found, find_by, find_answer, quick_answer};
 ghost use Rattle.paths.specs.Children.{is_step, child_look_by, child_by};
 
-use cells::Rule;
 use fields::{Fault, Flaw, Offset, Refusal};
 use search::How;
 
@@ -93,7 +92,7 @@ fn lookup_key(bins: &[u8], root: Offset, path: &[u16], how: How) -> Result<Way, 
     requires { is_path path.now ≡ true }
     ensures { result ≡ lookup_key_by how bins.now root (parts_of path.now) }
 {
-    records::key_at(bins, b"", Rule::Header, root)?;
+    records::key_at(bins, None, root)?;
     descend(bins, root, path, how)
 }
 

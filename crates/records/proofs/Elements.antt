@@ -6,7 +6,7 @@ use mathlib.Core.List.{List, [], ◌∷◌, Memᴰ}
 use lib.ListN.{length, get_or}
 use Rattle.fields.specs.declared.Offset.{Offset}
 use Rattle.fields.specs.Faults.{nowhere}
-use Rattle.cells.specs.declared.Rule.TheVariants.{Map}
+use Rattle.cells.specs.Rule.{Map}
 use Rattle.cells.specs.Named.{data_at}
 use Rattle.records.specs.declared.Key.{Key}
 use Rattle.records.specs.declared.Leaves.{Leaves}

@@ -11,7 +11,7 @@ use Rattle.fields.specs.declared.Offset.{Offset}
 use Rattle.fields.specs.Number.{u16_at}
 use Rattle.fields.specs.Bytes.{stands_at}
 use Rattle.fields.proofs.Bools.{and-inv}
-use Rattle.cells.specs.declared.Rule.{Rule}
+use Rattle.cells.specs.Rule.{Rule}
 use Rattle.cells.specs.Named.{data_at}
 use Rattle.cells.proofs.Parts.{part_length}
 use Rattle.names.specs.Codes.{codes, characters_in, has_code, backslash}

@@ -11,7 +11,7 @@ use Rattle.fields.specs.declared.Flaw.{Flaw}
 use Rattle.fields.specs.Faults.{fault_over}
 use Rattle.fields.proofs.Firsts.{on, stop, both}
 use Rattle.fields.proofs.Loops.{over-each, each_over}
-use Rattle.cells.specs.declared.Rule.{Rule}
+use Rattle.cells.specs.Rule.{Rule}
 use Rattle.cells.specs.Named.{data_at}
 use Rattle.records.specs.declared.Key.{Key}
 use Rattle.records.specs.Lists.{is_ri, leaves_of, leaves_below, leaf_fault, head_fault, list_fault, lists_fault}

@@ -11,7 +11,7 @@ use Rattle.fields.specs.declared.Fault.TheVariants.{Record}
 use Rattle.fields.specs.Faults.{flaw, unless, ◌next◌, Verdict}
 use Rattle.fields.proofs.Firsts.{on, stop, both, sound, held, holds, fails}
 use Rattle.cells.specs.declared.Cell.{Cell}
-use Rattle.cells.specs.declared.Rule.{Rule}
+use Rattle.cells.specs.Rule.{Rule}
 use Rattle.cells.specs.Named.{cell_of, cell_fault, data_of, data_at, part_in}
 use Rattle.cells.proofs.Parts.{part_length}
 use Rattle.cells.proofs.Naming.{cell-sound, cell-flawed}

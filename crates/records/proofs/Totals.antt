@@ -8,7 +8,7 @@ use Rattle.fields.specs.declared.Offset.{Offset}
 use Rattle.fields.specs.declared.Flaw.{Flaw}
 use Rattle.fields.specs.Faults.{nowhere, fault_over}
 use Rattle.fields.proofs.Loops.{loop-stop, loop-on, loop-end}
-use Rattle.cells.specs.declared.Rule.{Rule}
+use Rattle.cells.specs.Rule.{Rule}
 use Rattle.cells.specs.Named.{data_at}
 use Rattle.cells.proofs.Parts.{data-small}
 use Rattle.records.specs.declared.Key.{Key}

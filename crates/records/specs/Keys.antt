@@ -6,7 +6,7 @@ use Rattle.fields.specs.declared.Offset.{Offset}
 use Rattle.fields.specs.Number.{u16_at, u32_at}
 use Rattle.fields.specs.Bytes.{stands_at}
 use Rattle.fields.specs.Faults.{flaw, unless, ◌next◌, Verdict}
-use Rattle.cells.specs.declared.Rule.{Rule}
+use Rattle.cells.specs.Rule.{Rule}
 use Rattle.cells.specs.Named.{cell_fault, data_at, part_in}
 use Rattle.cells.specs.Terms.{PartIn}
 use Rattle.names.specs.Codes.{codes, characters_in, has_code, backslash}

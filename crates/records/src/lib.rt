@@ -6,13 +6,12 @@ ghost use Rattle.std.specs.Prelude.{◌≡◌, [], ◌+◌, ◌≤◌, ◌<◌, 
 ghost use Rattle.names.specs.Comparison.{compare, same_name};
 ghost use Rattle.names.specs.Hashing.{hash_of};
 ghost use Rattle.names.specs.Hints.{fits_hint};
-ghost use Rattle.cells.specs.declared.Rule.TheVariants.{Header};
+ghost use Rattle.cells.specs.Rule.{Header, rule_of, lent};
 ghost use Rattle.cells.specs.Named.{data_at};
 ghost use Rattle.records.specs.Keys.{is_flagged, is_whole, is_key_name, is_key, key_in, key_fault, key_of, security_of, keyed, called, NameIn, name_bytes, codes_of};
 ghost use Rattle.records.specs.Lists.{has_elements, width_of, has_leaf_signature, is_leaf, is_list, children_below, leaf_fault, head_fault, lists_fault};
 ghost use Rattle.records.specs.Terms.{leaves_in, leaves_at, headed, LeavesLie, leaf_named, leaf_in, leaf_of, leafed, ElementsLie, child_named, totalled, total_over};
 
-use cells::Rule;
 use fields::{Fault, Flaw, Offset};
 use std::cmp::Ordering;
 
@@ -114,10 +113,10 @@ fn key_in(r: &[u8], o: Offset) -> Key
 
 // The key at an offset: its cell, then its record.
 #[tactic(auto, using(crate::proofs::LawsRecord::records, crate::proofs::LawsKey::key_room), unfolding(crate::specs::Keys::key_fault, crate::specs::Keys::key_of))]
-pub fn key_at(bins: &[u8], map: &[u8], rule: Rule, o: Offset) -> Result<Key, Flaw>
-    ensures { result ≡ keyed (key_fault rule bins.now map.now o) (key_of bins.now o) }
+pub fn key_at(bins: &[u8], map: Option<&[u8]>, o: Offset) -> Result<Key, Flaw>
+    ensures { result ≡ keyed (key_fault (rule_of map.entry) bins.now (lent map.entry) o) (key_of bins.now o) }
 {
-    let r = cells::cell_data(bins, cells::find_cell(bins, map, rule, o)?);
+    let r = cells::cell_data(bins, cells::find_cell(bins, map, o)?);
     if !is_key(r) {
         return Err(Flaw {
             fault: Fault::Record,
@@ -133,7 +132,7 @@ pub fn key_at(bins: &[u8], map: &[u8], rule: Rule, o: Offset) -> Result<Key, Fla
 pub fn name_at(bins: &[u8], o: Offset) -> Result<Name, Flaw>
     ensures { result ≡ called (key_fault Header bins.now [] o) (key_of bins.now o).name }
 {
-    let r = cells::cell_data(bins, cells::find_cell(bins, b"", Rule::Header, o)?);
+    let r = cells::cell_data(bins, cells::find_cell(bins, None, o)?);
     if !is_key(r) {
         return Err(Flaw {
             fault: Fault::Record,
@@ -306,10 +305,10 @@ fn leaves_in(r: &[u8], o: Offset) -> Leaves
 
 // The list at an offset, without the leaves that an `ri` names.
 #[tactic(auto, using(crate::proofs::LawsRecord::records, crate::proofs::ListFacts::rooms), unfolding(crate::specs::Lists::head_fault, crate::specs::Terms::leaves_at))]
-pub fn head_at(bins: &[u8], map: &[u8], rule: Rule, o: Offset) -> Result<Leaves, Flaw>
-    ensures { result ≡ headed (head_fault rule bins.now map.now o) (leaves_at bins.now o) }
+pub fn head_at(bins: &[u8], map: Option<&[u8]>, o: Offset) -> Result<Leaves, Flaw>
+    ensures { result ≡ headed (head_fault (rule_of map.entry) bins.now (lent map.entry) o) (leaves_at bins.now o) }
 {
-    let r = cells::cell_data(bins, cells::find_cell(bins, map, rule, o)?);
+    let r = cells::cell_data(bins, cells::find_cell(bins, map, o)?);
     if !is_list(r) {
         return Err(Flaw {
             fault: Fault::Record,
@@ -367,10 +366,10 @@ fn leaf_in(r: &[u8], o: Offset) -> Leaf
 
 // The leaf at an offset; an `ri` there is 12.
 #[tactic(auto, using(crate::proofs::LawsRecord::records, crate::proofs::ListFacts::rooms), unfolding(crate::specs::Lists::leaf_fault, crate::specs::Terms::leaf_of))]
-pub fn leaf_at(bins: &[u8], map: &[u8], rule: Rule, o: Offset) -> Result<Leaf, Flaw>
-    ensures { result ≡ leafed (leaf_fault rule bins.now map.now o) (leaf_of bins.now o) }
+pub fn leaf_at(bins: &[u8], map: Option<&[u8]>, o: Offset) -> Result<Leaf, Flaw>
+    ensures { result ≡ leafed (leaf_fault (rule_of map.entry) bins.now (lent map.entry) o) (leaf_of bins.now o) }
 {
-    let r = cells::cell_data(bins, cells::find_cell(bins, map, rule, o)?);
+    let r = cells::cell_data(bins, cells::find_cell(bins, map, o)?);
     if !is_leaf(r) {
         return Err(Flaw {
             fault: Fault::Record,
@@ -418,13 +417,13 @@ pub fn child_of(bins: &[u8], leaf: Leaf, i: usize) -> Child
 }
 
 // The elements of all leaves, counted, or the first leaf's flaw.
-fn total_over(bins: &[u8], map: &[u8], rule: Rule, ls: Leaves) -> Result<usize, Flaw>
+fn total_over(bins: &[u8], map: Option<&[u8]>, ls: Leaves) -> Result<usize, Flaw>
     requires { (ls.count < 65536) × LeavesLie bins.now ls }
-    ensures { result ≡ total_over rule bins.now map.now ls }
+    ensures { result ≡ total_over (rule_of map.entry) bins.now (lent map.entry) ls }
 {
     let mut sum = 0;
     for j in 0..ls.count {
-        let leaf = leaf_at(bins, map, rule, leaf_offset(bins, ls, j))?;
+        let leaf = leaf_at(bins, map, leaf_offset(bins, ls, j))?;
         sum += leaf.count;
     }
     Ok(sum)
@@ -432,12 +431,12 @@ fn total_over(bins: &[u8], map: &[u8], rule: Rule, ls: Leaves) -> Result<usize, 
 
 // "The key's count is the total over its leaves": that total, or the first flaw of its lists. "Count 0: the list offset is not read."
 #[tactic(auto, using(crate::proofs::Totals::totals))]
-pub fn total_of(bins: &[u8], map: &[u8], rule: Rule, k: Key) -> Result<usize, Flaw>
-    ensures { result ≡ totalled (lists_fault rule bins.now map.now k) (length (children_below bins.now k)) }
+pub fn total_of(bins: &[u8], map: Option<&[u8]>, k: Key) -> Result<usize, Flaw>
+    ensures { result ≡ totalled (lists_fault (rule_of map.entry) bins.now (lent map.entry) k) (length (children_below bins.now k)) }
 {
     if k.subkeys == 0 {
         return Ok(0);
     }
-    let ls = head_at(bins, map, rule, k.list)?;
-    total_over(bins, map, rule, ls)
+    let ls = head_at(bins, map, k.list)?;
+    total_over(bins, map, ls)
 }

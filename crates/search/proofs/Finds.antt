@@ -9,7 +9,7 @@ use lib.Dec.{eqb}
 use borrow.Author.Tests.{eqb-false}
 use Rattle.fields.specs.declared.Offset.{Offset}
 use Rattle.fields.specs.declared.Flaw.{Flaw}
-use Rattle.cells.specs.declared.Rule.TheVariants.{Header}
+use Rattle.cells.specs.Rule.{Header}
 use Rattle.cells.specs.Named.{data_at}
 use Rattle.cells.specs.Tiled.{BinsTile}
 use Rattle.cells.proofs.Mapped.{header-sound}

@@ -6,7 +6,7 @@ use mathlib.Core.Bool.{Bool, true, false, cond}
 use mathlib.Core.List.{List, [], ◌∷◌, Memᴰ}
 use lib.Dec.{eqb}
 use Rattle.fields.specs.declared.Offset.{Offset}
-use Rattle.cells.specs.declared.Rule.TheVariants.{Header}
+use Rattle.cells.specs.Rule.{Header}
 use Rattle.cells.specs.Named.{data_at}
 use Rattle.names.specs.Comparison.{same_name}
 use Rattle.records.specs.declared.Child.{Child}

@@ -10,7 +10,7 @@ use borrow.Author.Tests.{ltb-true, eqb-false}
 use Rattle.fields.specs.declared.Flaw.{Flaw}
 use Rattle.fields.specs.declared.Offset.{Offset}
 use Rattle.fields.specs.Faults.{nowhere, Verdict}
-use Rattle.cells.specs.declared.Rule.TheVariants.{Header}
+use Rattle.cells.specs.Rule.{Header}
 use Rattle.cells.specs.Named.{data_at}
 use Rattle.cells.proofs.Refusals.{by-header}
 use Rattle.names.specs.Comparison.{compare}

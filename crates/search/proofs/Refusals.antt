@@ -11,7 +11,7 @@ use borrow.Author.Tests.{eqb-false}
 use Rattle.fields.specs.declared.Flaw.{Flaw}
 use Rattle.fields.specs.declared.Offset.{Offset}
 use Rattle.fields.proofs.Every.{Every}
-use Rattle.cells.specs.declared.Rule.TheVariants.{Header}
+use Rattle.cells.specs.Rule.{Header}
 use Rattle.cells.specs.Named.{data_at}
 use Rattle.cells.proofs.Refusals.{Ruled, by-header}
 use Rattle.names.specs.Comparison.{compare, same_name}

@@ -2,7 +2,7 @@
 -- map, and a cell is named by its own header.
 use Rattle.std.specs.Prelude.{ℕ, cond, List, [], ◌∷◌, eqb, Err, None, Ok, Option, Result, Some}
 use Rattle.fields.specs.declared.Offset.{Offset}
-use Rattle.cells.specs.declared.Rule.TheVariants.{Header}
+use Rattle.cells.specs.Rule.{Header}
 use Rattle.cells.specs.Named.{data_at}
 use Rattle.names.specs.Comparison.{same_name}
 use Rattle.records.specs.declared.Child.{Child}

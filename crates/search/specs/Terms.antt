@@ -1,7 +1,7 @@
 -- A key is asked by its offset, and a leaf in two steps.
 use Rattle.std.specs.Prelude.{ℕ, false, cond, List, []}
 use Rattle.fields.specs.declared.Offset.{Offset}
-use Rattle.cells.specs.declared.Rule.TheVariants.{Header}
+use Rattle.cells.specs.Rule.{Header}
 use Rattle.names.specs.Comparison.{compare}
 use Rattle.records.specs.declared.Child.{Child}
 use Rattle.records.specs.Keys.{key_fault}

@@ -9,7 +9,6 @@ ghost use Rattle.search.specs.declared.Turn.{Turn};
 ghost use Rattle.search.specs.Quick.{halve, halving, ask_key, quick_keys, ask_keys, ask_leaf, quick_below, below_by};
 ghost use Rattle.search.specs.Terms.{by_offset, asked_last};
 
-use cells::Rule;
 use fields::{Flaw, Offset};
 use records::{Key, Leaf, Leaves};
 use std::cmp::Ordering;
@@ -41,7 +40,7 @@ fn search_keys(bins: &[u8], name: &[u16], leaf: Leaf) -> Result<Option<Offset>, 
 fn search_leaf(bins: &[u8], name: &[u16], o: Offset) -> Result<Option<Offset>, Flaw>
     ensures { result ≡ search_leaf bins.now name.now o }
 {
-    let leaf = records::leaf_at(bins, b"", Rule::Header, o)?;
+    let leaf = records::leaf_at(bins, None, o)?;
     search_keys(bins, name, leaf)
 }
 
@@ -67,7 +66,7 @@ fn search_below(bins: &[u8], name: &[u16], k: Key) -> Result<Option<Offset>, Fla
     if k.subkeys == 0 {
         return Ok(None);
     }
-    let ls = records::head_at(bins, b"", Rule::Header, k.list)?;
+    let ls = records::head_at(bins, None, k.list)?;
     search_leaves(bins, name, ls)
 }
 
@@ -167,7 +166,7 @@ fn ask_keys(bins: &[u8], name: &[u16], leaf: Leaf) -> Turn
 fn ask_leaf(bins: &[u8], name: &[u16], o: Offset) -> Turn
     ensures { result ≡ ask_leaf bins.now name.now o }
 {
-    match records::leaf_at(bins, b"", Rule::Header, o) {
+    match records::leaf_at(bins, None, o) {
         Err(f) => Turn::Stop(Err(f)),
         Ok(leaf) => ask_keys(bins, name, leaf),
     }
@@ -192,7 +191,7 @@ fn quick_below(bins: &[u8], name: &[u16], k: Key) -> Result<Option<Offset>, Flaw
     if k.subkeys == 0 {
         return Ok(None);
     }
-    let ls = records::head_at(bins, b"", Rule::Header, k.list)?;
+    let ls = records::head_at(bins, None, k.list)?;
     quick_leaves(bins, name, ls)
 }
 

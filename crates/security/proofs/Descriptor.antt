@@ -15,7 +15,7 @@ use Rattle.fields.specs.Number.{u32_at}
 use Rattle.fields.specs.Faults.{flaw, Verdict}
 use Rattle.fields.proofs.Bools.{and-inv, and_both, never}
 use Rattle.fields.proofs.Every.{Every, every-next, every-unless}
-use Rattle.cells.specs.declared.Rule.{Rule}
+use Rattle.cells.specs.Rule.{Rule}
 use Rattle.cells.specs.Named.{cell_fault, data_at}
 use Rattle.cells.proofs.Naming.{cell-fault-is}
 use Rattle.cells.proofs.Refusals.{Ruled}

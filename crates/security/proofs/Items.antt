@@ -17,7 +17,7 @@ use Rattle.fields.specs.Faults.{is_sound}
 use Rattle.fields.proofs.Bools.{and-inv, and_both}
 use Rattle.fields.proofs.Firsts.{is-sound}
 use Rattle.cells.specs.declared.Cell.{Cell}
-use Rattle.cells.specs.declared.Rule.TheVariants.{Map}
+use Rattle.cells.specs.Rule.{Map}
 use Rattle.cells.specs.Named.{cell_of, cell_fault, data_of, data_at, part_in}
 use Rattle.cells.specs.Tiled.{BinsTile, Mapped}
 use Rattle.cells.proofs.Naming.{cell-sound, cell-flawed, cell-data-at, data-length, sound-names}

@@ -5,7 +5,7 @@ use Rattle.fields.specs.declared.Fault.TheVariants.{Record}
 use Rattle.fields.specs.declared.Offset.{Offset}
 use Rattle.fields.specs.declared.Place.{Place}
 use Rattle.fields.specs.Faults.{flaw, unless, ◌next◌, Verdict}
-use Rattle.cells.specs.declared.Rule.{Rule}
+use Rattle.cells.specs.Rule.{Rule}
 use Rattle.cells.specs.Named.{cell_fault, data_at, part_place}
 use Rattle.security.specs.declared.Item.{Item}
 use Rattle.security.specs.Items.{is_sk, is_roomy}

@@ -7,7 +7,7 @@ use Rattle.fields.specs.Number.{u32_at}
 use Rattle.fields.specs.Bytes.{stands_at}
 use Rattle.fields.specs.Faults.{flaw, unless, is_sound, ◌next◌, Verdict}
 use Rattle.fields.specs.Charges.{Charge, Free, charge_of, ◌after◌}
-use Rattle.cells.specs.declared.Rule.TheVariants.{Map}
+use Rattle.cells.specs.Rule.{Map}
 use Rattle.cells.specs.Named.{cell_fault, data_at}
 use Rattle.records.specs.Offsets.{offset_at}
 use Rattle.records.specs.Keys.{security_of}

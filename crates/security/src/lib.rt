@@ -2,13 +2,13 @@
 #![tactic(auto)]
 
 ghost use Rattle.std.specs.Prelude.{◌≡◌, true, ◌≤◌, length};
+ghost use Rattle.cells.specs.Rule.{rule_of, lent};
 ghost use Rattle.cells.specs.Named.{data_at};
 ghost use Rattle.chains.specs.Chains.{Chained};
 ghost use Rattle.security.specs.Items.{is_sk, is_item, item_in, item_of, has_room, is_linked, is_joined};
 ghost use Rattle.security.specs.Descriptor.{is_described, descriptor_fault, described, descriptor_place};
 ghost use Rattle.security.specs.Terms.{gathered, taken, HoldsFrom, Empty};
 
-use cells::Rule;
 use fields::{Fault, Flaw, Offset, Place};
 
 // "forward and backward offsets, reference count, descriptor size": the fields of an item.
@@ -32,7 +32,7 @@ fn is_sk(r: &[u8]) -> bool
 pub fn is_item(bins: &[u8], map: &[u8], o: Offset) -> bool
     ensures { result ≡ is_item bins.now map.now o }
 {
-    matches!(cells::find_cell(bins, map, Rule::Map, o), Ok(c) if is_sk(cells::cell_data(bins, c)))
+    matches!(cells::find_cell(bins, Some(map), o), Ok(c) if is_sk(cells::cell_data(bins, c)))
 }
 
 // The fields of the item r.
@@ -64,7 +64,7 @@ fn has_room(bins: &[u8], map: &[u8], o: Offset, size: u32) -> bool
     requires size_value { size ≡ (item_of bins.now o).size }
     ensures { result ≡ has_room bins.now o }
 {
-    matches!(cells::find_cell(bins, map, Rule::Map, o), Ok(c) if 20 + size as usize <= c.len)
+    matches!(cells::find_cell(bins, Some(map), o), Ok(c) if 20 + size as usize <= c.len)
 }
 
 // An item's forward link: "naming an item whose backward link names it back".
@@ -136,10 +136,10 @@ fn is_described(r: &[u8]) -> bool
 
 // The item that an offset names, with its descriptor: its cell, then its record. Neither links nor count are asked.
 #[tactic(auto, using(records::proofs::LawsRecord::records, crate::proofs::Descriptor::described_room), unfolding(crate::specs::Descriptor::descriptor_fault, crate::specs::Items::item_of))]
-pub fn described_at(bins: &[u8], map: &[u8], rule: Rule, o: Offset) -> Result<Item, Flaw>
-    ensures { result ≡ described (descriptor_fault rule bins.now map.now o) (item_of bins.now o) }
+pub fn described_at(bins: &[u8], map: Option<&[u8]>, o: Offset) -> Result<Item, Flaw>
+    ensures { result ≡ described (descriptor_fault (rule_of map.entry) bins.now (lent map.entry) o) (item_of bins.now o) }
 {
-    let r = cells::cell_data(bins, cells::find_cell(bins, map, rule, o)?);
+    let r = cells::cell_data(bins, cells::find_cell(bins, map, o)?);
     if !is_described(r) {
         return Err(Flaw {
             fault: Fault::Record,

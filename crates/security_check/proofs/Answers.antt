@@ -13,7 +13,7 @@ use Rattle.cells.specs.Terms.{Data}
 use Rattle.cells.specs.Tiling.{layout, survey_of}
 use Rattle.cells.proofs.Cleared.{over}
 use Rattle.cells.proofs.Naming.{sound-names}
-use Rattle.cells.specs.declared.Rule.TheVariants.{Map}
+use Rattle.cells.specs.Rule.{Map}
 use Rattle.records.specs.Keys.{security_of}
 use Rattle.security_pass.specs.Counting.{sought_in}
 use Rattle.security.specs.Items.{is_item, ring_fault, ring_of, ring_steps, off_charge, security_charge}

@@ -2,7 +2,7 @@
 use Rattle.std.specs.Prelude.{◌≡◌, ℕ, zero, suc, ◌+◌, ◌%◌, ◌≤◌, Bool, cond, not, ◌&&◌, List, [], ◌∷◌, length, nat_lt, slice_index, slice_set, None, Ok, Option, Some}
 use mathlib.Core.List.{Memᴰ}
 use Rattle.fields.specs.declared.Offset.{Offset}
-use Rattle.cells.specs.declared.Rule.TheVariants.{Map}
+use Rattle.cells.specs.Rule.{Map}
 use Rattle.cells.specs.Map.{is_marked}
 use Rattle.cells.specs.Named.{data_at}
 use Rattle.records.specs.declared.Child.{Child}

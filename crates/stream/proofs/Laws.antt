@@ -12,7 +12,7 @@ use borrow.Author.Tests.{eqb-true, leb-true, leb-false}
 use Rattle.fields.specs.declared.Offset.{Offset}
 use Rattle.fields.specs.Number.{u16_at, u32_at}
 use Rattle.fields.proofs.Bools.{and-inv}
-use Rattle.cells.specs.declared.Rule.TheVariants.{Header}
+use Rattle.cells.specs.Rule.{Header}
 use Rattle.cells.specs.Named.{data_at, part_in}
 use Rattle.cells.proofs.Parts.{part_length}
 use Rattle.names.specs.Codes.{codes, characters_in}

@@ -9,7 +9,7 @@ use Rattle.fields.specs.Faults.{flaw, unless}
 use Rattle.fields.specs.Charges.{Free, charge_of}
 use Rattle.fields.proofs.Charges.{both-free, free}
 use Rattle.fields.proofs.Firsts.{both, sound, held, holds}
-use Rattle.cells.specs.declared.Rule.TheVariants.{Map}
+use Rattle.cells.specs.Rule.{Map}
 use Rattle.cells.specs.Named.{data_at}
 use Rattle.cells.specs.Tiled.{BinsTile, Mapped}
 use Rattle.cells.proofs.Mapped.{in-use-sound}

@@ -4,7 +4,7 @@ use Rattle.fields.specs.declared.Refusal.{Refusal}
 use Rattle.fields.specs.Charges.{Charge, Free, Of, charge_of}
 use Rattle.fields.proofs.Firsts.{both}
 use Rattle.fields.proofs.Charges.{both-free, free, clear_of}
-use Rattle.cells.specs.declared.Rule.TheVariants.{Map}
+use Rattle.cells.specs.Rule.{Map}
 use Rattle.records.specs.declared.Child.{Child}
 use Rattle.records.specs.declared.Key.{Key}
 use Rattle.records.specs.Keys.{key_fault, key_of}

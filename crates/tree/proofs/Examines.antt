@@ -9,7 +9,7 @@ use Rattle.fields.specs.Faults.{number_of, nowhere, flaw, no_key, refusal_of}
 use Rattle.fields.proofs.Bools.{never}
 use Rattle.base.specs.Block.{bins_data}
 use Rattle.base.proofs.Refusals.{base-number}
-use Rattle.cells.specs.declared.Rule.TheVariants.{Map}
+use Rattle.cells.specs.Rule.{Map}
 use Rattle.cells.specs.Tiled.{InUse}
 use Rattle.cells.specs.Refused.{OfSurvey, of-base, map-small, of-bins}
 use Rattle.cells.proofs.Refusals.{bins-number}

@@ -1,7 +1,7 @@
 -- A tree that was walked without a charge may be read again without a test.
 use Rattle.std.proofs.Common.{◌≡◌, ℕ, zero, suc, List, refl, inl}
 use Rattle.fields.specs.Charges.{Free}
-use Rattle.cells.specs.declared.Rule.TheVariants.{Map}
+use Rattle.cells.specs.Rule.{Map}
 use Rattle.cells.specs.Tiled.{BinsTile, Mapped}
 use Rattle.records.specs.declared.Child.{Child}
 use Rattle.records.specs.Lists.{children}

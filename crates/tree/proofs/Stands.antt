@@ -7,8 +7,7 @@ use Rattle.fields.specs.declared.Fault.TheVariants.{Record}
 use Rattle.fields.specs.Faults.{flaw, unless, ◌next◌, fault_over, Verdict}
 use Rattle.fields.proofs.Firsts.{both, sound, held, holds}
 use Rattle.fields.proofs.Loops.{over-each, each_over}
-use Rattle.cells.specs.declared.Rule.{Rule}
-use Rattle.cells.specs.declared.Rule.TheVariants.{Map}
+use Rattle.cells.specs.Rule.{Rule, Map}
 use Rattle.cells.specs.Named.{cell_fault, data_at}
 use Rattle.cells.specs.Tiled.{BinsTile, InUse, Mapped}
 use Rattle.cells.proofs.Mapped.{sound-in-use}

@@ -6,7 +6,7 @@ use Rattle.fields.specs.Faults.{nowhere}
 use Rattle.fields.specs.Charges.{Charge, Free, Of, ◌after◌}
 use Rattle.fields.proofs.Charges.{both-free, after-assoc}
 use Rattle.fields.proofs.Loops.{drop_all}
-use Rattle.cells.specs.declared.Rule.TheVariants.{Map}
+use Rattle.cells.specs.Rule.{Map}
 use Rattle.cells.specs.Named.{data_at}
 use Rattle.records.specs.declared.Child.{Child}
 use Rattle.records.specs.declared.Key.{Key}

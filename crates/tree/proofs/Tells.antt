@@ -11,7 +11,7 @@ use Rattle.fields.specs.Charges.{Charge, charge_of, ◌after◌}
 use Rattle.fields.proofs.Charges.{clear_of, because, Charges, after-charges, flaw-charges}
 use Rattle.fields.proofs.Every.{Every, every-sound, every-flaw, every-unless, every-next, every-over}
 use Rattle.base.specs.Block.{bins_data}
-use Rattle.cells.specs.declared.Rule.TheVariants.{Map}
+use Rattle.cells.specs.Rule.{Map}
 use Rattle.cells.specs.declared.Tally.{Tally}
 use Rattle.cells.specs.Survey.{survey_answer, map_left}
 use Rattle.cells.specs.Tiled.{BinsTile, Mapped}

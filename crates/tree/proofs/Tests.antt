@@ -4,7 +4,7 @@ use Rattle.fields.specs.declared.Flaw.{Flaw}
 use Rattle.fields.specs.Faults.{refusal_of}
 use Rattle.fields.specs.Charges.{Free, Of, ◌after◌}
 use Rattle.fields.proofs.Firsts.{on, stop}
-use Rattle.cells.specs.declared.Rule.TheVariants.{Map}
+use Rattle.cells.specs.Rule.{Map}
 use Rattle.records.specs.declared.Child.{Child}
 use Rattle.records.specs.Keys.{key_of, key_fault}
 use Rattle.records.proofs.LawsAnswer.{keyed-whole, keyed-flawed}

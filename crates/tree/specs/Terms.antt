@@ -3,7 +3,7 @@ use Rattle.std.specs.Prelude.{◌≡◌, ℕ, ◌-◌, ◌≤◌, false, cond, L
 use Rattle.fields.specs.declared.Offset.{Offset}
 use Rattle.fields.specs.Faults.{◌next◌, Verdict}
 use Rattle.fields.specs.Charges.{Free}
-use Rattle.cells.specs.declared.Rule.TheVariants.{Map}
+use Rattle.cells.specs.Rule.{Map}
 use Rattle.base.specs.Block.{bins_data, base_fault}
 use Rattle.cells.specs.declared.Tally.{Tally}
 use Rattle.cells.specs.Named.{data_at}

@@ -8,7 +8,7 @@ use Rattle.fields.specs.declared.Offset.{Offset}
 use Rattle.fields.specs.declared.Refusal.{Refusal}
 use Rattle.fields.specs.Faults.{number_of, flaw, no_key}
 use Rattle.base.specs.Block.{sector, bins_of, bins_data}
-use Rattle.cells.specs.declared.Rule.TheVariants.{Map}
+use Rattle.cells.specs.Rule.{Map}
 use Rattle.cells.specs.Tiled.{BinsTile}
 use Rattle.cells.specs.Refused.{OfSurvey}
 use Rattle.names.specs.Comparison.{compare}

@@ -7,7 +7,7 @@ use Rattle.fields.specs.declared.Fault.TheVariants.{Order, Parent, Level}
 use Rattle.fields.specs.Faults.{flaw, unless, ◌next◌, no_key, refusal_of, Verdict}
 use Rattle.fields.specs.Charges.{Charge, Free, Of, charge_of, ◌after◌}
 use Rattle.base.specs.Block.{sector, minor_of, root_of, bins_data}
-use Rattle.cells.specs.declared.Rule.TheVariants.{Map}
+use Rattle.cells.specs.Rule.{Map}
 use Rattle.cells.specs.declared.Tally.{Tally}
 use Rattle.cells.specs.Survey.{survey_answer, map_left}
 use Rattle.names.specs.Comparison.{compare}

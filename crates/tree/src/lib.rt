@@ -5,7 +5,7 @@ ghost use Rattle.std.specs.Prelude.{◌≡◌, ◌<◌, slice_index_or, MatchRes
 ghost use Rattle.fields.specs.Charges.{Free, Of};
 ghost use Rattle.cells.specs.Survey.{map_left};
 ghost use Rattle.cells.specs.Named.{data_at};
-ghost use Rattle.cells.specs.declared.Rule.TheVariants.{Map};
+ghost use Rattle.cells.specs.Rule.{Map};
 ghost use Rattle.records.specs.Terms.{no_child};
 ghost use Rattle.records.specs.Keys.{key_of};
 ghost use Rattle.records.specs.Lists.{leaf_children, leaf_fault, children_below, lists_fault};
@@ -14,7 +14,7 @@ ghost use Rattle.values.specs.Lists.{value_entries};
 ghost use Rattle.namesakes.specs.Terms.{NamesLie};
 ghost use Rattle.tree.specs.Terms.{NameLies, Fits, ArrivalFits, subkeys_fault, last_of, RowLies, row_children, Ready, keys_answer, KeysChecked};
 
-use cells::{Rule, Tally};
+use cells::Tally;
 use fields::{Fault, Flaw, Offset, Refusal};
 use records::{Child, Key, Leaf};
 use std::cmp::Ordering;
@@ -122,7 +122,7 @@ fn hint_flaw(bins: &[u8], k: Key, c: Child) -> Result<(), Flaw>
 fn subkeys_flaw(bins: &[u8], map: &[u8], k: Key, at: Offset) -> Result<(), Flaw>
     ensures { result ≡ subkeys_fault bins.now map.now k at }
 {
-    if records::total_of(bins, map, Rule::Map, k)? != k.subkeys as usize {
+    if records::total_of(bins, Some(map), k)? != k.subkeys as usize {
         return fields::flawed(Fault::Parent, at);
     }
     Ok(())
@@ -143,7 +143,7 @@ fn values_and_lists_flaw(
     if levels == 0 {
         return fields::flawed(Fault::Level, at);
     }
-    values::values_flaw(bins, map, Rule::Map, minor, k)?;
+    values::values_flaw(bins, Some(map), minor, k)?;
     // the names of a key's values, after them and before its lists
     namesakes::namesake_flaw(bins, k)?;
     subkeys_flaw(bins, map, k, at)
@@ -216,7 +216,7 @@ fn tested_key(
         (λ k. (k ≡ key_of bins.now c.at) × (key_charge bins.now map.now hive levels c l ≡ Free))
         (λ r. key_charge bins.now map.now hive levels c l ≡ Of r) }
 {
-    let k = records::key_at(bins, map, Rule::Map, c.at).map_err(|f| fields::refused(holder(l), f))?;
+    let k = records::key_at(bins, Some(map), c.at).map_err(|f| fields::refused(holder(l), f))?;
     key_tests(bins, map, hive, levels, k, c, l).map_err(|f| fields::refused(c.at, f))?;
     Ok(k)
 }

@@ -9,8 +9,7 @@ use Rattle.fields.specs.declared.Fault.TheVariants.{Record}
 use Rattle.fields.specs.Faults.{flaw, unless, ◌next◌, fault_over, Verdict}
 use Rattle.fields.proofs.Firsts.{on, stop, both, sound, held, holds, fails}
 use Rattle.cells.specs.declared.Cell.{Cell}
-use Rattle.cells.specs.declared.Rule.{Rule}
-use Rattle.cells.specs.declared.Rule.TheVariants.{Header}
+use Rattle.cells.specs.Rule.{Rule, Header}
 use Rattle.cells.specs.Named.{cell_of, cell_fault, data_of, data_at}
 use Rattle.cells.proofs.Naming.{cell-sound, cell-flawed, cell-data-at, header-cell}
 use Rattle.std.specs.Prelude.{Err, Ok}

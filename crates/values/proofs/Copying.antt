@@ -8,7 +8,7 @@ use lib.Seq.{paste, length-paste, take-paste, drop-paste, drop-drop}
 use Rattle.fields.specs.declared.Offset.{Offset}
 use Rattle.fields.specs.Faults.{nowhere, fault_over}
 use Rattle.fields.proofs.Firsts.{both}
-use Rattle.cells.specs.declared.Rule.TheVariants.{Header}
+use Rattle.cells.specs.Rule.{Header}
 use Rattle.cells.specs.Named.{data_at}
 use Rattle.values.specs.declared.Entries.{Entries}
 use Rattle.values.specs.declared.Segment.{Segment}

@@ -8,7 +8,7 @@ use Rattle.fields.specs.declared.Offset.{Offset}
 use Rattle.fields.specs.Number.{u16_at, u32_at, size_at}
 use Rattle.fields.specs.Bytes.{same_bytes, stands_at}
 use Rattle.fields.specs.Faults.{◌next◌}
-use Rattle.cells.specs.declared.Rule.TheVariants.{Header}
+use Rattle.cells.specs.Rule.{Header}
 use Rattle.cells.specs.Tiling.{good_size}
 use Rattle.cells.specs.Named.{is_named, by_header, cell_of, cell_fault, data_of, data_at}
 use Rattle.names.specs.Codes.{characters_in}

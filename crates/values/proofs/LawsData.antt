@@ -12,7 +12,7 @@ use borrow.Author.Tests.{eqb-true}
 use Rattle.fields.specs.declared.Offset.{Offset}
 use Rattle.fields.specs.Faults.{fault_over}
 use Rattle.fields.proofs.Firsts.{both}
-use Rattle.cells.specs.declared.Rule.TheVariants.{Header}
+use Rattle.cells.specs.Rule.{Header}
 use Rattle.cells.specs.Named.{data_at}
 use Rattle.cells.proofs.Parts.{part_length}
 use Rattle.values.specs.declared.Entries.{Entries}

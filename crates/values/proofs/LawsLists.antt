@@ -8,7 +8,7 @@ use lib.Dec.{eqb}
 use Rattle.fields.specs.declared.Flaw.{Flaw}
 use Rattle.fields.specs.Faults.{fault_over}
 use Rattle.fields.proofs.Firsts.{on, stop}
-use Rattle.cells.specs.declared.Rule.{Rule}
+use Rattle.cells.specs.Rule.{Rule}
 use Rattle.records.specs.declared.Key.{Key}
 use Rattle.records.specs.Offsets.{offsets_at}
 use Rattle.values.specs.declared.Entries.{Entries}

@@ -8,7 +8,7 @@ use lib.Seq.{length-take-le}
 use Rattle.fields.specs.declared.Offset.{Offset}
 use Rattle.fields.specs.Faults.{fault_over}
 use Rattle.fields.proofs.Firsts.{both}
-use Rattle.cells.specs.declared.Rule.{Rule}
+use Rattle.cells.specs.Rule.{Rule}
 use Rattle.cells.specs.Named.{data_at}
 use Rattle.values.specs.declared.Segment.{Segment}
 use Rattle.values.specs.Records.{segment_size, data_limit}

@@ -11,8 +11,7 @@ use borrow.Author.Tests.{leb-true, leb-false, ltb-true}
 use Rattle.fields.specs.declared.Offset.{Offset}
 use Rattle.fields.specs.Number.{u32_at}
 use Rattle.fields.proofs.Bools.{and-inv}
-use Rattle.cells.specs.declared.Rule.{Rule}
-use Rattle.cells.specs.declared.Rule.TheVariants.{Header}
+use Rattle.cells.specs.Rule.{Rule, Header}
 use Rattle.cells.specs.Named.{data_at}
 use Rattle.records.specs.Keys.{NameIn}
 use Rattle.records.specs.Offsets.{offset_at}

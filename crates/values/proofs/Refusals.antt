@@ -13,7 +13,7 @@ use Rattle.fields.specs.declared.Offset.{Offset}
 use Rattle.fields.specs.Faults.{flaw}
 use Rattle.fields.proofs.Every.{Every, every-sound, every-next, every-unless, every-cond, every-over}
 use Rattle.fields.proofs.Firsts.{both, held}
-use Rattle.cells.specs.declared.Rule.{Rule}
+use Rattle.cells.specs.Rule.{Rule}
 use Rattle.cells.specs.Named.{cell_fault, data_at}
 use Rattle.cells.proofs.Naming.{cell-fault-is}
 use Rattle.cells.proofs.Refusals.{Ruled}

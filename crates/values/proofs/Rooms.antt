@@ -12,7 +12,7 @@ use Rattle.fields.specs.declared.Flaw.{Flaw}
 use Rattle.fields.specs.declared.Fault.TheVariants.{Record}
 use Rattle.fields.specs.Faults.{flaw, nowhere}
 use Rattle.cells.specs.declared.Cell.{Cell}
-use Rattle.cells.specs.declared.Rule.{Rule}
+use Rattle.cells.specs.Rule.{Rule}
 use Rattle.cells.specs.Named.{cell_of, data_of, data_at}
 use Rattle.cells.proofs.Naming.{inside, data-length}
 use Rattle.records.specs.Offsets.{offset_at}

@@ -15,7 +15,7 @@ use Rattle.fields.specs.Faults.{flaw, fault_over, Verdict}
 use Rattle.fields.proofs.Firsts.{on, stop, both}
 use Rattle.fields.proofs.Bools.{and-inv}
 use Rattle.cells.specs.declared.Cell.{Cell}
-use Rattle.cells.specs.declared.Rule.{Rule}
+use Rattle.cells.specs.Rule.{Rule}
 use Rattle.cells.specs.Named.{cell_of, data_of, data_at}
 use Rattle.cells.proofs.Naming.{cell-data-at}
 use Rattle.values.specs.declared.Entries.{Entries}

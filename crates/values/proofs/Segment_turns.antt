@@ -12,7 +12,7 @@ use Rattle.fields.specs.declared.Offset.{Offset}
 use Rattle.fields.specs.declared.Flaw.{Flaw}
 use Rattle.fields.specs.Faults.{nowhere, fault_over, Verdict}
 use Rattle.fields.proofs.Firsts.{on, stop}
-use Rattle.cells.specs.declared.Rule.{Rule}
+use Rattle.cells.specs.Rule.{Rule}
 use Rattle.cells.specs.Named.{data_at}
 use Rattle.records.specs.Offsets.{offset_at}
 use Rattle.values.specs.declared.Entries.{Entries}

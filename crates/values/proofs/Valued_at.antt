@@ -10,7 +10,7 @@ use Rattle.fields.specs.declared.Fault.TheVariants.{Record}
 use Rattle.fields.specs.Faults.{flaw, Verdict}
 use Rattle.fields.proofs.Firsts.{on, stop}
 use Rattle.cells.specs.declared.Cell.{Cell}
-use Rattle.cells.specs.declared.Rule.{Rule}
+use Rattle.cells.specs.Rule.{Rule}
 use Rattle.cells.specs.Named.{cell_of, data_of}
 use Rattle.cells.proofs.Naming.{cell-data-at}
 use Rattle.values.specs.declared.Value.{Value}

@@ -6,7 +6,7 @@ use Rattle.fields.specs.declared.Fault.TheVariants.{NoCell, Record}
 use Rattle.fields.specs.declared.Flaw.{Flaw}
 use Rattle.fields.specs.declared.Offset.{Offset}
 use Rattle.fields.specs.Faults.{flaw}
-use Rattle.cells.specs.declared.Rule.{Rule}
+use Rattle.cells.specs.Rule.{Rule}
 use Rattle.cells.specs.Named.{data_at}
 use Rattle.cells.specs.Refused.{UsedBy}
 use Rattle.records.specs.declared.Child.{Child}

@@ -4,7 +4,7 @@ use Rattle.fields.specs.declared.Offset.{Offset}
 use Rattle.cells.specs.Named.{data_at}
 use Rattle.values.specs.declared.Entries.{Entries}
 use Rattle.fields.specs.Faults.{fault_over, Verdict}
-use Rattle.cells.specs.declared.Rule.TheVariants.{Header}
+use Rattle.cells.specs.Rule.{Header}
 use Rattle.values.specs.declared.ValueData.{ValueData}
 use Rattle.values.specs.declared.ValueData.TheVariants.{Inline}
 use Rattle.values.specs.Records.{segment_size}

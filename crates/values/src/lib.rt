@@ -2,6 +2,7 @@
 #![tactic(auto)]
 
 ghost use Rattle.std.specs.Prelude.{◌≡◌, ◌+◌, ◌*◌, ◌<◌, ◌≤◌, ◌++◌, length, get_or, drop};
+ghost use Rattle.cells.specs.Rule.{rule_of, lent};
 ghost use Rattle.std.proofs.Math.Seq.{paste};
 ghost use Rattle.fields.specs.Faults.{nowhere, fault_over};
 ghost use Rattle.cells.specs.Named.{data_at};
@@ -12,7 +13,6 @@ ghost use Rattle.values.specs.Segments.{room_fault, segments_for, is_db, segment
 ghost use Rattle.values.specs.Parts.{part_of};
 ghost use Rattle.values.specs.Lists.{value_list_fault, value_entries, whole_value_fault, values_fault};
 
-use cells::Rule;
 use fields::{Fault, Flaw, Offset};
 
 // "at most 16,383 characters, even bytes if UTF-16"
@@ -134,10 +134,10 @@ fn fields_of(r: &[u8], minor: u32, v: Offset) -> Value
 
 // The value at an offset, parsed once: its cell, then its record.
 #[tactic(auto, using(crate::proofs::Valued_at::value_ways, cells::proofs::Naming::inside, crate::proofs::Tests::value_long))]
-pub fn value_at(bins: &[u8], map: &[u8], rule: Rule, minor: u32, v: Offset) -> Result<Value, Flaw>
-    ensures { result ≡ valued (value_fault rule bins.now map.now v) (value_of bins.now minor v) }
+pub fn value_at(bins: &[u8], map: Option<&[u8]>, minor: u32, v: Offset) -> Result<Value, Flaw>
+    ensures { result ≡ valued (value_fault (rule_of map.entry) bins.now (lent map.entry) v) (value_of bins.now minor v) }
 {
-    let c = cells::find_cell(bins, map, rule, v)?;
+    let c = cells::find_cell(bins, map, v)?;
     let r = cells::cell_data(bins, c);
     if !is_value(r) {
         return Err(Flaw {
@@ -150,10 +150,10 @@ pub fn value_at(bins: &[u8], map: &[u8], rule: Rule, minor: u32, v: Offset) -> R
 
 // An offset names a cell with room for so many bytes: 11, or 12 at that cell.
 #[tactic(auto, using(crate::proofs::Rooms::room_ways))]
-fn room_flaw(bins: &[u8], map: &[u8], rule: Rule, o: Offset, n: usize) -> Result<(), Flaw>
-    ensures { result ≡ room_fault rule bins.now map.now o n }
+fn room_flaw(bins: &[u8], map: Option<&[u8]>, o: Offset, n: usize) -> Result<(), Flaw>
+    ensures { result ≡ room_fault (rule_of map.entry) bins.now (lent map.entry) o n }
 {
-    let c = cells::find_cell(bins, map, rule, o)?;
+    let c = cells::find_cell(bins, map, o)?;
     if c.len < n {
         return fields::flawed(Fault::Record, o);
     }
@@ -168,11 +168,11 @@ pub struct Entries {
 }
 
 // The list whose cell an offset names, with room for so many elements.
-fn list_at(bins: &[u8], map: &[u8], rule: Rule, o: Offset, count: u32) -> Result<Entries, Flaw>
-    ensures { result ≡ entered (room_fault rule bins.now map.now o (4 * count)) (entries_at o count) }
+fn list_at(bins: &[u8], map: Option<&[u8]>, o: Offset, count: u32) -> Result<Entries, Flaw>
+    ensures { result ≡ entered (room_fault (rule_of map.entry) bins.now (lent map.entry) o (4 * count)) (entries_at o count) }
 {
     let count = count as usize;
-    room_flaw(bins, map, rule, o, 4 * count)?;
+    room_flaw(bins, map, o, 4 * count)?;
     Ok(Entries { cell: o, count })
 }
 
@@ -220,10 +220,10 @@ fn is_db(r: &[u8], size: u32) -> bool
 
 // "`db` cell and record, segment list's cell and room"
 #[tactic(auto, using(crate::proofs::Segment_faults::db_ways, cells::proofs::Naming::inside))]
-fn segment_list(bins: &[u8], map: &[u8], rule: Rule, o: Offset, size: u32) -> Result<Entries, Flaw>
-    ensures { result ≡ entered (segment_list_fault rule bins.now map.now o size) (entries_at (segment_list bins.now o) (segments_for size)) }
+fn segment_list(bins: &[u8], map: Option<&[u8]>, o: Offset, size: u32) -> Result<Entries, Flaw>
+    ensures { result ≡ entered (segment_list_fault (rule_of map.entry) bins.now (lent map.entry) o size) (entries_at (segment_list bins.now o) (segments_for size)) }
 {
-    let c = cells::find_cell(bins, map, rule, o)?;
+    let c = cells::find_cell(bins, map, o)?;
     let r = cells::cell_data(bins, c);
     if !is_db(r, size) {
         return Err(Flaw {
@@ -231,72 +231,60 @@ fn segment_list(bins: &[u8], map: &[u8], rule: Rule, o: Offset, size: u32) -> Re
             place: o,
         });
     }
-    list_at(
-        bins,
-        map,
-        rule,
-        Offset(fields::u32_at(r, 4)),
-        segments_for(size),
-    )
+    list_at(bins, map, Offset(fields::u32_at(r, 4)), segments_for(size))
 }
 
 // ".. then the segments in order, each 11 then 12"
-fn each_segment_flaw(
-    bins: &[u8],
-    map: &[u8],
-    rule: Rule,
-    e: Entries,
-    size: usize,
-) -> Result<(), Flaw>
+fn each_segment_flaw(bins: &[u8], map: Option<&[u8]>, e: Entries, size: usize) -> Result<(), Flaw>
     requires { Room bins.now e }
-    ensures { result ≡ fault_over (segment_fault rule bins.now map.now) (segments_in bins.now e size) }
+    ensures { result ≡ fault_over (segment_fault (rule_of map.entry) bins.now (lent map.entry)) (segments_in bins.now e size) }
 {
     let mut left = size;
     for i in 0..e.count {
         let n = segment_length(left);
-        room_flaw(bins, map, rule, entry(bins, e, i), n)?;
+        room_flaw(bins, map, entry(bins, e, i), n)?;
         left -= n;
     }
     Ok(())
 }
 
 #[tactic(auto, using(crate::proofs::Segment_faults::segments_ways))]
-fn segments_flaw(bins: &[u8], map: &[u8], rule: Rule, o: Offset, size: u32) -> Result<(), Flaw>
-    ensures { result ≡ segments_fault rule bins.now map.now o size }
+fn segments_flaw(bins: &[u8], map: Option<&[u8]>, o: Offset, size: u32) -> Result<(), Flaw>
+    ensures { result ≡ segments_fault (rule_of map.entry) bins.now (lent map.entry) o size }
 {
-    let e = segment_list(bins, map, rule, o, size)?;
-    each_segment_flaw(bins, map, rule, e, size as usize)
+    let e = segment_list(bins, map, o, size)?;
+    each_segment_flaw(bins, map, e, size as usize)
 }
 
 // The data's own 11 and 12. "size 0 reads nothing"
 #[tactic(auto, unfolding(crate::specs::Segments::data_fault))]
-pub fn data_flaw(bins: &[u8], map: &[u8], rule: Rule, x: ValueData) -> Result<(), Flaw>
-    ensures { result ≡ data_fault rule bins.now map.now x }
+pub fn data_flaw(bins: &[u8], map: Option<&[u8]>, x: ValueData) -> Result<(), Flaw>
+    ensures { result ≡ data_fault (rule_of map.entry) bins.now (lent map.entry) x }
 {
     match x {
         ValueData::Inline { .. } | ValueData::OneCell { len: 0, .. } => Ok(()),
-        ValueData::OneCell { cell, len } => room_flaw(bins, map, rule, cell, len as usize),
-        ValueData::Segments { cell, len } => segments_flaw(bins, map, rule, cell, len),
+        ValueData::OneCell { cell, len } => room_flaw(bins, map, cell, len as usize),
+        ValueData::Segments { cell, len } => segments_flaw(bins, map, cell, len),
     }
 }
 
 // A value's record, then its data. The check wants no name and no type, so they are not gathered.
 #[tactic(auto, using(crate::proofs::Valued_at::whole_ways, cells::proofs::Naming::inside, crate::proofs::Tests::value_long))]
-fn whole_value_flaw(bins: &[u8], map: &[u8], rule: Rule, minor: u32, v: Offset) -> Result<(), Flaw>
-    ensures { result ≡ whole_value_fault rule bins.now map.now minor v }
+fn whole_value_flaw(bins: &[u8], map: Option<&[u8]>, minor: u32, v: Offset) -> Result<(), Flaw>
+    ensures { result ≡ whole_value_fault (rule_of map.entry) bins.now (lent map.entry) minor v }
 {
-    let c = cells::find_cell(bins, map, rule, v)?;
+    let c = cells::find_cell(bins, map, v)?;
     let r = cells::cell_data(bins, c);
     if !is_value(r) {
         return fields::flawed(Fault::Record, v);
     }
-    data_flaw(bins, map, rule, content_of(r, minor, v))
+    data_flaw(bins, map, content_of(r, minor, v))
 }
 
 // The value list of a key: its cell, and its room for all elements. Value count 0 reads nothing.
 #[tactic(auto, unfolding(crate::specs::Lists::value_list_fault, crate::specs::Lists::value_entries))]
-pub fn value_list(bins: &[u8], map: &[u8], rule: Rule, k: records::Key) -> Result<Entries, Flaw>
-    ensures { result ≡ entered (value_list_fault rule bins.now map.now k) (value_entries k) }
+pub fn value_list(bins: &[u8], map: Option<&[u8]>, k: records::Key) -> Result<Entries, Flaw>
+    ensures { result ≡ entered (value_list_fault (rule_of map.entry) bins.now (lent map.entry) k) (value_entries k) }
 {
     if k.values == 0 {
         return Ok(Entries {
@@ -304,33 +292,27 @@ pub fn value_list(bins: &[u8], map: &[u8], rule: Rule, k: records::Key) -> Resul
             count: 0,
         });
     }
-    list_at(bins, map, rule, k.value_list, k.values)
+    list_at(bins, map, k.value_list, k.values)
 }
 
 // "values in order with their data": a value's record, then its data, then the next value.
-fn each_value_flaw(bins: &[u8], map: &[u8], rule: Rule, minor: u32, e: Entries) -> Result<(), Flaw>
+fn each_value_flaw(bins: &[u8], map: Option<&[u8]>, minor: u32, e: Entries) -> Result<(), Flaw>
     requires { Room bins.now e }
-    ensures { result ≡ fault_over (whole_value_fault rule bins.now map.now minor) (entries_of bins.now e) }
+    ensures { result ≡ fault_over (whole_value_fault (rule_of map.entry) bins.now (lent map.entry) minor) (entries_of bins.now e) }
 {
     for i in 0..e.count {
-        whole_value_flaw(bins, map, rule, minor, entry(bins, e, i))?;
+        whole_value_flaw(bins, map, minor, entry(bins, e, i))?;
     }
     Ok(())
 }
 
 // The check's stage of a key's values.
 #[tactic(auto, using(crate::proofs::LawsLists::values_ways))]
-pub fn values_flaw(
-    bins: &[u8],
-    map: &[u8],
-    rule: Rule,
-    minor: u32,
-    k: records::Key,
-) -> Result<(), Flaw>
-    ensures { result ≡ values_fault rule bins.now map.now minor k }
+pub fn values_flaw(bins: &[u8], map: Option<&[u8]>, minor: u32, k: records::Key) -> Result<(), Flaw>
+    ensures { result ≡ values_fault (rule_of map.entry) bins.now (lent map.entry) minor k }
 {
-    let e = value_list(bins, map, rule, k)?;
-    each_value_flaw(bins, map, rule, minor, e)
+    let e = value_list(bins, map, k)?;
+    each_value_flaw(bins, map, minor, e)
 }
 
 // A part of a cell's data: so many bytes from a position on.

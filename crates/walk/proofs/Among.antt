@@ -13,7 +13,7 @@ use borrow.Author.Tests.{eqb-false, leb-true, leb-false, ltb-true, ltb-false, lt
 use Rattle.fields.specs.declared.Offset.{Offset}
 use Rattle.fields.specs.Faults.{nowhere}
 use Rattle.fields.proofs.Loops.{drop_all}
-use Rattle.cells.specs.declared.Rule.TheVariants.{Header}
+use Rattle.cells.specs.Rule.{Header}
 use Rattle.cells.specs.Named.{data_at}
 use Rattle.cells.specs.Tiled.{BinsTile}
 use Rattle.records.specs.declared.Child.{Child}

@@ -10,7 +10,7 @@ use Rattle.fields.specs.declared.Fault.TheVariants.{Level}
 use Rattle.fields.specs.declared.Offset.{Offset}
 use Rattle.fields.specs.Faults.{flaw, unless, no_key, Verdict}
 use Rattle.base.specs.Block.{bins_data, base_fault}
-use Rattle.cells.specs.declared.Rule.TheVariants.{Header}
+use Rattle.cells.specs.Rule.{Header}
 use Rattle.records.specs.Keys.{key_fault, key_of}
 use Rattle.tree.specs.Tree.{levels, hive_of}
 use Rattle.listing.specs.declared.Entry.{Entry}

@@ -16,7 +16,7 @@ use Rattle.fields.specs.declared.Offset.{Offset}
 use Rattle.fields.specs.declared.Refusal.{Refusal}
 use Rattle.base.specs.Block.{bins_data, base_fault}
 use Rattle.base.proofs.Laws.{facts-base}
-use Rattle.cells.specs.declared.Rule.TheVariants.{Header}
+use Rattle.cells.specs.Rule.{Header}
 use Rattle.records.specs.declared.Child.{Child}
 use Rattle.records.specs.Keys.{key_fault, key_of, called}
 use Rattle.records.specs.Listed.{joined, keys_in}

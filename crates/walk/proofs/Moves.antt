@@ -12,7 +12,7 @@ use Rattle.fields.specs.declared.Offset.{Offset}
 use Rattle.fields.specs.declared.Fault.TheVariants.{Level, OutputShort}
 use Rattle.fields.specs.Faults.{flaw, unless, nowhere, no_key, Verdict}
 use Rattle.tree.specs.Tree.{levels}
-use Rattle.cells.specs.declared.Rule.TheVariants.{Header}
+use Rattle.cells.specs.Rule.{Header}
 use Rattle.records.specs.Keys.{key_fault, key_of}
 use Rattle.listing.specs.declared.Entry.{Entry}
 use Rattle.listing.specs.Members.{entry_of}

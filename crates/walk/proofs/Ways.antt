@@ -12,7 +12,7 @@ use Rattle.fields.specs.declared.Offset.{Offset}
 use Rattle.fields.specs.Faults.{flaw, nowhere, no_key, refusal_of, ◌next◌}
 use Rattle.fields.proofs.Firsts.{on, stop}
 use Rattle.base.specs.Block.{bins_data, base_fault}
-use Rattle.cells.specs.declared.Rule.TheVariants.{Header}
+use Rattle.cells.specs.Rule.{Header}
 use Rattle.cells.proofs.Parts.{data-small}
 use Rattle.records.specs.declared.Key.{Key}
 use Rattle.records.specs.declared.Leaf.{Leaf}

@@ -7,7 +7,7 @@ use Rattle.fields.specs.declared.Fault.TheVariants.{Level, OutputShort}
 use Rattle.fields.specs.declared.Offset.{Offset}
 use Rattle.fields.specs.Faults.{flaw, unless, nowhere, no_key, refusal_of, ◌next◌, Verdict}
 use Rattle.base.specs.Block.{bins_data, base_fault}
-use Rattle.cells.specs.declared.Rule.TheVariants.{Header}
+use Rattle.cells.specs.Rule.{Header}
 use Rattle.cells.specs.Named.{data_at}
 use Rattle.records.specs.declared.Child.{Child}
 use Rattle.records.specs.declared.Key.{Key}

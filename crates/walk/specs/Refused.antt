@@ -8,7 +8,7 @@ use Rattle.fields.specs.declared.Offset.{Offset}
 use Rattle.fields.specs.Faults.{flaw, nowhere, no_key}
 use Rattle.base.specs.Block.{bins_data}
 use Rattle.base.specs.Refused.{OfBase}
-use Rattle.cells.specs.declared.Rule.TheVariants.{Header}
+use Rattle.cells.specs.Rule.{Header}
 use Rattle.records.specs.declared.Child.{Child}
 use Rattle.records.specs.Lists.{children}
 use Rattle.values.specs.Refused.{a_key, Fit, Unfit, Among, Lists}

@@ -8,11 +8,10 @@ ghost use Rattle.std.proofs.lemmas.List.Edits.{sets};
 ghost use Rattle.fields.specs.Faults.{flaw, nowhere, refusal_of};
 ghost use Rattle.records.specs.Terms.{LeavesLie, leaves_named, ElementsLie, elements_of};
 ghost use Rattle.listing.specs.Members.{entry_of};
-ghost use Rattle.cells.specs.declared.Rule.TheVariants.{Header};
+ghost use Rattle.cells.specs.Rule.{Header};
 ghost use Rattle.records.specs.Keys.{key_fault, key_of};
 ghost use Rattle.walk.specs.Answers.{key_at, mark_after, next_of, next_in, next_below, entering, opening, step_at, step_in, answer_of, levels_after, step_answer, step_levels, root_fault, begun_where, begun_levels, begin_answer, begin_levels};
 
-use cells::Rule;
 use fields::{Fault, Flaw, Offset, Refusal};
 use listing::Entry;
 use records::{Key, Leaf, Leaves};
@@ -80,7 +79,7 @@ fn next_in(bins: &[u8], ls: Leaves, m: Mark) -> Result<Option<(Offset, Mark)>, F
         return Ok(None);
     }
     let o = records::leaf_offset(bins, ls, j);
-    let leaf = records::leaf_at(bins, b"", Rule::Header, o)?;
+    let leaf = records::leaf_at(bins, None, o)?;
     next_of(bins, leaf, m)
 }
 
@@ -92,7 +91,7 @@ fn next_below(bins: &[u8], k: Key, m: Mark) -> Result<Option<(Offset, Mark)>, Fl
     if k.subkeys == 0 {
         return Ok(None);
     }
-    let ls = records::head_at(bins, b"", Rule::Header, k.list)?;
+    let ls = records::head_at(bins, None, k.list)?;
     next_in(bins, ls, m)
 }
 

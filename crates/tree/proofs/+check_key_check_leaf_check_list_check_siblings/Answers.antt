@@ -1,7 +1,7 @@
 -- The proof of the cycle of calls {check_key, check_leaf, check_list, check_siblings}. Assumes nothing.
 use Rattle.std.proofs.Common.{sym, refl, ◌∙◌, arith}
 use Rattle.std.proofs.lemmas.Result.{err_from_is_err_and}
-use Rattle.cells.specs.declared.Rule.TheVariants.{Map}
+use Rattle.cells.specs.Rule.{Map}
 use Rattle.records.specs.Terms.{leaves_named}
 use Rattle.records.proofs.LawsPlaces.{leaf-tested, leaf-some, elements_lie, leaves-lie, named-length}
 use Rattle.records.proofs.LawsElements.{elements-are}

@@ -3,7 +3,7 @@
 use Rattle.std.proofs.Common.{◌≡◌, ◌+◌, ◌*◌, ◌≤◌, drop}
 use mathlib.Core.List.{Memᴰ}
 use Rattle.fields.specs.declared.Offset.{Offset}
-use Rattle.cells.specs.declared.Rule.TheVariants.{Map}
+use Rattle.cells.specs.Rule.{Map}
 use Rattle.records.specs.Lists.{leaf_fault, children_in}
 use Rattle.records.specs.Terms.{leaves_named, LeavesLie}
 use Rattle.tree.specs.Tree.{list_answer}

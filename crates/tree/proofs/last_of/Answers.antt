@@ -6,7 +6,7 @@ use Rattle.records.specs.Lists.{leaf_children}
 use Rattle.records.specs.declared.Leaf.{Leaf}
 use Rattle.records.specs.declared.Child.{Child}
 use Rattle.cells.specs.Named.{data_at}
-use Rattle.cells.specs.declared.Rule.TheVariants.{Map}
+use Rattle.cells.specs.Rule.{Map}
 use Rattle.std.proofs.Common.{ℕ, ◌-◌, get_or, ap, ◌∙◌, arith}
 use Rattle.tree.proofs.last_of.Goals as goal
 

@@ -1,4 +1,4 @@
-use Rattle.cells.specs.declared.Rule.TheVariants.{Map}
+use Rattle.cells.specs.Rule.{Map}
 use Rattle.namesakes.proofs.Laws.{passed-lie}
 use Rattle.std.proofs.Common.{sym, ◌∙◌}
 use Rattle.tree.proofs.values_and_lists_flaw.Goals as goal
