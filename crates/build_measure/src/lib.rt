@@ -283,8 +283,11 @@ pub fn pass_key(s: &[u8], at: usize, level: usize) -> Result<Tested, StreamFlaw>
             elder: w.elder,
         };
         let p = w.at;
-        let Some(o) = next_step(s, p, h).map_err(|flaw| StreamFlaw { flaw, at: p })? else {
-            return Ok(end_key(s, w));
+        // A match and no `map_err`, which cost each level 32 bytes of stack.
+        let o = match next_step(s, p, h) {
+            Ok(Some(o)) => o,
+            Ok(None) => return Ok(end_key(s, w)),
+            Err(flaw) => return Err(StreamFlaw { flaw, at: p }),
         };
         let end = build_frames::frame_end(s, p);
         let t = pass_key(s, end, level + 1)?;

@@ -273,13 +273,13 @@ impl Run {
         {
             return Ok(true);
         }
-        writeln!(to, "bad frame")?;
+        say::bad_frame(to)?;
         Ok(false)
     }
 
     // "First the line `hive`, then one per frame." Nothing says that the input ends, so the turns are counted down from a number that no run uses up.
     pub fn frames<R: Read, W: Write>(&mut self, from: &mut R, to: &mut W) -> io::Result<()> {
-        writeln!(to, "hive")?;
+        say::hive(to)?;
         self.held = None;
         for _ in 0..u64::MAX {
             if !self.turn(from, to)? {

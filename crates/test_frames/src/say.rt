@@ -3,6 +3,15 @@ use crate::Line;
 use std::io;
 use std::io::Write;
 
+// The two lines without a number, public names of this module, which stay for that.
+pub fn hive<W: Write>(to: &mut W) -> io::Result<()> {
+    writeln!(to, "hive")
+}
+
+pub fn bad_frame<W: Write>(to: &mut W) -> io::Result<()> {
+    writeln!(to, "bad frame")
+}
+
 pub fn line<W: Write>(to: &mut W, l: Line) -> io::Result<()> {
     match l {
         Line::NoHive => writeln!(to, "no hive"),
